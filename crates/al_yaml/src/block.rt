@@ -83,11 +83,10 @@ pub fn find_rest(
 ) -> Result<BlockTask, ReadError>
     requires rest { IsRestAt file.now.bytes.now from rest }
     ensures fault { IfErr result (IsStopInside (size file.now)) }
-    ensures is { (node : block.BlockReader) (depth : ℕ)
-        → FindsBlock file.now.bytes.now node from.anchor depth
-        (block.rest_node node (slot_of from.slot) depth from.start.column
-        (left_at file.now from.start.at)
-        (left_at file.now rest)) (state_of state.old) result (state_of state.new) }
+    ensures is { (node : block.BlockReader) (depth : ℕ) → FindsBlock
+        file.now.bytes.now node from.anchor depth (block.rest_node node (slot_of from.slot)
+        depth from.start.column (left_at file.now from.start.at) (left_at file.now rest))
+        (state_of state.old) result (state_of state.new) }
     ensures within { IfOk result (λ task. IsFoundFrom file.now.bytes.now rest task) }
 {
     if is_skipped(file.bytes, rest) {
@@ -114,9 +113,8 @@ fn find_below(
     requires within { from.slot.within ≤ at + 1 }
     requires empty { from.slot.empty ≤ size file.now }
     ensures fault { IfErr result (IsStopInside (size file.now)) }
-    ensures is { (node : block.BlockReader) (depth : ℕ)
-        → FindsBlock file.now.bytes.now node from.anchor depth
-        (block.node_below node (slot_of from.slot) depth (left_at file.now at))
+    ensures is { (node : block.BlockReader) (depth : ℕ) → FindsBlock file.now.bytes.now node
+        from.anchor depth (block.node_below node (slot_of from.slot) depth (left_at file.now at))
         (state_of state.old) result (state_of state.new) }
     ensures within { IfOk result (λ task. IsFoundFrom file.now.bytes.now at task) }
 {
@@ -208,101 +206,13 @@ fn entry_on(bytes: &[u8], column: usize, next: Next) -> Result<Option<usize>, Fa
     ensures column { IfOk result (λ found. IfSome found (λ at. column ≤ at)) }
     ensures here { IfOk result (λ found. IfSome found (IsNextAt next)) }
 {
-    let Next::Line { indent, at } = next else {
-        return Ok(None);
-    };
-    if indent == column {
-        return Ok(Some(at));
-    }
-    if indent < column {
-        return Ok(None);
-    }
-    Err(FaultAt {
-        code: YamlCode::WrongIndentation,
-        at,
-    })
-}
-
-/// Continues after an item of a sequence.
-fn put_block_item(
-    file: &File,
-    progress: &mut Progress,
-    begun: BlockStart,
-    in_mapping: bool,
-    items: Vec<Node>,
-    read: PartBefore,
-) -> Result<BlockTask, ReadError>
-    requires start { begun.start.at ≤ size file.now }
-    requires read { IsReadBefore file.now.bytes.now read }
-    requires room { HasRoom progress.old.stack }
-    ensures fault { IfErr result (IsStopInside (size file.now)) }
-    ensures is { (bound turns : ℕ) → size file.now < suc bound + read.part.next
-        → ResumesBlock file.now.bytes.now bound turns
-        (depth_in progress.old.stack + 1) begun.start.at begun.start.column
-        begun.anchor
-        (frames.item in_mapping (nodes_of (map view items.items)))
-        (part_of file.now.bytes.now read.part)
-        (state_of progress.old.state) result (state_of progress.new.state) }
-    ensures within { IfOk result (λ task. IsResumed file.now.bytes.now read.part.next task) }
-    ensures same { IfOk result (λ _. progress.new.stack ≡ progress.old.stack) }
-{
-    let PartBefore { part, next } = read;
-    let mut items = items;
-    items.push(part.node)?;
-    match entry_on(file.bytes, begun.start.column, next)? {
-        Some(at) if is_dash(file.bytes, at) => Ok(BlockTask::Inside(OpenBlock {
-            begun,
-            has: BlockOpen::Items(in_mapping, items),
-            at,
-        })),
-        Some(at) if !in_mapping => Err(no_entry(file, progress, at)),
-        _ => {
-            let part = sequence_part(items, begun.start.at, part.end, part.next);
-            let part = complete(file, &mut progress.state, begun.anchor, part)?;
-            Ok(BlockTask::Found(PartBefore { part, next }))
+    match next {
+        Next::Line { indent, at } if indent == column => Ok(Some(at)),
+        Next::Line { indent, at } if indent > column => {
+            Err(FaultAt::new(YamlCode::WrongIndentation, at))
         }
+        _ => Ok(None),
     }
-}
-
-/// Continues after a value of a mapping.
-fn put_block_entry(
-    file: &File,
-    progress: &mut Progress,
-    begun: BlockStart,
-    entries: Vec<Entry>,
-    key: ScalarRead,
-    read: PartBefore,
-) -> Result<BlockTask, ReadError>
-    requires start { begun.start.at ≤ size file.now }
-    requires read { IsReadBefore file.now.bytes.now read }
-    requires room { HasRoom progress.old.stack }
-    ensures fault { IfErr result (IsStopInside (size file.now)) }
-    ensures is { (bound turns : ℕ) → size file.now < suc bound + read.part.next
-        → ResumesBlock file.now.bytes.now bound turns
-        (depth_in progress.old.stack + 1) begun.start.at begun.start.column
-        begun.anchor
-        (frames.value (entries_of (map entry_view entries.items))
-        (read_of file.now.bytes.now key))
-        (part_of file.now.bytes.now read.part) (state_of progress.old.state) result
-        (state_of progress.new.state) }
-    ensures within { IfOk result (λ task. IsResumed file.now.bytes.now read.part.next task) }
-    ensures same { IfOk result (λ _. progress.new.stack ≡ progress.old.stack) }
-{
-    let PartBefore { part, next } = read;
-    let mut entries = entries;
-    let key = scalar_node(key.scalar, key.span);
-    entries.push(entry_of(key, part.node))?;
-    let Some(at) = entry_on(file.bytes, begun.start.column, next)? else {
-        let part = mapping_part(entries, begun.start.at, part.end, part.next);
-        let part = complete(file, &mut progress.state, begun.anchor, part)?;
-        return Ok(BlockTask::Found(PartBefore { part, next }));
-    };
-    let key = entry_key(file, progress, at)?;
-    Ok(BlockTask::Inside(OpenBlock {
-        begun,
-        has: BlockOpen::Entries(entries, key),
-        at,
-    }))
 }
 
 /// Continues after a node for which a collection waited.
@@ -317,22 +227,45 @@ fn resume_block(
     requires room { HasRoom progress.old.stack }
     ensures fault { IfErr result (IsStopInside (size file.now)) }
     ensures is { (bound turns : ℕ) → size file.now < suc bound + read.part.next
-        → ResumesBlock file.now.bytes.now bound turns
-        (depth_in progress.old.stack + 1) frame.begun.start.at
-        frame.begun.start.column frame.begun.anchor
-        (block_waiting_of file.now.bytes.now frame.waiting)
-        (part_of file.now.bytes.now read.part) (state_of progress.old.state) result
-        (state_of progress.new.state) }
+        → ResumesBlock file.now.bytes.now bound turns (depth_in progress.old.stack + 1)
+        frame.begun.start.at frame.begun.start.column frame.begun.anchor
+        (block_waiting_of file.now.bytes.now frame.waiting) (part_of file.now.bytes.now read.part)
+        (state_of progress.old.state) result (state_of progress.new.state) }
     ensures within { IfOk result (λ task. IsResumed file.now.bytes.now read.part.next task) }
     ensures same { IfOk result (λ _. progress.new.stack ≡ progress.old.stack) }
 {
     let BlockFrame { begun, waiting } = frame;
+    let PartBefore { part, next } = read;
     match waiting {
-        BlockWaiting::Item(in_mapping, items) => {
-            put_block_item(file, progress, begun, in_mapping, items, read)
+        BlockWaiting::Item(in_mapping, mut items) => {
+            items.push(part.node)?;
+            match entry_on(file.bytes, begun.start.column, next)? {
+                Some(at) if is_dash(file.bytes, at) => Ok(BlockTask::Inside(OpenBlock {
+                    begun,
+                    has: BlockOpen::Items(in_mapping, items),
+                    at,
+                })),
+                Some(at) if !in_mapping => Err(no_entry(file, progress, at)),
+                _ => {
+                    let part = sequence_part(items, begun.start.at, part.end, part.next);
+                    let part = complete(file, &mut progress.state, begun.anchor, part)?;
+                    Ok(BlockTask::Found(PartBefore { part, next }))
+                }
+            }
         }
-        BlockWaiting::Value(entries, key) => {
-            put_block_entry(file, progress, begun, entries, key, read)
+        BlockWaiting::Value(mut entries, key) => {
+            entries.push(entry_of(scalar_node(key.scalar, key.span), part.node))?;
+            let Some(at) = entry_on(file.bytes, begun.start.column, next)? else {
+                let part = mapping_part(entries, begun.start.at, part.end, part.next);
+                let part = complete(file, &mut progress.state, begun.anchor, part)?;
+                return Ok(BlockTask::Found(PartBefore { part, next }));
+            };
+            let key = entry_key(file, progress, at)?;
+            Ok(BlockTask::Inside(OpenBlock {
+                begun,
+                has: BlockOpen::Entries(entries, key),
+                at,
+            }))
         }
     }
 }
@@ -350,10 +283,9 @@ pub fn read_block_node(
     requires outside { progress.old.stack.flows ≡ [] }
     requires none { progress.old.stack.blocks ≡ [] }
     ensures fault { IfErr result (IsStopInside (size file.now)) }
-    ensures is { (bound : ℕ) → size file.now < bound + start.at
-        → IsRead (part_of file.now.bytes.now)
-        (block.block_node bound (slot_of slot) 1 start.column (left_at file.now start.at))
-        (state_of progress.old.state) result (state_of progress.new.state) }
+    ensures is { (bound : ℕ) → size file.now < bound + start.at → IsRead
+        (part_of file.now.bytes.now) (block.block_node bound (slot_of slot) 1 start.column (left_at
+        file.now start.at)) (state_of progress.old.state) result (state_of progress.new.state) }
     ensures within { IfOk result (λ part. IsPartAfter file.now.bytes.now start.at part) }
 {
     let mut task = BlockTask::Node(NodePlace {
@@ -363,9 +295,7 @@ pub fn read_block_node(
     });
     'nodes: loop {
         match task {
-            BlockTask::Node(place) => {
-                task = read_node(file, progress, place)?;
-            }
+            BlockTask::Node(place) => task = read_node(file, progress, place)?,
             BlockTask::Inside(inside) => {
                 let begun = inside.begun;
                 let (waiting, inner) = enter(file, &mut progress.state, inside)?;

@@ -40,15 +40,6 @@ fn is_no_key(bytes: &[u8], spot: Spot, at: usize) -> bool
     is_block_start(bytes, at) || is_after_key(spot)
 }
 
-/// Whether a colon after a flow collection would make it a key.
-fn is_refused_key(bytes: &[u8], spot: Spot, next: usize) -> bool
-    requires { next ≤ length bytes.now }
-    ensures { result ≡
-        (not (block.is_after_key (spot_of spot)) && keys.has_colon (lines_at bytes.now next)) }
-{
-    !is_after_key(spot) && has_colon(bytes, next)
-}
-
 /// Whether an anchor or alias is on a key, as none on the line of its own key does.
 fn is_on_block_key(file: &File, spot: Spot, at: usize) -> Result<bool, AllocError>
     requires inside { at ≤ size file.now }
@@ -73,16 +64,15 @@ fn read_line_flow(
     requires bracket { content.is_flow_start (text_at file.now.bytes.now at) ≡ true }
     requires outside { progress.old.stack.flows ≡ [] }
     ensures fault { IfErr result (IsStopInside (size file.now)) }
-    ensures is { (bound : ℕ) → size file.now < bound + at
-        → IsRead (part_of file.now.bytes.now) (block.flow_at (flow.flow_collection bound)
-        (spot_of spot) (depth_in progress.old.stack) (left_at file.now at))
-        (state_of progress.old.state) result (state_of progress.new.state) }
+    ensures is { (bound : ℕ) → size file.now < bound + at → IsRead (part_of file.now.bytes.now)
+        (block.flow_at (flow.flow_collection bound) (spot_of spot) (depth_in progress.old.stack)
+        (left_at file.now at)) (state_of progress.old.state) result (state_of progress.new.state) }
     ensures within { IfOk result (λ part. IsPartAfter file.now.bytes.now at part) }
     ensures same { IfOk result (λ _. progress.new.stack ≡ progress.old.stack) }
 {
     let depth = progress.stack.depth();
     let part = read_flow_collection(file, progress, depth, at)?;
-    if is_refused_key(file.bytes, spot, part.next) {
+    if !is_after_key(spot) && has_colon(file.bytes, part.next) {
         return Err(ReadError::at(YamlCode::WrongKey, at));
     }
     let next = line_after(file.bytes, part.next)?;
@@ -98,10 +88,9 @@ pub fn read_node(
     requires outside { progress.old.stack.flows ≡ [] }
     requires node { IsNodeAt file.now.bytes.now node.slot node.start }
     ensures fault { IfErr result (IsStopInside (size file.now)) }
-    ensures is { (bound : ℕ) → size file.now < suc bound + node.start.at
-        → Begins file.now.bytes.now bound (depth_in progress.old.stack)
-        (completing file.now.bytes.now node.anchor
-        (node_reader (suc bound) node.anchor (slot_of node.slot)
+    ensures is { (bound : ℕ) → size file.now < suc bound
+        + node.start.at → Begins file.now.bytes.now bound (depth_in progress.old.stack) (completing
+        file.now.bytes.now node.anchor (node_reader (suc bound) node.anchor (slot_of node.slot)
         (depth_in progress.old.stack) node.start.column (left_at file.now node.start.at)))
         (state_of progress.old.state) result (state_of progress.new.state) }
     ensures within { IfOk result
@@ -146,10 +135,9 @@ fn read_property(
     requires property { content.is_property (text_at file.now.bytes.now node.start.at) ≡ true }
     ensures fault { IfErr result (IsStopInside (size file.now)) }
     ensures is { (bound : ℕ) → Begins file.now.bytes.now bound (depth_in progress.old.stack)
-        (completing file.now.bytes.now node.anchor
-        (node_reader (suc bound) node.anchor (slot_of node.slot)
-        (depth_in progress.old.stack) node.start.column (left_at file.now node.start.at)))
-        (state_of progress.old.state) result (state_of progress.new.state) }
+        (completing file.now.bytes.now node.anchor (node_reader (suc bound) node.anchor
+        (slot_of node.slot) (depth_in progress.old.stack) node.start.column (left_at file.now
+        node.start.at))) (state_of progress.old.state) result (state_of progress.new.state) }
     ensures within { IfOk result
         (λ task. IsBegun file.now.bytes.now node.start.at (depth_in progress.old.stack) task) }
     ensures same { IfOk result (λ _. progress.new.stack ≡ progress.old.stack) }
@@ -186,11 +174,9 @@ fn begin_sequence(
     requires node { IsNodeAt file.now.bytes.now node.slot node.start }
     requires outside { progress.old.stack.flows ≡ [] }
     ensures fault { IfErr result (IsStopInside (size file.now)) }
-    ensures is { (bound : ℕ)
-        → Begins file.now.bytes.now bound (depth_in progress.old.stack)
-        (completing file.now.bytes.now node.anchor
-        (block.block_sequence (block.block_node bound) (flow.flow_collection (suc bound))
-        (suc bound) (slot_of node.slot)
+    ensures is { (bound : ℕ) → Begins file.now.bytes.now bound (depth_in progress.old.stack)
+        (completing file.now.bytes.now node.anchor (block.block_sequence
+        (block.block_node bound) (flow.flow_collection (suc bound)) (suc bound) (slot_of node.slot)
         (depth_in progress.old.stack) node.start.column (left_at file.now node.start.at)))
         (state_of progress.old.state) result (state_of progress.new.state) }
     ensures within { IfOk result
@@ -227,13 +213,11 @@ fn begin_mapping(
     requires node { IsNodeAt file.now.bytes.now node.slot node.start }
     requires outside { progress.old.stack.flows ≡ [] }
     ensures fault { IfErr result (IsStopInside (size file.now)) }
-    ensures is { (bound : ℕ)
-        → Begins file.now.bytes.now bound (depth_in progress.old.stack)
-        (completing file.now.bytes.now node.anchor
-        (block.block_mapping (block.block_node bound) (flow.flow_collection (suc bound))
-        (suc bound) (spot_of node.slot.spot)
-        (depth_in progress.old.stack) node.start.column (left_at file.now node.start.at)
-        (key_seen file.now.bytes.now key)))
+    ensures is { (bound : ℕ) → Begins
+        file.now.bytes.now bound (depth_in progress.old.stack) (completing file.now.bytes.now
+        node.anchor (block.block_mapping (block.block_node bound) (flow.flow_collection (suc bound))
+        (suc bound) (spot_of node.slot.spot) (depth_in progress.old.stack)
+        node.start.column (left_at file.now node.start.at) (key_seen file.now.bytes.now key)))
         (state_of progress.old.state) result (state_of progress.new.state) }
     ensures within { IfOk result
         (λ task. IsBegun file.now.bytes.now node.start.at (depth_in progress.old.stack) task) }

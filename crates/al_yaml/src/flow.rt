@@ -5,7 +5,7 @@ ghost use Rattle.al_yaml_tree.specs.Content as content;
 ghost use Rattle.al_yaml_parts.specs.Files.{left_at, size};
 ghost use Rattle.al_yaml_tree.specs.Flow as flow;
 ghost use Rattle.al_yaml.specs.Private.FlowAnswers.{Answers, AfterNode, Inside, NodeAnswer};
-ghost use Rattle.al_yaml.specs.Private.FlowFrames.{AreOpen, IsFirst, IsFurther, IsPut, Opens};
+ghost use Rattle.al_yaml.specs.Private.FlowFrames.{AreOpen, IsFurther, IsPut, Opens};
 ghost use Rattle.al_yaml.specs.Private.FlowFrames.{after_at, closed_of, frame_of, open_of};
 ghost use Rattle.al_yaml_tree.specs.Limits.{broken_limit};
 ghost use Rattle.al_yaml_tree.specs.Reading.{start_of};
@@ -33,19 +33,6 @@ pub struct OpenFlow {
     pub next: After,
 }
 
-/// What comes first in a collection: its closing bracket, or an item or entry.
-fn first_inside(bytes: &[u8], close: u8, at: usize) -> After
-    requires inside { at ≤ length bytes.now }
-    ensures is { IsFirst bytes.now close at result }
-    ensures from { at ≤ after_at result }
-    ensures inside { after_at result ≤ length bytes.now }
-{
-    if begins(bytes, at, close) {
-        return After::Closes(at + 1);
-    }
-    After::GoesOn(at)
-}
-
 /// The collection whose opening bracket is at an offset, still empty, and what comes first in it.
 #[inline(always)]
 fn open_at(file: &File, at: usize) -> OpenFlow
@@ -58,12 +45,12 @@ fn open_at(file: &File, at: usize) -> OpenFlow
     ensures from { at < after_at result.next }
     ensures end { after_at result.next ≤ size file.now }
 {
-    let inside = gap_end(file.bytes, at + 1);
+    let next = After::GoesOn(gap_end(file.bytes, at + 1));
     if begins(file.bytes, at, b'[') {
         return OpenFlow {
             opening: at,
             has: Open::Items(Vec::new(file.alloc)),
-            next: first_inside(file.bytes, b']', inside),
+            next,
         };
     }
     OpenFlow {
@@ -72,7 +59,7 @@ fn open_at(file: &File, at: usize) -> OpenFlow
             entries: Vec::new(file.alloc),
             waits: None,
         }),
-        next: first_inside(file.bytes, b'}', inside),
+        next,
     }
 }
 
@@ -104,10 +91,9 @@ fn resume_outer(
     requires opening { frame.opening < size file.now }
     requires at { frame.inner.at < size file.now }
     ensures fault { IfErr result (IsStopInside (size file.now)) }
-    ensures is { (depth : ℕ) (whole : NodeAnswer) (outer : List frame_code.FlowFrame)
-        → AfterNode file.now.bytes.now depth whole (map (frame_of file.now.bytes.now) (frame ∷ outer))
-        (state_of state.old) part
-        → Answers file.now.bytes.now depth whole outer result (state_of state.new) }
+    ensures is { (depth : ℕ) (whole : NodeAnswer) (outer : List frame_code.FlowFrame) → AfterNode
+        file.now.bytes.now depth whole (map (frame_of file.now.bytes.now) (frame ∷ outer)) (state_of
+        state.old) part → Answers file.now.bytes.now depth whole outer result (state_of state.new) }
     ensures opening { IfOk result (λ collection. collection.opening ≡ frame.opening) }
     ensures within { IfOk result (λ collection. IsPut (size file.now) part.next collection.next) }
 {
@@ -133,13 +119,11 @@ fn read_on(
     requires depth { depth ≤ 65 }
     requires room { length progress.old.stack.flows + length progress.old.stack.blocks < depth }
     ensures fault { IfErr result (IsStopInside (size file.now)) }
-    ensures is { (first : ℕ) (whole : NodeAnswer)
-        → depth ≡ first + length progress.old.stack.flows + 1
-        → Inside file.now.bytes.now first whole
-        (map (frame_of file.now.bytes.now) progress.old.stack.flows)
-        (state_of progress.old.state) collection.opening (open_of collection.has) at
-        → Answers file.now.bytes.now first whole progress.new.stack.flows result
-        (state_of progress.new.state) }
+    ensures is { (first : ℕ) (whole : NodeAnswer) → depth
+        ≡ first + length progress.old.stack.flows + 1 → Inside file.now.bytes.now first whole
+        (map (frame_of file.now.bytes.now) progress.old.stack.flows) (state_of progress.old.state)
+        collection.opening (open_of collection.has) at → Answers file.now.bytes.now
+        first whole progress.new.stack.flows result (state_of progress.new.state) }
     ensures within { IfOk result
         (IsFurther (size file.now) at depth progress.old.stack progress.new.stack) }
 {

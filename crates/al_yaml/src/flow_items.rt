@@ -64,10 +64,7 @@ fn after_item(bytes: &[u8], opening: usize, close: u8, at: usize) -> Result<Afte
     ensures after { IfOk result (λ after. IsAfter at (length bytes.now) after) }
 {
     if is_text_end(bytes, at) {
-        return Err(FaultAt {
-            code: YamlCode::UnclosedFlow,
-            at: opening,
-        });
+        return Err(FaultAt::new(YamlCode::UnclosedFlow, opening));
     }
     if begins(bytes, at, b',') {
         return Ok(After::GoesOn(gap_end(bytes, at + 1)));
@@ -75,10 +72,7 @@ fn after_item(bytes: &[u8], opening: usize, close: u8, at: usize) -> Result<Afte
     if begins(bytes, at, close) {
         return Ok(After::Closes(at + 1));
     }
-    Err(FaultAt {
-        code: YamlCode::UnexpectedCharacter,
-        at,
-    })
+    Err(FaultAt::new(YamlCode::UnexpectedCharacter, at))
 }
 
 /// Adds an item to its sequence, and reads what follows it.
@@ -92,10 +86,9 @@ fn put_item(
     requires inside { part.next ≤ size file.now }
     requires opening { opening ≤ size file.now }
     ensures fault { IfErr result (IsStopInside (size file.now)) }
-    ensures is { (depth : ℕ) (s : reads.State) →
-        Resumes file.now.bytes.now depth opening (frames.item (nodes_of (map view items.old.items)))
-        (part_of file.now.bytes.now part) s
-        (frames.items (nodes_of (map view items.new.items))) result }
+    ensures is { (depth : ℕ) (s : reads.State) → Resumes file.now.bytes.now depth opening
+        (frames.item (nodes_of (map view items.old.items))) (part_of file.now.bytes.now part)
+        s (frames.items (nodes_of (map view items.new.items))) result }
     ensures within { IfOk result (IsPut (size file.now) part.next) }
 {
     items.push(part.node)?;
@@ -114,49 +107,15 @@ fn put_entry(
     requires inside { part.next ≤ size file.now }
     requires opening { opening ≤ size file.now }
     ensures fault { IfErr result (IsStopInside (size file.now)) }
-    ensures is { (depth : ℕ) (s : reads.State) → Resumes file.now.bytes.now depth opening
-        (frames.value (entries_of (map entry_view entries.old.items))
-        (read_of file.now.bytes.now key))
-        (part_of file.now.bytes.now part) s
-        (frames.entries (entries_of (map entry_view entries.new.items))) result }
+    ensures is { (depth : ℕ) (s : reads.State) → Resumes file.now.bytes.now
+        depth opening (frames.value (entries_of (map entry_view entries.old.items))
+        (read_of file.now.bytes.now key)) (part_of file.now.bytes.now part)
+        s (frames.entries (entries_of (map entry_view entries.new.items))) result }
     ensures within { IfOk result (IsPut (size file.now) part.next) }
 {
     let key = scalar_node(key.scalar, key.span);
     entries.push(entry_of(key, part.node))?;
     Ok(after_item(file.bytes, opening, b'}', gap_end(file.bytes, part.next))?)
-}
-
-/// Reads an open sequence, not at its closing bracket, up to what follows its next item or to an opening bracket in it.
-fn read_item(
-    file: &File,
-    state: &mut State,
-    items: &mut Vec<Node>,
-    place: FlowPlace,
-) -> Result<FlowStep, ReadError>
-    requires place { IsPlaceInside (size file.now) place }
-    requires solid { false ≡ line.is_empty (text_at file.now.bytes.now place.at) }
-    requires other { false ≡ line.begins 93 (text_at file.now.bytes.now place.at) }
-    ensures fault { IfErr result (IsStopInside (size file.now)) }
-    ensures is { Steps file.now.bytes.now place.depth place.opening
-        (λ c t. open_rest c t place.depth place.opening
-        (frames.items (nodes_of (map view items.old.items))) (left_at file.now place.at))
-        (state_of state.old) (open_code.Items items.new)
-        result (state_of state.new) }
-    ensures within { IfOk result (IsStep file.now.bytes.now place.at) }
-{
-    let slot = FlowSlot {
-        opening: place.opening,
-        empty: None,
-    };
-    match read_flow_node(file, state, slot, place.at, place.depth)? {
-        FoundNode::Node(part) => Ok(FlowStep::AfterNode(put_item(
-            file,
-            place.opening,
-            items,
-            part,
-        )?)),
-        FoundNode::Opens(bracket) => Ok(FlowStep::Opens(bracket)),
-    }
 }
 
 /// Reads an open mapping, not at its closing bracket, up to what follows its next entry or to an opening bracket in it.
@@ -171,11 +130,10 @@ fn read_entry(
     requires solid { false ≡ line.is_empty (text_at file.now.bytes.now place.at) }
     requires other { false ≡ line.begins 125 (text_at file.now.bytes.now place.at) }
     ensures fault { IfErr result (IsStopInside (size file.now)) }
-    ensures is { Steps file.now.bytes.now place.depth place.opening
-        (λ c t. open_rest c t place.depth place.opening
-        (frames.entries (entries_of (map entry_view mapping.old.entries.items)))
-        (left_at file.now place.at)) (state_of state.old)
-        (open_code.Entries mapping.new) result (state_of state.new) }
+    ensures is { Steps file.now.bytes.now
+        place.depth place.opening (λ c t. open_rest c t place.depth place.opening (frames.entries
+        (entries_of (map entry_view mapping.old.entries.items))) (left_at file.now place.at))
+        (state_of state.old) (open_code.Entries mapping.new) result (state_of state.new) }
     ensures within { IfOk result (IsStep file.now.bytes.now place.at) }
 {
     let key = match read_flow_key(file, state, place.at)? {
@@ -189,13 +147,10 @@ fn read_entry(
         }
     };
     match read_flow_value(file, state, place.opening, &key, place.depth)? {
-        FoundNode::Node(part) => Ok(FlowStep::AfterNode(put_entry(
-            file,
-            place.opening,
-            &mut mapping.entries,
-            key.read,
-            part,
-        )?)),
+        FoundNode::Node(part) => {
+            let after = put_entry(file, place.opening, &mut mapping.entries, key.read, part)?;
+            Ok(FlowStep::AfterNode(after))
+        }
         FoundNode::Opens(bracket) => {
             mapping.waits = Some(key.read);
             Ok(FlowStep::Opens(bracket))
@@ -223,10 +178,9 @@ pub fn read_inside(
 ) -> Result<FlowStep, ReadError>
     requires place { IsPlaceInside (size file.now) place }
     ensures fault { IfErr result (IsStopInside (size file.now)) }
-    ensures is { Steps file.now.bytes.now place.depth place.opening
-        (λ c t. open_rest c t place.depth place.opening (open_of has.old)
-        (left_at file.now place.at))
-        (state_of state.old) has.new result (state_of state.new) }
+    ensures is { Steps file.now.bytes.now
+        place.depth place.opening (λ c t. open_rest c t place.depth place.opening (open_of has.old)
+        (left_at file.now place.at)) (state_of state.old) has.new result (state_of state.new) }
     ensures within { IfOk result (IsStep file.now.bytes.now place.at) }
 {
     if is_text_end(file.bytes, place.at) {
@@ -236,7 +190,18 @@ pub fn read_inside(
         return Ok(FlowStep::AfterNode(After::Closes(place.at + 1)));
     }
     match has {
-        Open::Items(items) => read_item(file, state, items, place),
+        Open::Items(items) => {
+            let slot = FlowSlot {
+                opening: place.opening,
+                empty: None,
+            };
+            match read_flow_node(file, state, slot, place.at, place.depth)? {
+                FoundNode::Node(part) => {
+                    Ok(FlowStep::AfterNode(put_item(file, place.opening, items, part)?))
+                }
+                FoundNode::Opens(bracket) => Ok(FlowStep::Opens(bracket)),
+            }
+        }
         Open::Entries(mapping) => read_entry(file, state, mapping, place),
     }
 }

@@ -1,8 +1,7 @@
 -- How contracts speak of open flow collections.
-use Rattle.std.specs.Prelude.{◌≡◌, ℕ, suc, ◌+◌, ◌<◌, ◌≤◌, List, [], ◌∷◌, length, map, true, Option, Some, None, Result, Ok, Err}
+use Rattle.std.specs.Prelude.{◌≡◌, ℕ, suc, ◌+◌, ◌<◌, ◌≤◌, List, [], ◌∷◌, length, map, Option, Some, None, Result, Ok, Err}
 use Rattle.al_scalar.specs.ReadScalar.{read_of}
-use Rattle.al_scalar.specs.Line.{begins}
-use Rattle.al_scalar.specs.Places.{lines_at, text_at}
+use Rattle.al_scalar.specs.Places.{lines_at}
 use Rattle.al_base.specs.Spans.{span}
 use Rattle.al_scalar.specs.declared.scalars.ScalarRead.{ScalarRead}
 use Rattle.al_yaml_tree.specs.Node as tree
@@ -77,14 +76,7 @@ abbrev pub Opens : List ℕ → ℕ → ℕ → State → frames.Open → After 
 Opens bytes depth at s has (after.GoesOn inside) t =
     (bound : ℕ) → run s (flow.flow_collection (suc bound) depth (lines_at bytes at))
     ≡ run t (open_rest (flow.flow_collection bound) (suc bound) (depth + 1) at has (lines_at bytes inside))
-Opens bytes depth at s has (after.Closes end) t =
-    (bound : ℕ) → run s (flow.flow_collection (suc bound) depth (lines_at bytes at))
-    ≡ Ok (part (closed_of at has end) end (lines_at bytes end), t)
-
--- what comes first in it
-abbrev pub IsFirst : List ℕ → ℕ → ℕ → After → Type 0
-IsFirst bytes close at (after.GoesOn inside) = inside ≡ at
-IsFirst bytes close at (after.Closes end) = (end ≡ at + 1) × (true ≡ begins close (text_at bytes at))
+Opens bytes depth at s has (after.Closes end) t = ⊥
 
 abbrev pub Steps : List ℕ → ℕ → ℕ → (CollectionReader → ℕ → Reading (Part tree.Node)) → State → Open
     → Result FlowStep ReadError → State → Type 0
