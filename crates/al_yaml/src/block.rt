@@ -1,7 +1,5 @@
 //! Reading nodes in block context from front to back: the loop over the open block collections, and its steps.
 
-ghost use Rattle.al_scalar.specs.ReadScalar.{read_of};
-ghost use Rattle.al_yaml.specs.Private.BlockFrames as frames;
 ghost use Rattle.al_yaml.specs.Private.BlockFrames.{Enters, FindsBlock, IsEntered, IsFoundFrom, IsNextAt, IsNodeAt};
 ghost use Rattle.al_yaml.specs.Private.BlockFrames.{IsNextInside, IsOpenAt, IsReadBefore, IsRestAt, IsResumed, ResumesBlock};
 ghost use Rattle.al_yaml.specs.Private.BlockFrames.{block_open_of, block_rest, block_waiting_of};
@@ -11,14 +9,13 @@ ghost use Rattle.al_yaml_parts.specs.Files.{left_at, size};
 ghost use Rattle.al_yaml_parts.specs.Places.{Shows, next_of, option_lines};
 ghost use Rattle.al_yaml_parts.specs.Reads.{IsPartAfter, IsRead, IsStopInside, part_of, state_of};
 ghost use Rattle.al_yaml_parts.specs.Stacks.{HasRoom, depth_in};
-ghost use Rattle.al_yaml_tree.specs.View.{entries_of, entry_view, nodes_of, view};
-ghost use Rattle.std.specs.Prelude.{IfErr, IfOk, IfSome, Ok, [], length, map, suc, ℕ, ◌+◌, ◌<◌, ◌≡◌, ◌≤◌};
+ghost use Rattle.std.specs.Prelude.{IfErr, IfOk, IfSome, Ok, [], length, suc, ℕ, ◌+◌, ◌<◌, ◌≡◌, ◌≤◌};
 
 use crate::block_nodes::read_node;
 use crate::entries::{entry_key, no_entry};
 use al_base::YamlCode;
+use al_scalar::FaultAt;
 use al_scalar::lines::blanks_end;
-use al_scalar::{FaultAt, ScalarRead};
 use al_yaml_parts::content::{Next, is_dash, is_skipped, next_content};
 use al_yaml_parts::faults::ReadError;
 use al_yaml_parts::file::{File, Progress};
@@ -150,10 +147,10 @@ fn enter(
     requires has { IsOpenAt file.now.bytes.now inside.begun.start.column inside.at inside.has }
     ensures fault { IfErr result (IsStopInside (size file.now)) }
     ensures within { IfOk result (λ r. IsEntered file.now.bytes.now inside.at r) }
-    ensures is { (bound turns depth : ℕ) → Enters file.now.bytes.now bound turns depth inside.begun.start.at inside.begun.start.column
-        (block_rest (suc turns) bound depth inside.begun.start.at inside.begun.start.column
-        (block_open_of file.now.bytes.now inside.has)
-        (left_at file.now inside.at)) (state_of state.old) result (state_of state.new) }
+    ensures is { (bound turns depth : ℕ) → Enters file.now.bytes.now bound
+        turns depth inside.begun.start.at inside.begun.start.column (block_rest (suc turns) bound
+        depth inside.begun.start.at inside.begun.start.column (block_open_of file.now.bytes.now
+        inside.has) (left_at file.now inside.at)) (state_of state.old) result (state_of state.new) }
 {
     let OpenBlock { begun, has, at } = inside;
     let column = begun.start.column;

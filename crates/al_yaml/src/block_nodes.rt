@@ -1,6 +1,6 @@
 //! Nodes in block context that are read in one step, and the beginnings of collections.
 
-ghost use Rattle.al_scalar.specs.Places.{lines_at, text_at};
+ghost use Rattle.al_scalar.specs.Places.{text_at};
 ghost use Rattle.al_yaml.specs.Private.BlockFrames.{Begins, IsBegun, IsNodeAt, node_reader};
 ghost use Rattle.al_yaml_parts.specs.Answers.{completing};
 ghost use Rattle.al_yaml_parts.specs.BlockReads.{IsKeyAfter, key_seen, slot_of, spot_of};
@@ -111,17 +111,14 @@ pub fn read_node(
         let part = complete(file, &mut progress.state, node.anchor, part)?;
         return Ok(BlockTask::Read(part));
     }
-    if is_no_key(file.bytes, node.slot.spot, node.start.at) {
-        let part = read_line_scalar(file, &mut progress.state, node.slot.within, node.start.at)?;
-        let part = complete(file, &mut progress.state, node.anchor, part)?;
-        return Ok(BlockTask::Read(part));
+    if !is_no_key(file.bytes, node.slot.spot, node.start.at) {
+        if let Some(key) = key_at(file, node.start.at)? {
+            return begin_mapping(file, progress, node, key);
+        }
     }
-    let Some(key) = key_at(file, node.start.at)? else {
-        let part = read_line_scalar(file, &mut progress.state, node.slot.within, node.start.at)?;
-        let part = complete(file, &mut progress.state, node.anchor, part)?;
-        return Ok(BlockTask::Read(part));
-    };
-    begin_mapping(file, progress, node, key)
+    let part = read_line_scalar(file, &mut progress.state, node.slot.within, node.start.at)?;
+    let part = complete(file, &mut progress.state, node.anchor, part)?;
+    Ok(BlockTask::Read(part))
 }
 
 /// Reads an alias, or finds the node after an anchor. An anchor can't be followed by another anchor or an alias.

@@ -7,7 +7,6 @@ ghost use Rattle.al_yaml_parts.specs.Files.{left_at, size};
 ghost use Rattle.al_yaml.specs.Private.FlowFrames.{IsAfter, IsPlaceInside, IsPut, IsStep, Resumes};
 ghost use Rattle.al_yaml.specs.Private.FlowFrames.{Steps, after_of, closer_of, open_of, waiting_of};
 ghost use Rattle.al_yaml.specs.Private.Frames as frames;
-ghost use Rattle.al_yaml.specs.Private.Frames.{open_rest};
 ghost use Rattle.al_yaml_parts.specs.Places.{Shows};
 ghost use Rattle.al_yaml_parts.specs.Reads as reads;
 ghost use Rattle.al_yaml_parts.specs.Reads.{IsStopInside, part_of, state_of};
@@ -130,8 +129,8 @@ fn read_entry(
     requires solid { false ≡ line.is_empty (text_at file.now.bytes.now place.at) }
     requires other { false ≡ line.begins 125 (text_at file.now.bytes.now place.at) }
     ensures fault { IfErr result (IsStopInside (size file.now)) }
-    ensures is { Steps file.now.bytes.now
-        place.depth place.opening (λ c t. open_rest c t place.depth place.opening (frames.entries
+    ensures is { Steps file.now.bytes.now place.depth
+        place.opening (λ c t. frames.open_rest c t place.depth place.opening (frames.entries
         (entries_of (map entry_view mapping.old.entries.items))) (left_at file.now place.at))
         (state_of state.old) (open_code.Entries mapping.new) result (state_of state.new) }
     ensures within { IfOk result (IsStep file.now.bytes.now place.at) }
@@ -178,8 +177,8 @@ pub fn read_inside(
 ) -> Result<FlowStep, ReadError>
     requires place { IsPlaceInside (size file.now) place }
     ensures fault { IfErr result (IsStopInside (size file.now)) }
-    ensures is { Steps file.now.bytes.now
-        place.depth place.opening (λ c t. open_rest c t place.depth place.opening (open_of has.old)
+    ensures is { Steps file.now.bytes.now place.depth
+        place.opening (λ c t. frames.open_rest c t place.depth place.opening (open_of has.old)
         (left_at file.now place.at)) (state_of state.old) has.new result (state_of state.new) }
     ensures within { IfOk result (IsStep file.now.bytes.now place.at) }
 {

@@ -5,7 +5,8 @@ ghost use Rattle.al_scalar.specs.LineEnds.{cells_between, with_cells_before};
 ghost use Rattle.al_yaml_tree.specs.Content as content;
 ghost use Rattle.al_yaml_parts.specs.Files.{left_at, size};
 ghost use Rattle.al_yaml_tree.specs.Reading as reading;
-ghost use Rattle.al_yaml_parts.specs.Reads.{IsRead, IsStopInside, anchor_at, anchors_view, is_later, state_of};
+ghost use Rattle.al_yaml_tree.specs.Reading.{with_anchor, no_anchors};
+ghost use Rattle.al_yaml_parts.specs.Reads.{IsRead, IsStopInside, anchor_at, anchors_view, state_of};
 ghost use Rattle.al_yaml_tree.specs.View.{view};
 ghost use Rattle.std.specs.Prelude.{IfErr, IfOk, length, true, ◌+◌, ◌<◌, ◌≡◌, ◌≤◌};
 
@@ -95,7 +96,7 @@ pub fn property_end(bytes: &[u8], at: usize) -> usize
 impl Anchors {
     /// No anchors. Doesn't allocate.
     pub fn new(alloc: Global) -> Anchors
-        ensures { anchors_view result ≡ reading.no_anchors }
+        ensures { anchors_view result ≡ no_anchors }
     {
         Anchors {
             latest: BTreeMap::new(alloc),
@@ -109,23 +110,20 @@ impl Anchors {
     pub fn complete(&mut self, file: &File, at: usize, node: Node) -> Result<Node, AllocError>
         ensures node { IfOk result (λ n. view n ≡ view node) }
         ensures known { IfOk result (λ _. anchors_view self.new
-            ≡ reading.with_anchor (anchor_at file.now.bytes.now at (view node)) (anchors_view self.old)) }
+            ≡ with_anchor (anchor_at file.now.bytes.now at (view node)) (anchors_view self.old)) }
     {
         let node = sharable(file.alloc, node)?;
         let result = shared_node(&node)?;
         let name = Vec::from_slice(file.alloc, name_at(file.bytes, at))?;
-        if self.has_later(name.as_slice(), at) {
+        if self
+            .latest
+            .get(name.as_slice())
+            .is_some_and(|found| at < found.at)
+        {
             return Ok(result);
         }
         self.latest.insert(name, AnchoredNode { at, node })?;
         Ok(result)
-    }
-
-    /// Whether the anchor with a name is after an offset.
-    fn has_later(&self, name: &[u8], at: usize) -> bool
-        ensures { result ≡ is_later at (anchors_view self.now name.now) }
-    {
-        self.latest.get(name).is_some_and(|found| at < found.at)
     }
 }
 

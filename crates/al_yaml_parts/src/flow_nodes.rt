@@ -142,8 +142,7 @@ fn read_flow_content(file: &File, state: &mut State, at: usize) -> Result<FoundN
     }
     state.start(at, 1, 0)?;
     let read = scalar_at(file.alloc, file.bytes, at, ScalarContext::Flow)?;
-    let next = read.next;
-    Ok(FoundNode::Node(scalar_part(read, next)))
+    Ok(FoundNode::Node(scalar_part(read.next, read)))
 }
 
 /// Reads an alias.

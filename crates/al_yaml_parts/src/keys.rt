@@ -3,8 +3,7 @@
 ghost use Rattle.al_scalar.specs.ReadScalar.{read_of};
 ghost use Rattle.al_scalar.specs.Line as line;
 ghost use Rattle.al_scalar.specs.Places.{lines_at, text_at};
-ghost use Rattle.al_yaml_parts.specs.BlockReads as block_reads;
-ghost use Rattle.al_yaml_parts.specs.BlockReads.{IsOptionKey, option_key};
+ghost use Rattle.al_yaml_parts.specs.BlockReads.{IsOptionKey, after_colon_in_block, option_key};
 ghost use Rattle.al_yaml_tree.specs.Content as content;
 ghost use Rattle.al_yaml_parts.specs.Files.{left_at, size};
 ghost use Rattle.al_yaml_tree.specs.Flow as flow;
@@ -51,7 +50,7 @@ pub fn is_short_key(bytes: &[u8], at: usize, read: &ScalarRead) -> bool
 /// The offset after the colon that separates a block mapping's key from its value, if one follows.
 pub fn after_colon(bytes: &[u8], at: usize) -> Option<usize>
     requires { at ≤ length bytes.now }
-    ensures { IsColon (block_reads.after_colon_in_block (lines_at bytes.now at)) bytes.now at result }
+    ensures { IsColon (after_colon_in_block (lines_at bytes.now at)) bytes.now at result }
 {
     let solid = blanks_end(bytes, at);
     (begins(bytes, solid, b':') && is_blank_or_end(bytes, solid + 1)).then_some(solid + 1)
@@ -68,7 +67,8 @@ pub fn has_colon(bytes: &[u8], at: usize) -> bool
 /// The offset after the colon that separates a flow mapping's key from its value, if one follows on the line.
 pub fn after_flow_colon(bytes: &[u8], at: usize, after_quote: bool) -> Option<usize>
     requires { at ≤ length bytes.now }
-    ensures { IsColon (flow.after_colon_in_flow after_quote (lines_at bytes.now at)) bytes.now at result }
+    ensures { IsColon (flow.after_colon_in_flow after_quote (lines_at bytes.now at)) bytes.now at
+        result }
 {
     // a colon right after a quoted key needs no blank after it
     if after_quote && begins(bytes, at, b':') {

@@ -43,7 +43,7 @@ pub fn scalar_at(
 }
 
 /// A scalar as a node, with the offset after it.
-pub fn scalar_part(read: ScalarRead, next: usize) -> Part
+pub fn scalar_part(next: usize, read: ScalarRead) -> Part
     ensures node { view result.node ≡ tree.scalar read.scalar read.span }
     ensures end { result.end ≡ read.span.end }
     ensures next { result.next ≡ next }
@@ -66,7 +66,7 @@ pub fn empty_part(file: &File, state: &mut State, at: usize, next: usize) -> Res
 {
     state.start(at, 1, 0)?;
     let read = scalar_at(file.alloc, file.bytes, at, ScalarContext::Empty)?;
-    Ok(scalar_part(read, next))
+    Ok(scalar_part(next, read))
 }
 
 /// Reads a scalar in block context with the rest of its line.
@@ -88,9 +88,8 @@ pub fn read_line_scalar(
     let read = scalar_at(file.alloc, file.bytes, at, place)?;
     // a block scalar ends with its last line
     if is_block_start(file.bytes, at) {
-        let next = read.next;
-        return Ok(scalar_part(read, next));
+        return Ok(scalar_part(read.next, read));
     }
     let next = line_after(file.bytes, read.next)?;
-    Ok(scalar_part(read, next))
+    Ok(scalar_part(next, read))
 }
