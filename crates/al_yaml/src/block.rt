@@ -117,16 +117,13 @@ fn find_below(
 {
     let found = next_content(file.bytes, at)?;
     match found {
-        Next::Line { indent, at: first } if is_deeper(file.bytes, from.slot, indent, first) => {
+        Next::Line { indent: column, at } if is_deeper(file.bytes, from.slot, column, at) => {
             Ok(BlockTask::Node(NodePlace {
                 slot: Slot {
                     spot: Spot::OwnLine,
                     ..from.slot
                 },
-                start: Cursor {
-                    at: first,
-                    column: indent,
-                },
+                start: Cursor { at, column },
                 anchor: from.anchor,
             }))
         }
@@ -171,23 +168,19 @@ fn enter(
             Ok((BlockWaiting::Item(in_mapping, items), task))
         }
         BlockOpen::Entries(entries, key) => {
-            let after = key.after;
+            let at = key.after;
             let slot = Slot {
                 spot: Spot::AfterKey,
                 within: column + 1,
                 in_mapping: true,
-                empty: after,
-            };
-            let start = Cursor {
-                at: after,
-                column: 0,
+                empty: at,
             };
             let from = NodePlace {
                 slot,
-                start,
+                start: Cursor { at, column: 0 },
                 anchor: None,
             };
-            let task = find_rest(file, state, from, after)?;
+            let task = find_rest(file, state, from, at)?;
             Ok((BlockWaiting::Value(entries, key.read), task))
         }
     }

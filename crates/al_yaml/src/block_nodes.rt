@@ -180,22 +180,19 @@ fn begin_sequence(
         (λ task. IsBegun file.now.bytes.now node.start.at (depth_in progress.old.stack) task) }
     ensures same { IfOk result (λ _. progress.new.stack ≡ progress.old.stack) }
 {
+    let NodePlace { start, anchor, .. } = node;
     if is_after_key(node.slot.spot) {
-        return Err(ReadError::at(YamlCode::UnexpectedCharacter, node.start.at));
+        return Err(ReadError::at(YamlCode::UnexpectedCharacter, start.at));
     }
     if let Some(tab) = tab_before(node.slot.spot) {
         return Err(ReadError::at(YamlCode::TabInIndentation, tab));
     }
     let depth = progress.stack.depth();
-    progress.state.start(node.start.at, 1, depth)?;
-    let begun = BlockStart {
-        start: node.start,
-        anchor: node.anchor,
-    };
+    progress.state.start(start.at, 1, depth)?;
     Ok(BlockTask::Inside(OpenBlock {
-        begun,
+        begun: BlockStart { start, anchor },
         has: BlockOpen::Items(node.slot.in_mapping, Vec::new(file.alloc)),
-        at: node.start.at,
+        at: start.at,
     }))
 }
 
@@ -220,25 +217,22 @@ fn begin_mapping(
         (λ task. IsBegun file.now.bytes.now node.start.at (depth_in progress.old.stack) task) }
     ensures same { IfOk result (λ _. progress.new.stack ≡ progress.old.stack) }
 {
-    let wrong = ReadError::at(YamlCode::WrongKey, node.start.at);
-    if !is_same_line(file.bytes, node.start.at, key.read.next) {
+    let NodePlace { start, anchor, .. } = node;
+    let wrong = ReadError::at(YamlCode::WrongKey, start.at);
+    if !is_same_line(file.bytes, start.at, key.read.next) {
         return Err(wrong);
     }
     if let Some(tab) = tab_before(node.slot.spot) {
         return Err(ReadError::at(YamlCode::TabInIndentation, tab));
     }
-    if !is_short_key(file.bytes, node.start.at, &key.read) {
+    if !is_short_key(file.bytes, start.at, &key.read) {
         return Err(wrong);
     }
     let depth = progress.stack.depth();
-    progress.state.start(node.start.at, 2, depth)?;
-    let begun = BlockStart {
-        start: node.start,
-        anchor: node.anchor,
-    };
+    progress.state.start(start.at, 2, depth)?;
     Ok(BlockTask::Inside(OpenBlock {
-        begun,
+        begun: BlockStart { start, anchor },
         has: BlockOpen::Entries(Vec::new(file.alloc), key),
-        at: node.start.at,
+        at: start.at,
     }))
 }

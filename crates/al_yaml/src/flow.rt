@@ -34,32 +34,26 @@ pub struct OpenFlow {
 
 /// The collection whose opening bracket is at an offset, still empty, and what comes first in it.
 #[inline(always)]
-fn open_at(file: &File, at: usize) -> OpenFlow
-    requires inside { at < size file.now }
-    requires bracket { content.is_flow_start (text_at file.now.bytes.now at) ≡ true }
+fn open_at(file: &File, opening: usize) -> OpenFlow
+    requires inside { opening < size file.now }
+    requires bracket { content.is_flow_start (text_at file.now.bytes.now opening) ≡ true }
     ensures is { (depth : ℕ) (s t : reads.State)
-        → broken_limit s.nodes s.text (start_of at 1 depth ∷ []) ≡ None → t ≡ with_nodes 1 s →
-        Opens file.now.bytes.now depth at s (open_of result.has) result.next t }
-    ensures opening { result.opening ≡ at }
-    ensures from { at < after_at result.next }
+        → broken_limit s.nodes s.text (start_of opening 1 depth ∷ []) ≡ None → t ≡ with_nodes 1 s →
+        Opens file.now.bytes.now depth opening s (open_of result.has) result.next t }
+    ensures opening { result.opening ≡ opening }
+    ensures from { opening < after_at result.next }
     ensures end { after_at result.next ≤ size file.now }
 {
-    let next = After::GoesOn(gap_end(file.bytes, at + 1));
-    if begins(file.bytes, at, b'[') {
-        return OpenFlow {
-            opening: at,
-            has: Open::Items(Vec::new(file.alloc)),
-            next,
-        };
+    let next = After::GoesOn(gap_end(file.bytes, opening + 1));
+    if begins(file.bytes, opening, b'[') {
+        let has = Open::Items(Vec::new(file.alloc));
+        return OpenFlow { opening, has, next };
     }
-    OpenFlow {
-        opening: at,
-        has: Open::Entries(OpenMapping {
-            entries: Vec::new(file.alloc),
-            waits: None,
-        }),
-        next,
-    }
+    let has = Open::Entries(OpenMapping {
+        entries: Vec::new(file.alloc),
+        waits: None,
+    });
+    OpenFlow { opening, has, next }
 }
 
 /// The complete collection, from its opening to its closing bracket.

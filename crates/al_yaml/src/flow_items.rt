@@ -112,8 +112,7 @@ fn put_entry(
         s (frames.entries (entries_of (map entry_view entries.new.items))) result }
     ensures within { IfOk result (IsPut (size file.now) part.next) }
 {
-    let key = scalar_node(key.scalar, key.span);
-    entries.push(entry_of(key, part.node))?;
+    entries.push(entry_of(scalar_node(key.scalar, key.span), part.node))?;
     Ok(after_item(file.bytes, opening, b'}', gap_end(file.bytes, part.next))?)
 }
 
@@ -135,19 +134,17 @@ fn read_entry(
         (state_of state.old) (open_code.Entries mapping.new) result (state_of state.new) }
     ensures within { IfOk result (IsStep file.now.bytes.now place.at) }
 {
-    let key = match read_flow_key(file, state, place.at)? {
+    let FlowPlace { opening, at, depth } = place;
+    let key = match read_flow_key(file, state, at)? {
         FoundKey::Key(key) => key,
         FoundKey::Opens => {
             mapping.waits = None;
-            return Ok(FlowStep::Opens(Bracket {
-                at: place.at,
-                anchor: None,
-            }));
+            return Ok(FlowStep::Opens(Bracket { at, anchor: None }));
         }
     };
-    match read_flow_value(file, state, place.opening, &key, place.depth)? {
+    match read_flow_value(file, state, opening, &key, depth)? {
         FoundNode::Node(part) => {
-            let after = put_entry(file, place.opening, &mut mapping.entries, key.read, part)?;
+            let after = put_entry(file, opening, &mut mapping.entries, key.read, part)?;
             Ok(FlowStep::AfterNode(after))
         }
         FoundNode::Opens(bracket) => {

@@ -282,9 +282,7 @@ pub fn read_flow_value(
     if ends_value(file.bytes, at) {
         return Ok(FoundNode::Node(empty_part(file, state, colon, at)?));
     }
-    let slot = FlowSlot {
-        opening,
-        empty: Some(colon),
-    };
+    let empty = Some(colon);
+    let slot = FlowSlot { opening, empty };
     read_flow_node(file, state, slot, at, depth)
 }

@@ -43,11 +43,8 @@ pub fn sequence_part(items: Vec<Node>, start: usize, end: usize, next: usize) ->
         start: start as u32,
         end: end as u32,
     };
-    Part {
-        node: sequence_node(fit(items), span),
-        end,
-        next,
-    }
+    let node = sequence_node(fit(items), span);
+    Part { node, end, next }
 }
 
 /// A mapping, read from one offset to another.
@@ -63,9 +60,6 @@ pub fn mapping_part(entries: Vec<Entry>, start: usize, end: usize, next: usize) 
         start: start as u32,
         end: end as u32,
     };
-    Part {
-        node: mapping_node(fit(entries), span),
-        end,
-        next,
-    }
+    let node = mapping_node(fit(entries), span);
+    Part { node, end, next }
 }

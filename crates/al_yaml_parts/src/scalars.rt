@@ -48,11 +48,9 @@ pub fn scalar_part(next: usize, read: ScalarRead) -> Part
     ensures end { result.end ≡ read.span.end }
     ensures next { result.next ≡ next }
 {
-    Part {
-        node: scalar_node(read.scalar, read.span),
-        end: read.span.end as usize,
-        next,
-    }
+    let end = read.span.end as usize;
+    let node = scalar_node(read.scalar, read.span);
+    Part { node, end, next }
 }
 
 /// The empty node at an offset (7.2), which counts as a node; what is left begins at `next`.
