@@ -44,7 +44,7 @@ pub struct PartBefore {
     pub next: Next,
 }
 
-/// Where a node begins, at its first character or after its anchor; or where the search for it begins.
+/// Where a node begins, at its first character or after its anchor.
 #[derive(Clone, Copy)]
 pub struct NodePlace {
     pub slot: Slot,
@@ -75,27 +75,28 @@ pub enum BlockTask {
 pub fn find_rest(
     file: &File,
     state: &mut State,
-    from: NodePlace,
+    slot: Slot,
+    start: Cursor,
+    anchor: Option<usize>,
     rest: usize,
 ) -> Result<BlockTask, ReadError>
-    requires rest { IsRestAt file.now.bytes.now from rest }
+    requires rest { IsRestAt file.now.bytes.now slot start rest }
     ensures fault { IfErr result (IsStopInside (size file.now)) }
-    ensures is { (node : block.BlockReader) (depth : ℕ) → FindsBlock
-        file.now.bytes.now node from.anchor depth (block.rest_node node (slot_of from.slot)
-        depth from.start.column (left_at file.now from.start.at) (left_at file.now rest))
-        (state_of state.old) result (state_of state.new) }
+    ensures is { (node : block.BlockReader) (depth : ℕ) → FindsBlock file.now.bytes.now node anchor
+        depth (block.rest_node node (slot_of slot) depth start.column (left_at file.now start.at)
+        (left_at file.now rest)) (state_of state.old) result (state_of state.new) }
     ensures within { IfOk result (λ task. IsFoundFrom file.now.bytes.now rest task) }
 {
     if is_skipped(file.bytes, rest) {
-        return find_below(file, state, from, next_line(file.bytes, rest));
+        return find_below(file, state, slot, anchor, next_line(file.bytes, rest));
     }
     let at = blanks_end(file.bytes, rest);
-    let spot = spot_after(file.bytes, rest, from.slot.spot);
-    let column = from.start.column + characters(file.bytes, from.start.at, at);
+    let spot = spot_after(file.bytes, rest, slot.spot);
+    let column = start.column + characters(file.bytes, start.at, at);
     Ok(BlockTask::Node(NodePlace {
-        slot: Slot { spot, ..from.slot },
+        slot: Slot { spot, ..slot },
         start: Cursor { at, column },
-        anchor: from.anchor,
+        anchor,
     }))
 }
 
@@ -103,33 +104,32 @@ pub fn find_rest(
 fn find_below(
     file: &File,
     state: &mut State,
-    from: NodePlace,
+    slot: Slot,
+    anchor: Option<usize>,
     at: usize,
 ) -> Result<BlockTask, ReadError>
     requires inside { at ≤ size file.now }
-    requires within { from.slot.within ≤ at + 1 }
-    requires empty { from.slot.empty ≤ size file.now }
+    requires within { slot.within ≤ at + 1 }
+    requires empty { slot.empty ≤ size file.now }
     ensures fault { IfErr result (IsStopInside (size file.now)) }
     ensures is { (node : block.BlockReader) (depth : ℕ) → FindsBlock file.now.bytes.now node
-        from.anchor depth (block.node_below node (slot_of from.slot) depth (left_at file.now at))
+        anchor depth (block.node_below node (slot_of slot) depth (left_at file.now at))
         (state_of state.old) result (state_of state.new) }
     ensures within { IfOk result (λ task. IsFoundFrom file.now.bytes.now at task) }
 {
     let found = next_content(file.bytes, at)?;
     match found {
-        Next::Line { indent: column, at } if is_deeper(file.bytes, from.slot, column, at) => {
+        Next::Line { indent: column, at } if is_deeper(file.bytes, slot, column, at) => {
+            let spot = Spot::OwnLine;
             Ok(BlockTask::Node(NodePlace {
-                slot: Slot {
-                    spot: Spot::OwnLine,
-                    ..from.slot
-                },
+                slot: Slot { spot, ..slot },
                 start: Cursor { at, column },
-                anchor: from.anchor,
+                anchor,
             }))
         }
         _ => {
-            let empty = empty_part(file, state, from.slot.empty, at)?;
-            let part = complete(file, state, from.anchor, empty)?;
+            let empty = empty_part(file, state, slot.empty, at)?;
+            let part = complete(file, state, anchor, empty)?;
             Ok(BlockTask::Found(PartBefore { part, next: found }))
         }
     }
@@ -159,12 +159,7 @@ fn enter(
                 in_mapping: false,
                 empty: at + 1,
             };
-            let from = NodePlace {
-                slot,
-                start: Cursor { at, column },
-                anchor: None,
-            };
-            let task = find_rest(file, state, from, at + 1)?;
+            let task = find_rest(file, state, slot, Cursor { at, column }, None, at + 1)?;
             Ok((BlockWaiting::Item(in_mapping, items), task))
         }
         BlockOpen::Entries(entries, key) => {
@@ -175,12 +170,7 @@ fn enter(
                 in_mapping: true,
                 empty: at,
             };
-            let from = NodePlace {
-                slot,
-                start: Cursor { at, column: 0 },
-                anchor: None,
-            };
-            let task = find_rest(file, state, from, at)?;
+            let task = find_rest(file, state, slot, Cursor { at, column: 0 }, None, at)?;
             Ok((BlockWaiting::Value(entries, key.read), task))
         }
     }

@@ -153,11 +153,8 @@ fn read_property(
         return Ok(BlockTask::Read(Part { next, ..part }));
     }
     let rest = property_end(file.bytes, node.start.at);
-    let from = NodePlace {
-        anchor: Some(node.start.at),
-        ..node
-    };
-    find_rest(file, &mut progress.state, from, rest)
+    let NodePlace { slot, start, .. } = node;
+    find_rest(file, &mut progress.state, slot, start, Some(start.at), rest)
 }
 
 /// Begins the sequence whose first dash is at an offset.

@@ -22,7 +22,6 @@ use Rattle.al_yaml_parts.specs.declared.content.Next.{Next}
 use Rattle.al_yaml_parts.specs.declared.content.Next.TheVariants as next
 use Rattle.al_yaml_parts.specs.declared.slots.Slot as slot
 use Rattle.al_yaml_parts.specs.declared.slots.Cursor as cursor
-use Rattle.al_yaml.specs.declared.block.NodePlace as place_type
 use Rattle.al_yaml.specs.declared.block.BlockOpen as open_type
 use Rattle.al_yaml.specs.declared.block.BlockOpen.TheVariants as open_code
 use Rattle.al_yaml_parts.specs.declared.frames.BlockWaiting as waiting_type
@@ -92,14 +91,14 @@ pub record IsNodeAt (bytes : List ℕ) (s : slot.Slot) (p : cursor.Cursor) : Typ
   pub tab : IsTabInside (length bytes) s.spot
 
 -- what is left after a dash, a colon or an anchor, on its line
-pub record IsRestAt (bytes : List ℕ) (x : place_type.NodePlace) (rest : ℕ) : Type 0 where
-  pub order : x.start.at ≤ rest
+pub record IsRestAt (bytes : List ℕ) (s : slot.Slot) (p : cursor.Cursor) (rest : ℕ) : Type 0 where
+  pub order : p.at ≤ rest
   pub inside : rest ≤ length bytes
-  pub line : content.same_line (lines_at bytes x.start.at) (lines_at bytes rest) ≡ true
-  pub column : x.start.column ≤ x.start.at
-  pub within : x.slot.within ≤ rest + 1
-  pub empty : x.slot.empty ≤ length bytes
-  pub tab : IsTabInside (length bytes) x.slot.spot
+  pub line : content.same_line (lines_at bytes p.at) (lines_at bytes rest) ≡ true
+  pub column : p.column ≤ p.at
+  pub within : s.within ≤ rest + 1
+  pub empty : s.empty ≤ length bytes
+  pub tab : IsTabInside (length bytes) s.spot
 
 abbrev pub IsNextInside : ℕ → Next → Type 0
 IsNextInside size next.Ended = Unit {0}
