@@ -67,7 +67,7 @@ pub fn next_content(bytes: &[u8], at: usize) -> Result<Next, FaultAt>
     Ok(Next::Line { indent, at: solid })
 }
 
-/// Whether nothing but blanks, and a comment after one, is left on the line.
+/// Whether only blanks, which end at `solid`, and perhaps a comment after them are left on the line.
 fn ends_line(bytes: &[u8], at: usize, solid: usize) -> bool
     requires inside { at ≤ length bytes.now }
     requires solid { line.blanks_dropped (lines_at bytes.now at) ≡ lines_at bytes.now solid }

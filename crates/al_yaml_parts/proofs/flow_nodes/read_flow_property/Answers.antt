@@ -26,28 +26,27 @@ returns-then-begins-clause-is c = λ col. rw (← c.if-has_no_name.ensures, ← 
 
 pub returns-then-is_text_end-clause-is : goal.returns-then-is_text_end-clause-is
 returns-then-is_text_end-clause-is c = λ col.
-    rw c.at-then-is_text_end.ensures.is (anchored-fails col (flow_slot c.args.slot) c.args.depth (state_of c.args.state.now) c.args.file.now.bytes.now c.args.at c.gap_end-start.result
-    c.requires.inside c.if-has_no_name.ensures c.if-begins.ensures.value (ap (gap false) c.property_end.ensures.lines ∙ c.gap_end-start.ensures.lines)
-    _ (rw (← c.if-is_text_end.ensures.text) (run-fails _ _ _)))
+    rw c.at-then-is_text_end.ensures.is (anchored-fails _ _ _ _ _ _ _ c.requires.inside c.if-has_no_name.ensures c.if-begins.ensures.value
+    (ap (gap false) c.property_end.ensures.lines ∙ c.gap_end-start.ensures.lines) _ (rw (← c.if-is_text_end.ensures.text) (run-fails _ _ _)))
 
 pub returns-in_default-clause-is : goal.returns-in_default-clause-is
 returns-in_default-clause-is c = λ col.
-    rw c.at-in_default.ensures.is (anchored-fails col (flow_slot c.args.slot) c.args.depth (state_of c.args.state.now) c.args.file.now.bytes.now c.args.at c.gap_end-start.result
-    c.requires.inside c.if-has_no_name.ensures c.if-begins.ensures.value (ap (gap false) c.property_end.ensures.lines ∙ c.gap_end-start.ensures.lines)
-    _ (rw (← c.if-is_text_end.ensures.text, ← c.if-ends_value.ensures, c.in_default.is, start-at c.args.file.now.bytes.now c.gap_end-start.result c.gap_end-start.ensures.inside) (run-fails _ _ _)))
+    rw c.at-in_default.ensures.is (anchored-fails _ _ _ _ _ _ _ c.requires.inside c.if-has_no_name.ensures c.if-begins.ensures.value
+    (ap (gap false) c.property_end.ensures.lines ∙ c.gap_end-start.ensures.lines)
+    _ (rw (← c.if-is_text_end.ensures.text, ← c.if-ends_value.ensures, c.in_default.is, start-at c.args.file.now.bytes.now c.gap_end-start.result c.gap_end-start.ensures.inside)
+    (run-fails _ _ _)))
 
 pub returns-in_err-part-clause-is : goal.returns-in_err-part-clause-is
 returns-in_err-part-clause-is c =
     let p = err_from_is_err_and c.from_residual-in_err-part.result c.from_residual-in_err-part.ensures.1 in
-    rw (p.1, p.2) (λ col. anchored-stops col (flow_slot c.args.slot) c.args.depth (state_of c.args.state.now) c.args.file.now.bytes.now c.args.at c.gap_end-start.result
-    c.requires.inside c.if-has_no_name.ensures c.if-begins.ensures.value (ap (gap false) c.property_end.ensures.lines ∙ c.gap_end-start.ensures.lines)
+    rw (p.1, p.2) (λ col. anchored-stops _ _ _ _ _ _ _ c.requires.inside c.if-has_no_name.ensures c.if-begins.ensures.value
+    (ap (gap false) c.property_end.ensures.lines ∙ c.gap_end-start.ensures.lines)
     c.in_err-part.field-0.0 (rw (← c.if-is_text_end.ensures.text, ← c.if-ends_value.ensures, c.in-Some.is) c.in_err-part.ensures.is))
 
 pub returns-then-ends_value-clause-is : goal.returns-then-ends_value-clause-is
 returns-then-ends_value-clause-is c = λ col.
-    anchored-part col (flow_slot c.args.slot) c.args.depth (state_of c.args.state.now) c.args.file.now.bytes.now c.args.at c.gap_end-start.result
-    c.requires.inside c.if-has_no_name.ensures c.if-begins.ensures.value (ap (gap false) c.property_end.ensures.lines ∙ c.gap_end-start.ensures.lines)
-    c.in_ok-part.part c.in_ok-complete.field-0 (state_of c.empty_part.new.state) (state_of c.complete.new.state)
+    anchored-part _ _ _ _ _ _ _ c.requires.inside c.if-has_no_name.ensures c.if-begins.ensures.value
+    (ap (gap false) c.property_end.ensures.lines ∙ c.gap_end-start.ensures.lines) c.in_ok-part.part c.in_ok-complete.field-0 (state_of c.empty_part.new.state) (state_of c.complete.new.state)
     (rw (← c.if-is_text_end.ensures.text, ← c.if-ends_value.ensures, c.in-Some.is) c.in_ok-part.ensures.is) c.in_ok-complete.ensures.part c.in_ok-complete.ensures.state
 
 pub returns-then-ends_value-clause-within : goal.returns-then-ends_value-clause-within
@@ -64,22 +63,28 @@ returns-then-ends_value-clause-within c =
 pub returns-then-is_property-clause-is : goal.returns-then-is_property-clause-is
 unfolding flow_content
 returns-then-is_property-clause-is c = λ col.
-    rw c.at-then-is_property.ensures.is (anchored-fails col (flow_slot c.args.slot) c.args.depth (state_of c.args.state.now) c.args.file.now.bytes.now c.args.at c.gap_end-start.result
-    c.requires.inside c.if-has_no_name.ensures c.if-begins.ensures.value (ap (gap false) c.property_end.ensures.lines ∙ c.gap_end-start.ensures.lines)
-    _ (rw (← c.if-is_text_end.ensures.text, ← c.if-ends_value.ensures, ← right-property (text_at c.args.file.now.bytes.now c.gap_end-start.result) c.if-is_property.ensures, ← c.if-is_property.ensures, start-at c.args.file.now.bytes.now c.gap_end-start.result c.gap_end-start.ensures.inside) (run-fails _ _ _)))
+    rw c.at-then-is_property.ensures.is (anchored-fails _ _ _ _ _ _ _ c.requires.inside c.if-has_no_name.ensures c.if-begins.ensures.value
+    (ap (gap false) c.property_end.ensures.lines ∙ c.gap_end-start.ensures.lines)
+    _ (rw (
+      ← c.if-is_text_end.ensures.text,
+      ← c.if-ends_value.ensures,
+      ← right-property (text_at c.args.file.now.bytes.now c.gap_end-start.result) c.if-is_property.ensures,
+      ← c.if-is_property.ensures,
+      start-at c.args.file.now.bytes.now c.gap_end-start.result c.gap_end-start.ensures.inside,
+    )
+    (run-fails _ _ _)))
 
 pub returns-in_err-part-2-clause-is : goal.returns-in_err-part-2-clause-is
 returns-in_err-part-2-clause-is c =
     let p = err_from_is_err_and c.from_residual-in_err-part-2.result c.from_residual-in_err-part-2.ensures.1 in
-    rw (p.1, p.2) (λ col. anchored-stops col (flow_slot c.args.slot) c.args.depth (state_of c.args.state.now) c.args.file.now.bytes.now c.args.at c.gap_end-start.result
-    c.requires.inside c.if-has_no_name.ensures c.if-begins.ensures.value (ap (gap false) c.property_end.ensures.lines ∙ c.gap_end-start.ensures.lines)
+    rw (p.1, p.2) (λ col. anchored-stops _ _ _ _ _ _ _ c.requires.inside c.if-has_no_name.ensures c.if-begins.ensures.value
+    (ap (gap false) c.property_end.ensures.lines ∙ c.gap_end-start.ensures.lines)
     c.in_err-part-2.field-0.0 (rw (← c.if-is_text_end.ensures.text, ← c.if-ends_value.ensures) (c.in_err-part-2.ensures.is c.args.depth (flow_slot c.args.slot) col)))
 
 pub returns-in_ok-complete-in-Node-clause-is : goal.returns-in_ok-complete-in-Node-clause-is
 returns-in_ok-complete-in-Node-clause-is c = λ col.
     let found = rw c.in-Node.is at c.in_ok-part-2.ensures.is in
-    anchored-part col (flow_slot c.args.slot) c.args.depth (state_of c.args.state.now) c.args.file.now.bytes.now c.args.at c.gap_end-start.result
-    c.requires.inside c.if-has_no_name.ensures c.if-begins.ensures.value (ap (gap false) c.property_end.ensures.lines ∙ c.gap_end-start.ensures.lines)
+    anchored-part _ _ _ _ _ _ _ c.requires.inside c.if-has_no_name.ensures c.if-begins.ensures.value (ap (gap false) c.property_end.ensures.lines ∙ c.gap_end-start.ensures.lines)
     c.in-Node.part c.in_ok-complete-in-Node.field-0 (state_of c.read_flow_content.new.state) (state_of c.complete-in-Node.new.state)
     (rw (← c.if-is_text_end.ensures.text, ← c.if-ends_value.ensures) (found c.args.depth (flow_slot c.args.slot) col)) c.in_ok-complete-in-Node.ensures.part c.in_ok-complete-in-Node.ensures.state
 
@@ -88,7 +93,6 @@ returns-in-Opens-clause-is c = λ col.
     let bytes = c.args.file.now.bytes.now in
     let found = rw c.in-Opens.is at c.in_ok-part-2.ensures.is in
     let bare = rw c.in-Opens.is at c.in_ok-part-2.ensures.bare in
-    anchored-runs col (flow_slot c.args.slot) c.args.depth (state_of c.args.state.now) c.args.file.now.bytes.now c.args.at c.gap_end-start.result
-    c.requires.inside c.if-has_no_name.ensures c.if-begins.ensures.value (ap (gap false) c.property_end.ensures.lines ∙ c.gap_end-start.ensures.lines)
+    anchored-runs _ _ _ _ _ _ _ c.requires.inside c.if-has_no_name.ensures c.if-begins.ensures.value (ap (gap false) c.property_end.ensures.lines ∙ c.gap_end-start.ensures.lines)
     ∙ ap (noting (mark_of bytes (Some c.args.at))) (rw (← c.if-is_text_end.ensures.text, ← c.if-ends_value.ensures) (found c.args.depth (flow_slot c.args.slot) col
     ∙ ap (λ a. noting (mark_of bytes a) (run (state_of c.read_flow_content.new.state) (col c.args.depth (lines_at bytes c.in-Opens.field-0.at)))) bare))
