@@ -144,10 +144,10 @@ fn enter(
     requires has { IsOpenAt file.now.bytes.now inside.begun.start.column inside.at inside.has }
     ensures fault { IfErr result (IsStopInside (size file.now)) }
     ensures within { IfOk result (λ r. IsEntered file.now.bytes.now inside.at r) }
-    ensures is { (bound turns depth : ℕ) → Enters file.now.bytes.now bound
-        turns depth inside.begun.start.at inside.begun.start.column (block_rest (suc turns) bound
-        depth inside.begun.start.at inside.begun.start.column (block_open_of file.now.bytes.now
-        inside.has) (left_at file.now inside.at)) (state_of state.old) result (state_of state.new) }
+    ensures is { (bound turns depth : ℕ) → Enters file.now.bytes.now bound turns depth inside.begun.start.at inside.begun.start.column
+        (block_rest (suc turns) bound depth inside.begun.start.at inside.begun.start.column
+        (block_open_of file.now.bytes.now inside.has)
+        (left_at file.now inside.at)) (state_of state.old) result (state_of state.new) }
 {
     let OpenBlock { begun, has, at } = inside;
     let column = begun.start.column;
@@ -207,10 +207,12 @@ fn resume_block(
     requires room { HasRoom progress.old.stack }
     ensures fault { IfErr result (IsStopInside (size file.now)) }
     ensures is { (bound turns : ℕ) → size file.now < suc bound + read.part.next
-        → ResumesBlock file.now.bytes.now bound turns (depth_in progress.old.stack + 1)
-        frame.begun.start.at frame.begun.start.column frame.begun.anchor
-        (block_waiting_of file.now.bytes.now frame.waiting) (part_of file.now.bytes.now read.part)
-        (state_of progress.old.state) result (state_of progress.new.state) }
+        → ResumesBlock file.now.bytes.now bound turns
+        (depth_in progress.old.stack + 1) frame.begun.start.at
+        frame.begun.start.column frame.begun.anchor
+        (block_waiting_of file.now.bytes.now frame.waiting)
+        (part_of file.now.bytes.now read.part) (state_of progress.old.state) result
+        (state_of progress.new.state) }
     ensures within { IfOk result (λ task. IsResumed file.now.bytes.now read.part.next task) }
     ensures same { IfOk result (λ _. progress.new.stack ≡ progress.old.stack) }
 {
@@ -263,9 +265,10 @@ pub fn read_block_node(
     requires outside { progress.old.stack.flows ≡ [] }
     requires none { progress.old.stack.blocks ≡ [] }
     ensures fault { IfErr result (IsStopInside (size file.now)) }
-    ensures is { (bound : ℕ) → size file.now < bound + start.at → IsRead
-        (part_of file.now.bytes.now) (block.block_node bound (slot_of slot) 1 start.column (left_at
-        file.now start.at)) (state_of progress.old.state) result (state_of progress.new.state) }
+    ensures is { (bound : ℕ) → size file.now < bound + start.at
+        → IsRead (part_of file.now.bytes.now)
+        (block.block_node bound (slot_of slot) 1 start.column (left_at file.now start.at))
+        (state_of progress.old.state) result (state_of progress.new.state) }
     ensures within { IfOk result (λ part. IsPartAfter file.now.bytes.now start.at part) }
 {
     let mut task = BlockTask::Node(NodePlace {

@@ -64,9 +64,10 @@ fn read_line_flow(
     requires bracket { content.is_flow_start (text_at file.now.bytes.now at) ≡ true }
     requires outside { progress.old.stack.flows ≡ [] }
     ensures fault { IfErr result (IsStopInside (size file.now)) }
-    ensures is { (bound : ℕ) → size file.now < bound + at → IsRead (part_of file.now.bytes.now)
-        (block.flow_at (flow.flow_collection bound) (spot_of spot) (depth_in progress.old.stack)
-        (left_at file.now at)) (state_of progress.old.state) result (state_of progress.new.state) }
+    ensures is { (bound : ℕ) → size file.now < bound + at
+        → IsRead (part_of file.now.bytes.now) (block.flow_at (flow.flow_collection bound)
+        (spot_of spot) (depth_in progress.old.stack) (left_at file.now at))
+        (state_of progress.old.state) result (state_of progress.new.state) }
     ensures within { IfOk result (λ part. IsPartAfter file.now.bytes.now at part) }
     ensures same { IfOk result (λ _. progress.new.stack ≡ progress.old.stack) }
 {
@@ -88,9 +89,10 @@ pub fn read_node(
     requires outside { progress.old.stack.flows ≡ [] }
     requires node { IsNodeAt file.now.bytes.now node.slot node.start }
     ensures fault { IfErr result (IsStopInside (size file.now)) }
-    ensures is { (bound : ℕ) → size file.now < suc bound
-        + node.start.at → Begins file.now.bytes.now bound (depth_in progress.old.stack) (completing
-        file.now.bytes.now node.anchor (node_reader (suc bound) node.anchor (slot_of node.slot)
+    ensures is { (bound : ℕ) → size file.now < suc bound + node.start.at
+        → Begins file.now.bytes.now bound (depth_in progress.old.stack)
+        (completing file.now.bytes.now node.anchor
+        (node_reader (suc bound) node.anchor (slot_of node.slot)
         (depth_in progress.old.stack) node.start.column (left_at file.now node.start.at)))
         (state_of progress.old.state) result (state_of progress.new.state) }
     ensures within { IfOk result
@@ -132,9 +134,10 @@ fn read_property(
     requires property { content.is_property (text_at file.now.bytes.now node.start.at) ≡ true }
     ensures fault { IfErr result (IsStopInside (size file.now)) }
     ensures is { (bound : ℕ) → Begins file.now.bytes.now bound (depth_in progress.old.stack)
-        (completing file.now.bytes.now node.anchor (node_reader (suc bound) node.anchor
-        (slot_of node.slot) (depth_in progress.old.stack) node.start.column (left_at file.now
-        node.start.at))) (state_of progress.old.state) result (state_of progress.new.state) }
+        (completing file.now.bytes.now node.anchor
+        (node_reader (suc bound) node.anchor (slot_of node.slot)
+        (depth_in progress.old.stack) node.start.column (left_at file.now node.start.at)))
+        (state_of progress.old.state) result (state_of progress.new.state) }
     ensures within { IfOk result
         (λ task. IsBegun file.now.bytes.now node.start.at (depth_in progress.old.stack) task) }
     ensures same { IfOk result (λ _. progress.new.stack ≡ progress.old.stack) }
@@ -168,9 +171,11 @@ fn begin_sequence(
     requires node { IsNodeAt file.now.bytes.now node.slot node.start }
     requires outside { progress.old.stack.flows ≡ [] }
     ensures fault { IfErr result (IsStopInside (size file.now)) }
-    ensures is { (bound : ℕ) → Begins file.now.bytes.now bound (depth_in progress.old.stack)
-        (completing file.now.bytes.now node.anchor (block.block_sequence
-        (block.block_node bound) (flow.flow_collection (suc bound)) (suc bound) (slot_of node.slot)
+    ensures is { (bound : ℕ)
+        → Begins file.now.bytes.now bound (depth_in progress.old.stack)
+        (completing file.now.bytes.now node.anchor
+        (block.block_sequence (block.block_node bound) (flow.flow_collection (suc bound))
+        (suc bound) (slot_of node.slot)
         (depth_in progress.old.stack) node.start.column (left_at file.now node.start.at)))
         (state_of progress.old.state) result (state_of progress.new.state) }
     ensures within { IfOk result
@@ -204,11 +209,13 @@ fn begin_mapping(
     requires node { IsNodeAt file.now.bytes.now node.slot node.start }
     requires outside { progress.old.stack.flows ≡ [] }
     ensures fault { IfErr result (IsStopInside (size file.now)) }
-    ensures is { (bound : ℕ) → Begins
-        file.now.bytes.now bound (depth_in progress.old.stack) (completing file.now.bytes.now
-        node.anchor (block.block_mapping (block.block_node bound) (flow.flow_collection (suc bound))
-        (suc bound) (spot_of node.slot.spot) (depth_in progress.old.stack)
-        node.start.column (left_at file.now node.start.at) (key_seen file.now.bytes.now key)))
+    ensures is { (bound : ℕ)
+        → Begins file.now.bytes.now bound (depth_in progress.old.stack)
+        (completing file.now.bytes.now node.anchor
+        (block.block_mapping (block.block_node bound) (flow.flow_collection (suc bound))
+        (suc bound) (spot_of node.slot.spot)
+        (depth_in progress.old.stack) node.start.column (left_at file.now node.start.at)
+        (key_seen file.now.bytes.now key)))
         (state_of progress.old.state) result (state_of progress.new.state) }
     ensures within { IfOk result
         (λ task. IsBegun file.now.bytes.now node.start.at (depth_in progress.old.stack) task) }

@@ -84,9 +84,10 @@ fn resume_outer(
     requires opening { frame.opening < size file.now }
     requires at { frame.inner.at < size file.now }
     ensures fault { IfErr result (IsStopInside (size file.now)) }
-    ensures is { (depth : ℕ) (whole : NodeAnswer) (outer : List frame_code.FlowFrame) → AfterNode
-        file.now.bytes.now depth whole (map (frame_of file.now.bytes.now) (frame ∷ outer)) (state_of
-        state.old) part → Answers file.now.bytes.now depth whole outer result (state_of state.new) }
+    ensures is { (depth : ℕ) (whole : NodeAnswer) (outer : List frame_code.FlowFrame)
+        → AfterNode file.now.bytes.now depth whole (map (frame_of file.now.bytes.now) (frame ∷ outer))
+        (state_of state.old) part
+        → Answers file.now.bytes.now depth whole outer result (state_of state.new) }
     ensures opening { IfOk result (λ collection. collection.opening ≡ frame.opening) }
     ensures within { IfOk result (λ collection. IsPut (size file.now) part.next collection.next) }
 {
@@ -112,11 +113,13 @@ fn read_on(
     requires depth { depth ≤ 65 }
     requires room { length progress.old.stack.flows + length progress.old.stack.blocks < depth }
     ensures fault { IfErr result (IsStopInside (size file.now)) }
-    ensures is { (first : ℕ) (whole : NodeAnswer) → depth
-        ≡ first + length progress.old.stack.flows + 1 → Inside file.now.bytes.now first whole
-        (map (frame_of file.now.bytes.now) progress.old.stack.flows) (state_of progress.old.state)
-        collection.opening (open_of collection.has) at → Answers file.now.bytes.now
-        first whole progress.new.stack.flows result (state_of progress.new.state) }
+    ensures is { (first : ℕ) (whole : NodeAnswer)
+        → depth ≡ first + length progress.old.stack.flows + 1
+        → Inside file.now.bytes.now first whole
+        (map (frame_of file.now.bytes.now) progress.old.stack.flows)
+        (state_of progress.old.state) collection.opening (open_of collection.has) at
+        → Answers file.now.bytes.now first whole progress.new.stack.flows result
+        (state_of progress.new.state) }
     ensures within { IfOk result
         (IsFurther (size file.now) at depth progress.old.stack progress.new.stack) }
 {

@@ -85,9 +85,10 @@ fn put_item(
     requires inside { part.next ≤ size file.now }
     requires opening { opening ≤ size file.now }
     ensures fault { IfErr result (IsStopInside (size file.now)) }
-    ensures is { (depth : ℕ) (s : reads.State) → Resumes file.now.bytes.now depth opening
-        (frames.item (nodes_of (map view items.old.items))) (part_of file.now.bytes.now part)
-        s (frames.items (nodes_of (map view items.new.items))) result }
+    ensures is { (depth : ℕ) (s : reads.State) →
+        Resumes file.now.bytes.now depth opening (frames.item (nodes_of (map view items.old.items)))
+        (part_of file.now.bytes.now part) s
+        (frames.items (nodes_of (map view items.new.items))) result }
     ensures within { IfOk result (IsPut (size file.now) part.next) }
 {
     items.push(part.node)?;
@@ -106,10 +107,11 @@ fn put_entry(
     requires inside { part.next ≤ size file.now }
     requires opening { opening ≤ size file.now }
     ensures fault { IfErr result (IsStopInside (size file.now)) }
-    ensures is { (depth : ℕ) (s : reads.State) → Resumes file.now.bytes.now
-        depth opening (frames.value (entries_of (map entry_view entries.old.items))
-        (read_of file.now.bytes.now key)) (part_of file.now.bytes.now part)
-        s (frames.entries (entries_of (map entry_view entries.new.items))) result }
+    ensures is { (depth : ℕ) (s : reads.State) → Resumes file.now.bytes.now depth opening
+        (frames.value (entries_of (map entry_view entries.old.items))
+        (read_of file.now.bytes.now key))
+        (part_of file.now.bytes.now part) s
+        (frames.entries (entries_of (map entry_view entries.new.items))) result }
     ensures within { IfOk result (IsPut (size file.now) part.next) }
 {
     entries.push(entry_of(scalar_node(key.scalar, key.span), part.node))?;

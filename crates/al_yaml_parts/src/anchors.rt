@@ -132,8 +132,9 @@ impl State {
     pub fn alias(&mut self, file: &File, at: usize, depth: u32) -> Result<Node, ReadError>
         requires { at ≤ size file.now }
         ensures fault { IfErr result (IsStopInside (size file.now)) }
-        ensures is { IsRead view (reading.alias (content.anchor_name (left_at file.now at))
-            at depth) (state_of self.old) result (state_of self.new) }
+        ensures is { IsRead view
+            (reading.alias (content.anchor_name (left_at file.now at)) at depth)
+            (state_of self.old) result (state_of self.new) }
     {
         let Some(found) = self.anchors.latest.get(name_at(file.bytes, at)) else {
             return Err(ReadError::at(YamlCode::UnknownAlias, at));

@@ -89,9 +89,10 @@ fn key_colon(bytes: &[u8], at: usize, read: &ScalarRead) -> Result<Option<usize>
 pub fn read_flow_key(file: &File, state: &mut State, at: usize) -> Result<FoundKey, ReadError>
     requires inside { at ≤ size file.now }
     ensures fault { IfErr result (IsStopInside (size file.now)) }
-    ensures is { (depth : ℕ) → FindsKey
-        file.now.bytes.now at (λ collection. flow.flow_key collection depth (left_at file.now at))
-        depth (state_of state.old) result (state_of state.new) }
+    ensures is { (depth : ℕ) →
+        FindsKey file.now.bytes.now at
+        (λ collection. flow.flow_key collection depth (left_at file.now at)) depth
+        (state_of state.old) result (state_of state.new) }
     ensures within { IfOk result (λ key. IsFoundKey file.now.bytes.now at key) }
 {
     if let Some(code) = flow_fault(file.bytes, at) {
@@ -176,8 +177,9 @@ fn read_flow_property(
     requires opening { slot.opening ≤ size file.now }
     requires empty { IfSome slot.empty (λ i. i ≤ at) }
     ensures fault { IfErr result (IsStopInside (size file.now)) }
-    ensures is { Finds file.now.bytes.now (λ collection. flow.flow_property collection (flow_slot
-        slot) depth (left_at file.now at)) depth (state_of state.old) result (state_of state.new) }
+    ensures is { Finds file.now.bytes.now
+        (λ collection. flow.flow_property collection (flow_slot slot) depth
+        (left_at file.now at)) depth (state_of state.old) result (state_of state.new) }
     ensures within { IfOk result (λ found. IsFound file.now.bytes.now at found) }
 {
     if has_no_name(file.bytes, at) {
@@ -219,7 +221,8 @@ pub fn complete(
         (λ p. part_of file.now.bytes.now p ≡ part_of file.now.bytes.now part) }
     ensures end { IfOk result (λ p. p.end ≡ part.end) }
     ensures next { IfOk result (λ p. p.next ≡ part.next) }
-    ensures state { IfOk result (λ _. state_of state.new
+    ensures state { IfOk result
+        (λ _. state_of state.new
         ≡ state_with_anchor_at file.now.bytes.now anchor (view part.node) (state_of state.old)) }
 {
     match anchor {
@@ -244,8 +247,9 @@ pub fn read_flow_node(
     requires opening { slot.opening ≤ size file.now }
     requires empty { IfSome slot.empty (λ i. i ≤ at) }
     ensures fault { IfErr result (IsStopInside (size file.now)) }
-    ensures is { Finds file.now.bytes.now (λ collection. flow.flow_node_over collection (flow_slot
-        slot) depth (left_at file.now at)) depth (state_of state.old) result (state_of state.new) }
+    ensures is { Finds file.now.bytes.now
+        (λ collection. flow.flow_node_over collection (flow_slot slot) depth
+        (left_at file.now at)) depth (state_of state.old) result (state_of state.new) }
     ensures within { IfOk result (λ found. IsFound file.now.bytes.now at found) }
 {
     if is_property(file.bytes, at) {
@@ -265,9 +269,10 @@ pub fn read_flow_value(
     requires inside { IsKeyInside file.now.bytes.now key.now.read.span.start key.now }
     requires opening { opening ≤ size file.now }
     ensures fault { IfErr result (IsStopInside (size file.now)) }
-    ensures is { Finds file.now.bytes.now (λ collection. flow.flow_entry_value
-        (flow.flow_node_over collection) opening depth (flow_key_of file.now.bytes.now key.now))
-        depth (state_of state.old) result (state_of state.new) }
+    ensures is { Finds file.now.bytes.now
+        (λ collection. flow.flow_entry_value (flow.flow_node_over collection) opening depth
+        (flow_key_of file.now.bytes.now key.now)) depth (state_of state.old) result
+        (state_of state.new) }
     ensures within { IfOk result
         (λ found. IsFound file.now.bytes.now key.now.read.span.start found) }
 {

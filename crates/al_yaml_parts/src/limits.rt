@@ -24,9 +24,10 @@ impl State {
     #[inline(always)]
     pub fn start(&mut self, at: usize, more: u32, depth: u32) -> Result<(), FaultAt>
         ensures fault { IfErr result (λ f. f.at ≡ at) }
-        ensures limits { MatchResult result (λ _. broken_limit
-            self.old.nodes self.old.text (start_of at more depth ∷ []) ≡ None) (λ f. broken_limit
-            self.old.nodes self.old.text (start_of at more depth ∷ []) ≡ Some f) }
+        ensures limits { MatchResult result
+            (λ _. broken_limit self.old.nodes self.old.text (start_of at more depth ∷ []) ≡ None)
+            (λ f. broken_limit self.old.nodes self.old.text (start_of at more depth ∷ [])
+            ≡ Some f) }
         ensures depth { IfOk result (λ _. depth ≤ 64) }
         ensures state { IfOk result (λ _. state_of self.new ≡ with_nodes more (state_of self.old)) }
     {

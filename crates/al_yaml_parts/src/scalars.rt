@@ -77,8 +77,9 @@ pub fn read_line_scalar(
     requires inside { at ≤ size file.now }
     requires within { within ≤ largest_file + 1 }
     ensures fault { IfErr result (IsStopInside (size file.now)) }
-    ensures is { IsRead (part_of file.now.bytes.now) (block.scalar_node_at
-        within (left_at file.now at)) (state_of state.old) result (state_of state.new) }
+    ensures is { IsRead (part_of file.now.bytes.now)
+        (block.scalar_node_at within (left_at file.now at))
+        (state_of state.old) result (state_of state.new) }
     ensures within { IfOk result (λ part. IsPartAfter file.now.bytes.now at part) }
 {
     state.start(at, 1, 0)?;

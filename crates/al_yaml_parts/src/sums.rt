@@ -115,8 +115,9 @@ fn leave_entries<'a>(
     levels: u32,
     left: &mut Vec<UncountedNode<'a>>,
 ) -> Result<(), AllocError>
-    ensures { IfOk result (λ _. map uncounted_view left.new.items ≡ map
-        uncounted_view left.old.items ++ within levels (members (map entry_view entries.now))) }
+    ensures { IfOk result (λ _. map uncounted_view left.new.items
+        ≡ map uncounted_view left.old.items
+        ++ within levels (members (map entry_view entries.now))) }
 {
     'entries: for entry in entries {
         let Entry { key, value } = entry;
