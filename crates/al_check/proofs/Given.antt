@@ -31,7 +31,7 @@ use Rattle.al_check.specs.FileFaults.{document_faults, file_faults}
 use Rattle.al_check.specs.Proofs.Laws.{faults_given}
 use Rattle.al_check.specs.Reading.{CallsGiven, IsGiven, IsRead, IsTree}
 use Rattle.al_check.specs.Sites.{file_sites}
-use Rattle.al_check.specs.Units.{HasCalls, IsUnit, calls_kept, interface_kept}
+use Rattle.al_check.specs.Units.{HasCalls, IsUnit, calls_kept}
 use Rattle.al_check.specs.declared.files.ReadFile.{ReadFile}
 use Rattle.al_check.specs.declared.units.Unit.{Unit}
 use Rattle.al_check.specs.declared.units.Unit.TheVariants as unit
@@ -100,11 +100,6 @@ calls_kept_of (unit.Clean interface) kind bytes is = is.1.calls
 -- a file that was read without a call of a file in the folder
 pub none_called : (file : ReadFile) (kind : FileKind) (bytes : List ℕ) → IsRead file kind bytes → length file.calls.items ≡ 0 → HasCalls [] kind bytes
 none_called file kind bytes is none = let has = calls_kept_of (unit.Whole file) kind bytes is in rw (nil_from_length file.calls.items none) at has
-
-pub interface_kept_of : (unit : Unit) (kind : FileKind) (bytes : List ℕ) → IsUnit unit kind bytes → interface_kept unit ≡ file_interface kind bytes
-interface_kept_of (unit.Whole file) kind bytes is = interface_shown file kind bytes is
-interface_kept_of (unit.Brief brief) kind bytes is = is.interface
-interface_kept_of (unit.Clean interface) kind bytes is = is.0
 
 pub call_inside : (calls : List FolderCall) (kind : FileKind) (bytes : List ℕ) (call : ℕ) → HasCalls calls kind bytes → call < length (file_targets kind bytes) → call < length calls
 call_inside calls kind bytes call has lt =

@@ -2,8 +2,7 @@
 use Rattle.std.specs.Prelude.{◌≡◌, ℕ, List, [], map}
 use Rattle.al_tree.specs.declared.files.FileKind.{FileKind}
 use Rattle.al_check_interfaces.specs.declared.calls.FolderCall.{FolderCall}
-use Rattle.al_check_interfaces.specs.declared.interfaces.Interface.{Interface}
-use Rattle.al_check.specs.Calling.{file_interface, file_targets, shown_by}
+use Rattle.al_check.specs.Calling.{file_interface, file_targets}
 use Rattle.al_check.specs.FileFaults.{file_faults}
 use Rattle.al_check.specs.Reading.{IsRead}
 use Rattle.al_check.specs.Sites.{file_sites}
@@ -34,8 +33,3 @@ abbrev pub calls_kept : Unit → List FolderCall
 calls_kept (unit.Whole file) = file.calls.items
 calls_kept (unit.Brief brief) = brief.calls.items
 calls_kept (unit.Clean interface) = []
-
-abbrev pub interface_kept : Unit → Interface
-interface_kept (unit.Whole file) = shown_by file
-interface_kept (unit.Brief brief) = brief.interface
-interface_kept (unit.Clean interface) = interface

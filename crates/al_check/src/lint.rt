@@ -6,8 +6,8 @@ ghost use Rattle.al_check.specs.Units.{IsUnit};
 ghost use Rattle.al_check_interfaces.proofs.Exact.{exact};
 ghost use Rattle.al_check.specs.Proofs.Laws.{each_sited, faults_inside, faults_ordered, sites_inside};
 
-use crate::files::{Source, file_interface, read_file};
-use crate::units::{Unit, brief_of, call_at, is_clean, unit_faults, unit_interface, unit_targets};
+use crate::files::{Source, file_faults, file_interface, read_file};
+use crate::units::{Unit, brief_of, calls_of, is_clean};
 use al_base::Fault;
 use al_check_interfaces::Interface;
 use al_session_folder::{Lint, Site, Target};
@@ -97,18 +97,25 @@ impl Lint for Actions {
             return Ok(Unit::Clean(file_interface(alloc, &file)?));
         }
         if self.keeps_tree(bytes.len()) {
-            Ok(Unit::Whole(file))
-        } else {
-            Ok(Unit::Brief(brief_of(alloc, file)?))
+            return Ok(Unit::Whole(file));
         }
+        Ok(Unit::Brief(brief_of(alloc, file)?))
     }
 
     fn iface(&self, alloc: Global, path: &str, unit: &Unit) -> Result<Interface, AllocError> {
-        unit_interface(alloc, unit)
+        match unit {
+            Unit::Whole(file) => file_interface(alloc, file),
+            Unit::Brief(brief) => brief.interface.copy(alloc),
+            Unit::Clean(interface) => interface.copy(alloc),
+        }
     }
 
     fn calls(&self, alloc: Global, path: &str, unit: &Unit) -> Result<Vec<Target>, AllocError> {
-        unit_targets(alloc, unit)
+        let mut targets = Vec::new(alloc);
+        for call in calls_of(unit) {
+            targets.push(call.target.copy(alloc)?)?;
+        }
+        Ok(targets)
     }
 
     fn check(
@@ -121,11 +128,19 @@ impl Lint for Actions {
     ) -> Result<Vec<Fault>, AllocError> {
         self.checks = self.checks.saturating_add(1);
         let kind = file_kind(path.as_bytes());
-        unit_faults(alloc, Source { kind, bytes }, unit, answers)
+        let source = Source { kind, bytes };
+        match unit {
+            Unit::Whole(file) => file_faults(alloc, source, file, answers),
+            Unit::Brief(_) => {
+                let file = read_file(alloc, source)?;
+                file_faults(alloc, source, &file, answers)
+            }
+            Unit::Clean(_) => Ok(Vec::new(alloc)),
+        }
     }
 
     fn site<'a>(&self, unit: &'a Unit, call: usize) -> Site<'a> {
-        let fault = &call_at(unit, call).fault;
+        let fault = &calls_of(unit)[call].fault;
         Site {
             code: fault.code,
             span: fault.span,

@@ -12,6 +12,6 @@ returns-then-branch-clause-unit c =
     let clean : IsClean kind c.args.bytes.now = rw (c.file_kind-kind.ensures, c.as_bytes.ensures.value) at (c.in_ok-is_clean.ensures c.if-branch.true) in
     (c.in_ok-file_interface.ensures ∙ interface_shown c.in_ok-file.file kind c.args.bytes.now read, clean)
 
-pub returns-in_ok-brief_of-clause-unit : goal.returns-in_ok-brief_of-clause-unit
-returns-in_ok-brief_of-clause-unit c =
+pub returns-clause-unit : goal.returns-clause-unit
+returns-clause-unit c =
     c.in_ok-brief_of.ensures (file_kind c.args.path.now) c.args.bytes.now (rw (c.file_kind-kind.ensures, c.as_bytes.ensures.value) at c.in_ok-file.ensures)
