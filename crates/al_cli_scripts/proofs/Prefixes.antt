@@ -6,9 +6,13 @@ use Rattle.std.proofs.lemmas.Grind.{common_steps}
 use Rattle.std.proofs.lemmas.List.{drop_more, take-append-drop, take_all}
 use Rattle.std.proofs.Math.Seq.{drop-drop}
 use Rattle.al_cli_scripts.specs.Script.{Command, Put, ScriptLine, PutLine, IsLine, IsPathText, line_bytes, line_of, body_of, HasNoBreak, command_bytes, IsWrong, IsPending}
-use Rattle.al_cli_scripts.specs.Private.Next.{IsFirst}
+use Rattle.al_cli_scripts.specs.Private.Next.{IsFirst, IsLengthOf}
 use Rattle.al_cli_scripts.proofs.Laws.{first_unique, last_unique, has_none, digits_without, line_unbroken, line_unique, no_early}
-use Rattle.std.proofs.Common.{Option, None, Some, Result, Ok, Err, MatchOption, min, get_or-take}
+use Rattle.std.proofs.Common.{Option, None, Some, Result, Ok, Err, MatchOption, min, get_or-take, Bool, true, false, ◌&&◌, nat_lt, ltb-true, bytes_eq}
+use Rattle.std.specs.Bool.{then_some}
+use Rattle.std.proofs.lemmas.Bool.{and_parts}
+use Rattle.std.proofs.lemmas.Bool.Decides.{nat_tests}
+use Rattle.std.proofs.lemmas.Slice.Eq.{bytes_eq-Decides}
 use Rattle.std.proofs.lemmas.List.Elements.{All-drop}
 use Rattle.std.proofs.lemmas.Fmt.{IsAscii-decimal, parse-decimal}
 use Rattle.std.proofs.lemmas.Str.{IsUtf8-from_ascii}
@@ -153,8 +157,17 @@ not_text ds bad n h e = bad (decimal_utf8 n ds h e)
 pub not_parsed : {E : Type 0} (ds text : List ℕ) (r : Result ℕ E) (x : E) → ParsesUnsigned 32 10 text r → text ≡ ds → r ≡ Err x → (n : ℕ) → n < 10 ^ 7 → ds ≢ decimal n
 not_parsed ds text r x p t q n h e = let f : r ≡ Ok n = parse-decimal 32 n text r (omega arith) (omega arith) (t ∙ e) p in absurd cc
 
-pub parsed_is : {E : Type 0} (ds text : List ℕ) (r : Result ℕ E) (k : ℕ) → ParsesUnsigned 32 10 text r → text ≡ ds → r ≡ Ok k → (n : ℕ) → n < 10 ^ 7 → ds ≡ decimal n → k ≡ n
-parsed_is ds text r k p t q n h e = let f : r ≡ Ok n = parse-decimal 32 n text r (omega arith) (omega arith) (t ∙ e) p in cc
+-- the number that was parsed, if it is below 10,000,000 and has these digits
+pub spelled : {E : Type 0} (ds text : List ℕ) (r : Result ℕ E) (k : ℕ) (b : Bool) → ParsesUnsigned 32 10 text r → text ≡ ds → r ≡ Ok k
+    → b ≡ (nat_lt k (10 ^ 7) && bytes_eq (decimal k) text) → IsLengthOf ds (then_some b k)
+spelled ds text r k true p t q b =
+    let parts = and_parts (nat_lt k (10 ^ 7)) (bytes_eq (decimal k) text) (sym b) in
+    (ltb-true k (10 ^ 7) parts.0, sym ((bytes_eq-Decides (decimal k) text).0 parts.1 ∙ t))
+spelled ds text r k false p t q b = λ n small e.
+    let f : r ≡ Ok n = parse-decimal 32 n text r (omega arith) (omega arith) (t ∙ e) p in
+    let same : k ≡ n = cc in
+    let all : bytes_eq (decimal k) text ≡ true = (bytes_eq-Decides (decimal k) text).1 (ap decimal same ∙ sym (t ∙ e)) in
+    absurd (grind (arith, nat_tests, b, all))
 
 -- bytes without a space aren't a path, a space and a length
 pub no_space : (rest : List ℕ) → All (λ b. b ≢ 32) rest → (path : List ℕ) (len : ℕ) → IsPathText path → len < 10 ^ 7 → rest ≢ path ++ 32 ∷ decimal len

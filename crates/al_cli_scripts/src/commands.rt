@@ -1,6 +1,6 @@
 //! The commands of a script, as bytes.
 
-ghost use Rattle.std.specs.Prelude.{◌≡◌, ◌≢◌, ◌<◌, ◌≤◌, ◌+◌, MatchOption, length, All, take, drop, slice_index};
+ghost use Rattle.std.specs.Prelude.{◌≡◌, ◌<◌, ◌≤◌, ◌+◌, MatchOption, length, take, slice_index};
 ghost use Rattle.al_base.specs.Limits.{longest_line};
 ghost use Rattle.al_cli_scripts.specs.Private.Next.{IsNext, IsLineOf, IsPutOf, IsLengthOf, IsPutLine, IsDeleteOf};
 ghost use Rattle.al_cli_scripts.specs.Script.{HasNoBreak, IsPathText};
@@ -94,10 +94,7 @@ fn read_line(line: &[u8]) -> Option<Line<'_>>
         return Some(Line::Report);
     }
     match line.strip_prefix(b"put ") {
-        Some(rest) => match read_put(rest) {
-            None => None,
-            Some((path, length)) => Some(Line::Put(path, length)),
-        },
+        Some(rest) => read_put(rest).map(|(path, length)| Line::Put(path, length)),
         None => read_delete(line),
     }
 }
@@ -109,10 +106,7 @@ fn read_delete(line: &[u8]) -> Option<Line<'_>>
 {
     match line.strip_prefix(b"delete ") {
         None => None,
-        Some(rest) => match read_path(rest) {
-            None => None,
-            Some(path) => Some(Line::Delete(path)),
-        },
+        Some(rest) => read_path(rest).map(|path| Line::Delete(path)),
     }
 }
 
@@ -121,15 +115,9 @@ fn read_put(rest: &[u8]) -> Option<(&str, usize)>
     requires { HasNoBreak rest.now }
     ensures { IsPutOf rest.now result }
 {
-    match last_space(rest) {
+    match rest.iter().rposition(|b| *b == b' ') {
         None => None,
-        Some(space) => match read_length(&rest[space + 1..]) {
-            None => None,
-            Some(length) => match read_path(&rest[..space]) {
-                None => None,
-                Some(path) => Some((path, length)),
-            },
-        },
+        Some(space) => read_path(&rest[..space]).zip(read_length(&rest[space + 1..])),
     }
 }
 
@@ -142,18 +130,7 @@ fn read_path(bytes: &[u8]) -> Option<&str>
     if bytes.is_empty() {
         return None;
     }
-    match str::from_utf8(bytes) {
-        Err(_) => None,
-        Ok(path) => Some(path),
-    }
-}
-
-fn last_space(text: &[u8]) -> Option<usize>
-    ensures { MatchOption result (All (λ b. b ≢ 32) text.now)
-        (λ at. (at < length text.now) × (slice_index text.now at ≡ 32)
-        × All (λ b. b ≢ 32) (drop (at + 1) text.now)) }
-{
-    text.iter().rposition(|b| *b == b' ')
+    str::from_utf8(bytes).ok()
 }
 
 // The number below ten million with these digits.
@@ -168,9 +145,5 @@ fn read_length(digits: &[u8]) -> Option<usize>
     };
     // Signs and leading zeros aren't allowed: a number has one spelling.
     let mut spelling = Buffer::new();
-    if length < LENGTHS && spelling.format(length) == text {
-        Some(length as usize)
-    } else {
-        None
-    }
+    (length < LENGTHS && spelling.format(length) == text).then_some(length as usize)
 }

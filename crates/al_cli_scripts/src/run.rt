@@ -1,16 +1,14 @@
 //! A script run over a session: commands read, replies and reports written.
 
-ghost use Rattle.std.specs.Prelude.{Err, None, false, max, ◌≡◌, ◌≢◌, [], ◌++◌, ◌⊎◌, ℕ, List, length};
+ghost use Rattle.std.specs.Prelude.{Err, None, max, ◌≡◌, ◌≢◌, [], ◌++◌, ◌⊎◌, length};
 ghost use Rattle.std.specs.Prelude.{codes, IfOk, OnOk, OnErr, IfErr, IsErrOf, decimal};
-ghost use Rattle.std.specs.Io.KnownBytes.{Keeps};
 ghost use Rattle.al_base.specs.Counted.{count_after};
 ghost use Rattle.al_base.specs.Streams.{bytes_left, turns_of, read_failures, largest_ask, bytes_written, write_failures};
 ghost use Rattle.al_base.specs.Streams.{Writes, WritesOrFails, WritesPrefix};
 ghost use Rattle.al_cli_scripts.specs.Private.Next.{meaning};
-ghost use Rattle.al_cli_scripts.specs.Script.{IsPending, BeginsWithCommand};
-ghost use Rattle.al_cli_scripts.specs.Runs.{CountsFailures, LeavesFolder, Ends, Runs, Turns, run_state};
+ghost use Rattle.al_cli_scripts.specs.Script.{IsPending};
+ghost use Rattle.al_cli_scripts.specs.Runs.{CountsFailures, LeavesFolder, Runs, Turns, run_state};
 ghost use Rattle.al_cli_scripts.specs.Replies as replies;
-ghost use Rattle.al_cli_scripts.specs.Script as script;
 ghost use Rattle.al_session.specs.declared.lint.Refused.TheVariants as refused;
 ghost use Rattle.al_cli_scripts.specs.Private.Answered.{Progresses, IsStuck};
 ghost use Rattle.al_base.specs.declared.stops.Stop.TheVariants.{ReadFault, WriteFault, Memory, TooManyTurns};
@@ -78,10 +76,10 @@ pub fn run_commands<R: Read, W: Write>(
     ensures folder { OnOk result (LeavesFolder (replies.session oneline) session.old.folder []
         (bytes_left R.remaining reader.old) session.new.folder) }
 {
-    let mut run = Run::new(alloc, oneline);
+    let mut waiting = Vec::new(alloc);
     let mut piece = empty_piece(alloc)?;
     for _turn in 0..MOST_READS {
-        match run.take_turn(session, &mut piece, reader, writer)? {
+        match take_turn(session, &mut waiting, &mut piece, reader, writer, oneline)? {
             Some(answer) => return Ok(answer),
             None => {}
         }
@@ -96,92 +94,48 @@ fn empty_piece(alloc: Global) -> Result<Vec<u8>, AllocError>
     vec![in alloc; 0u8; LARGEST_READ]
 }
 
-// The state of a run between two reads.
-#[derive(Drop)]
-struct Run {
-    oneline: bool,
-    // the bytes after the last whole command
-    waiting: Vec<u8>,
-}
-
-impl Run {
-    // A run that hasn't read anything.
-    fn new(alloc: Global, oneline: bool) -> Run
-        ensures oneline { result.oneline ≡ oneline }
-        ensures waiting { result.waiting.items ≡ [] }
-    {
-        Run {
-            oneline,
-            waiting: Vec::new(alloc),
-        }
-    }
-
-    // Makes one read, and answers the commands in it. `Some` is the result of a run that has ended.
-    fn take_turn<R: Read, W: Write>(
-        &mut self,
-        session: &mut Session<Actions>,
-        piece: &mut [u8],
-        reader: &mut Input<R>,
-        writer: &mut Output<W>,
-    ) -> Result<Option<u8>, Stop>
-        requires room { length piece.old ≡ largest_read }
-        requires pending { IsPending self.old.waiting.items }
-        ensures turn { Turns (replies.session self.old.oneline)
-            (run_state session.old.folder self.old.waiting.items
-            (bytes_left R.remaining reader.old) (bytes_written W.contents writer.old))
-            (run_state session.new.folder self.new.waiting.items
-            (bytes_left R.remaining reader.new) (bytes_written W.contents writer.new))
-            result }
-        ensures oneline { self.new.oneline ≡ self.old.oneline }
-        ensures turns { turns_of reader.new ≡ count_after (turns_of reader.old) 1 }
-        ensures asked { largest_ask reader.new ≡ max (largest_ask reader.old) largest_read }
-        ensures read_failures { CountsFailures result Stop.ReadFault (read_failures reader.old)
-            (read_failures reader.new) }
-        ensures write_failures { CountsFailures result Stop.WriteFault
-            (write_failures writer.old) (write_failures writer.new) }
-    {
-        let count = reader.read(piece)?;
-        if count == 0 {
-            return Ok(Some(finish(session, &self.waiting, writer)?));
-        }
-        self.waiting.extend_from_slice(&piece[..count])?;
-        match answer_all(session, &self.waiting, writer, self.oneline)? {
-            Progress::Bad => Ok(Some(2)),
-            Progress::Waits(done) => {
-                self.waiting.drain(..done);
-                writer.flush()?;
-                Ok(None)
-            }
-        }
-    }
-}
-
-// The result at the end of the input.
-fn finish<W: Write>(
+// Makes one read, and answers the commands in it. `waiting` has the bytes after the last whole command. `Some` is the result of a run that
+// has ended.
+fn take_turn<R: Read, W: Write>(
     session: &mut Session<Actions>,
-    waiting: &[u8],
+    waiting: &mut Vec<u8>,
+    piece: &mut [u8],
+    reader: &mut Input<R>,
     writer: &mut Output<W>,
-) -> Result<u8, Stop>
-    requires { BeginsWithCommand waiting.now → ⊥ }
-    ensures ok { IfOk result
-        (λ answer. (last : List ℕ)
-        × Ends (replies.session false) session.old.folder waiting.now last answer
-        × Writes W.contents writer.old writer.new last) }
-    ensures err { OnErr result
-        (((waiting.now ≢ [])
-        × WritesPrefix W.contents writer.old writer.new
-        (codes "bad command\n"))
-        ⊎ Keeps (bytes_written W.contents writer.old) (bytes_written W.contents writer.new)) }
-    ensures failures { CountsFailures result Stop.WriteFault
+    oneline: bool,
+) -> Result<Option<u8>, Stop>
+    requires room { length piece.old ≡ largest_read }
+    requires pending { IsPending waiting.old.items }
+    ensures turn { Turns (replies.session oneline)
+        (run_state session.old.folder waiting.old.items
+        (bytes_left R.remaining reader.old) (bytes_written W.contents writer.old))
+        (run_state session.new.folder waiting.new.items
+        (bytes_left R.remaining reader.new) (bytes_written W.contents writer.new))
+        result }
+    ensures turns { turns_of reader.new ≡ count_after (turns_of reader.old) 1 }
+    ensures asked { largest_ask reader.new ≡ max (largest_ask reader.old) largest_read }
+    ensures read_failures { CountsFailures result Stop.ReadFault (read_failures reader.old)
+        (read_failures reader.new) }
+    ensures write_failures { CountsFailures result Stop.WriteFault
         (write_failures writer.old) (write_failures writer.new) }
-    ensures only { IfErr result (λ e. (e ≡ WriteFault) ⊎ (e ≡ Memory)) }
-    ensures unchanged { session.new ≡ session.old }
 {
-    if waiting.is_empty() {
-        return Ok(session.status()?);
+    let count = reader.read(piece)?;
+    if count == 0 {
+        if waiting.is_empty() {
+            return Ok(Some(session.status()?));
+        }
+        writer.write_all(b"bad command\n")?;
+        return Ok(Some(2));
     }
-    writer.write_all(b"bad command\n")?;
-    Ok(2)
+    waiting.extend_from_slice(&piece[..count])?;
+    match answer_all(session, waiting, writer, oneline)? {
+        Progress::Bad => Ok(Some(2)),
+        Progress::Waits(done) => {
+            waiting.drain(..done);
+            writer.flush()?;
+            Ok(None)
+        }
+    }
 }
 
 // Answers each whole command at the beginning of the bytes, and a bad one.
@@ -242,7 +196,11 @@ fn answer<W: Write>(
     match command {
         Command::Put(path, bytes) => reply_to_edit(writer, session.put(path, bytes)),
         Command::Delete(path) => reply_to_edit(writer, session.delete(path)),
-        Command::Report => reply_to_report(writer, session, oneline),
+        Command::Report => {
+            session.report(writer, oneline)?;
+            let status = session.status()?;
+            write_number(writer, b"status ", u64::from(status))
+        }
     }
 }
 
@@ -276,28 +234,6 @@ pub fn number_of(refused: Refused) -> u64
         Refused::NoSuchFile => 5,
         Refused::Memory => 6,
     }
-}
-
-// Writes each file's faults, and the status.
-fn reply_to_report<W: Write>(
-    writer: &mut Output<W>,
-    session: &mut Session<Actions>,
-    oneline: bool,
-) -> Result<(), Stop>
-    ensures ok { OnOk result
-        (Writes W.contents writer.old writer.new
-        (replies.reply_to oneline session.old.folder script.Report)) }
-    ensures err { OnErr result
-        (WritesPrefix W.contents writer.old writer.new
-        (replies.reply_to oneline session.old.folder script.Report)) }
-    ensures failures { CountsFailures result Stop.WriteFault
-        (write_failures writer.old) (write_failures writer.new) }
-    ensures only { IfErr result (λ e. (e ≡ WriteFault) ⊎ (e ≡ Memory)) }
-    ensures unchanged { session.new ≡ session.old }
-{
-    session.report(writer, oneline)?;
-    let status = session.status()?;
-    write_number(writer, b"status ", u64::from(status))
 }
 
 // Writes a line with a word and a number.
