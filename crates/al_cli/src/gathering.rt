@@ -87,8 +87,7 @@ pub fn gather<R: Files + AllocGlobal + Clone + Drop>(
     ensures small { IfOk result (λ files.
         AllByRecursion (λ e. length e.1 ≤ largest_file) (map owned_entry files.items)) }
 {
-    let mut disk = SystemFolder::new(rt, words.root);
-    let gathering = gather_from(alloc, &mut disk, words)?;
+    let gathering = gather_from(alloc, &mut SystemFolder::new(rt, words.root), words)?;
     Ok(gathering.files.into_list()?)
 }
 
@@ -106,8 +105,7 @@ pub fn load<R: Files + AllocGlobal + Clone + Drop>(
         IsGathered (map (λ file. file.now) words.now.files.items) loaded.files.folder) }
     ensures unchecked { IfOk result (λ loaded. loaded.files.checks ≡ 0) }
 {
-    let mut disk = SystemFolder::new(rt, words.root);
-    load_from(alloc, &mut disk, words)
+    load_from(alloc, &mut SystemFolder::new(rt, words.root), words)
 }
 
 /// The same for any disk.
@@ -132,7 +130,14 @@ fn gather_from<D: Disk>(alloc: Global, disk: &mut D, words: &Words) -> Result<Ga
     ensures { IfOk result (λ gathering.
         AreInOrder (map (λ file. file.now) words.now.files.items) gathering.files) }
 {
-    let mut gathering = Gathering::new(alloc);
+    let mut gathering = Gathering {
+        files: TakenFiles::new(alloc),
+        candidates: Candidates {
+            waiting: BTreeSet::new(alloc),
+            absent: BTreeSet::new(alloc),
+        },
+        outside: Vec::new(alloc),
+    };
     if words.files.is_empty() {
         gathering.take_listed(disk)?;
     } else {
@@ -159,15 +164,6 @@ struct Candidates {
 }
 
 impl Candidates {
-    fn new(alloc: Global) -> Candidates
-        ensures { result.waiting.keys ≡ [] }
-    {
-        Candidates {
-            waiting: BTreeSet::new(alloc),
-            absent: BTreeSet::new(alloc),
-        }
-    }
-
     // Adds a path to those that wait, unless its file was taken or it was tried.
     fn add(&mut self, files: &TakenFiles, path: &Path) -> Result<(), Unread>
         requires waiting { AreAmong (called_by files.now) self.old.waiting.keys }
@@ -233,17 +229,6 @@ struct Gathering {
 }
 
 impl Gathering {
-    fn new(alloc: Global) -> Gathering
-        ensures files { result.files ≡ [] }
-        ensures waiting { result.candidates.waiting.keys ≡ [] }
-    {
-        Gathering {
-            files: TakenFiles::new(alloc),
-            candidates: Candidates::new(alloc),
-            outside: Vec::new(alloc),
-        }
-    }
-
     // Takes the files that the folder lists.
     fn take_listed<D: Disk>(&mut self, disk: &mut D) -> Result<(), Unread>
         requires files { (self.old).files ≡ [] }
@@ -254,18 +239,14 @@ impl Gathering {
     {
         let listed = match disk.workflows(self.files.alloc()) {
             Ok(listed) => listed,
-            Err(error) => return Err(disk_failure(self.files.alloc(), WORKFLOWS, error)),
+            Err(error) => return Err(self.disk_failure(WORKFLOWS, error)),
         };
         for path in &listed {
             let path = path.as_str();
             match self.take(disk, path)? {
                 Found::File => {}
                 Found::Outside => self.pass_over(path)?,
-                Found::Absent => return Err(disk_failure(
-                    self.files.alloc(),
-                    path,
-                    DiskError::Unreadable,
-                )),
+                Found::Absent => return Err(self.disk_failure(path, DiskError::Unreadable)),
             }
         }
         Ok(())
@@ -283,7 +264,7 @@ impl Gathering {
             let path = without_dot(file);
             match self.take(disk, path)? {
                 Found::File => {}
-                _ => return Err(disk_failure(self.files.alloc(), path, DiskError::Unreadable)),
+                _ => return Err(self.disk_failure(path, DiskError::Unreadable)),
             }
         }
         Ok(())
@@ -319,10 +300,7 @@ impl Gathering {
     {
         let number = self.files.len();
         match self.take(disk, path.as_str())? {
-            Found::File => {
-                self.candidates.add_calls(&self.files, number)?;
-                Ok(())
-            }
+            Found::File => self.candidates.add_calls(&self.files, number),
             Found::Outside => {
                 self.pass_over(path.as_str())?;
                 Ok(())
@@ -340,10 +318,10 @@ impl Gathering {
         ensures waiting { (self.new).candidates.waiting.keys
             ≡ (self.old).candidates.waiting.keys }
     {
-        self.outside.push(printable(self.files.alloc(), path)?)?;
-        self.candidates
-            .absent
-            .insert(String::from_str(self.files.alloc(), path)?)?;
+        let alloc = self.files.alloc();
+        self.outside.push(printable(alloc, path)?)?;
+        let path = String::from_str(alloc, path)?;
+        self.candidates.absent.insert(path)?;
         Ok(())
     }
 
@@ -355,10 +333,10 @@ impl Gathering {
             ≡ (self.old).candidates.waiting.keys }
     {
         if path_fault(path).is_some() {
-            return Err(refusal(self.files.alloc(), path, Refused::BadPath));
+            return Err(self.refusal(path, Refused::BadPath));
         }
         if !self.files.accepts(path) {
-            return Err(refusal(self.files.alloc(), path, Refused::NotAccepted));
+            return Err(self.refusal(path, Refused::NotAccepted));
         }
         if self.files.has(path) {
             return Ok(Found::File);
@@ -366,26 +344,25 @@ impl Gathering {
         match disk.read(self.files.alloc(), path) {
             Ok(Entry::File(bytes)) => match self.files.put(path, bytes) {
                 Ok(()) => Ok(Found::File),
-                Err(reason) => Err(refusal(self.files.alloc(), path, reason)),
+                Err(reason) => Err(self.refusal(path, reason)),
             },
             Ok(Entry::Absent) => Ok(Found::Absent),
             Ok(Entry::Outside) => Ok(Found::Outside),
-            Err(error) => Err(disk_failure(self.files.alloc(), path, error)),
+            Err(error) => Err(self.disk_failure(path, error)),
         }
     }
-}
 
-fn disk_failure(alloc: Global, path: &str, error: DiskError) -> Unread {
-    match (error, printable(alloc, path)) {
-        (DiskError::Unreadable, Ok(path)) => Unread::Unreadable(path),
-        (_, _) => Unread::Memory,
+    fn disk_failure(&self, path: &str, error: DiskError) -> Unread {
+        match (error, printable(self.files.alloc(), path)) {
+            (DiskError::Unreadable, Ok(path)) => Unread::Unreadable(path),
+            _ => Unread::Memory,
+        }
     }
-}
 
-fn refusal(alloc: Global, path: &str, reason: Refused) -> Unread {
-    match (reason, printable(alloc, path)) {
-        (Refused::Memory, _) => Unread::Memory,
-        (_, Err(_)) => Unread::Memory,
-        (reason, Ok(path)) => Unread::Refused(path, reason),
+    fn refusal(&self, path: &str, reason: Refused) -> Unread {
+        match (reason, printable(self.files.alloc(), path)) {
+            (Refused::Memory, _) | (_, Err(_)) => Unread::Memory,
+            (reason, Ok(path)) => Unread::Refused(path, reason),
+        }
     }
 }

@@ -89,7 +89,11 @@ impl TakenFiles {
         ensures put { OnOk result (self.new ≡ self.old ++ (path.now, bytes.items) ∷ []) }
         ensures as_before { OnErr result (self.new ≡ self.old) }
     {
-        let owned = owned_path(self.alloc(), path)?;
+        let owned = match Path::new(self.alloc(), path) {
+            Ok(owned) => owned,
+            Err(PathFault::Memory) => return Err(Refused::Memory),
+            Err(_) => return Err(Refused::BadPath),
+        };
         put_after(&mut self.files, &mut self.order, owned, bytes)
     }
 
@@ -112,19 +116,7 @@ impl TakenFiles {
         ensures list { IfOk result (λ files. map owned_entry files.items ≡ self) }
     {
         let TakenFiles { files, order } = self;
-        let list = with_bytes(&files, order)?;
-        Ok(list)
-    }
-}
-
-// The path of a file to be put.
-fn owned_path(alloc: Global, path: &str) -> Result<Path, Refused>
-    ensures { IfOk result (λ owned. owned ≡ path.now) }
-{
-    match Path::new(alloc, path) {
-        Ok(owned) => Ok(owned),
-        Err(PathFault::Memory) => Err(Refused::Memory),
-        Err(_) => Err(Refused::BadPath),
+        with_bytes(&files, order)
     }
 }
 

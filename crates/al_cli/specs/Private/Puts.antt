@@ -1,16 +1,10 @@
 -- Why putting files stopped.
-use Rattle.std.specs.Prelude.{◌≡◌, ℕ, List, Option, Some}
+use Rattle.std.specs.Prelude.{◌≡◌, ℕ, List}
 use Rattle.al_base.specs.declared.stops.Stop.TheVariants.{Memory}
 use Rattle.al_session.specs.Folder.{Folder}
-use Rattle.al_session.specs.declared.lint.Refused.{Refused}
 use Rattle.al_cli.specs.declared.linted.Fatal.{Fatal}
 use Rattle.al_cli.specs.declared.linted.Fatal.TheVariants as fatal
 use Rattle.al_cli.specs.Linted.{IsFirstRefused}
-
--- the file at this index was refused, or memory ran out
-abbrev pub IsStopped : ℕ → Option Refused → Fatal → Type 0
-IsStopped index refusal (fatal.Refused at refused) = (at ≡ index) × (refusal ≡ Some refused)
-IsStopped index refusal (fatal.Stopped stop) = stop ≡ Memory
 
 -- this file is the first that is refused, or memory ran out
 abbrev pub PutsStop : Folder → List (List ℕ × List ℕ) → Fatal → Type 0
