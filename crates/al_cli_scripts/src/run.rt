@@ -76,10 +76,9 @@ pub fn run_commands<R: Read, W: Write>(
     ensures folder { OnOk result (LeavesFolder (replies.session oneline) session.old.folder []
         (bytes_left R.remaining reader.old) session.new.folder) }
 {
-    let mut waiting = Vec::new(alloc);
-    let mut piece = empty_piece(alloc)?;
+    let mut run = Run::new(alloc, oneline)?;
     for _turn in 0..MOST_READS {
-        match take_turn(session, &mut waiting, &mut piece, reader, writer, oneline)? {
+        match run.take_turn(session, reader, writer)? {
             Some(answer) => return Ok(answer),
             None => {}
         }
@@ -87,53 +86,70 @@ pub fn run_commands<R: Read, W: Write>(
     Err(Stop::TooManyTurns)
 }
 
-// Room for one read. The clause leaves the zeros out: a tactic that sees `replicate 65536 0` computes it.
-fn empty_piece(alloc: Global) -> Result<Vec<u8>, AllocError>
-    ensures { IfOk result (λ piece. length piece.items ≡ largest_read) }
-{
-    vec![in alloc; 0u8; LARGEST_READ]
+// A run of a script.
+#[derive(Drop)]
+struct Run {
+    oneline: bool,
+    // The bytes after the last whole command.
+    waiting: Vec<u8>,
+    // Room for one read.
+    piece: Vec<u8>,
 }
 
-// Makes one read, and answers the commands in it. `waiting` has the bytes after the last whole command. `Some` is the result of a run that
-// has ended.
-fn take_turn<R: Read, W: Write>(
-    session: &mut Session<Actions>,
-    waiting: &mut Vec<u8>,
-    piece: &mut [u8],
-    reader: &mut Input<R>,
-    writer: &mut Output<W>,
-    oneline: bool,
-) -> Result<Option<u8>, Stop>
-    requires room { length piece.old ≡ largest_read }
-    requires pending { IsPending waiting.old.items }
-    ensures turn { Turns (replies.session oneline)
-        (run_state session.old.folder waiting.old.items
-        (bytes_left R.remaining reader.old) (bytes_written W.contents writer.old))
-        (run_state session.new.folder waiting.new.items
-        (bytes_left R.remaining reader.new) (bytes_written W.contents writer.new))
-        result }
-    ensures turns { turns_of reader.new ≡ count_after (turns_of reader.old) 1 }
-    ensures asked { largest_ask reader.new ≡ max (largest_ask reader.old) largest_read }
-    ensures read_failures { CountsFailures result Stop.ReadFault (read_failures reader.old)
-        (read_failures reader.new) }
-    ensures write_failures { CountsFailures result Stop.WriteFault
-        (write_failures writer.old) (write_failures writer.new) }
-{
-    let count = reader.read(piece)?;
-    if count == 0 {
-        if waiting.is_empty() {
-            return Ok(Some(session.status()?));
-        }
-        writer.write_all(b"bad command\n")?;
-        return Ok(Some(2));
+impl Run {
+    // A run that hasn't read anything. The clauses leave the zeros out: a tactic that sees `replicate 65536 0` computes it.
+    fn new(alloc: Global, oneline: bool) -> Result<Run, AllocError>
+        ensures oneline { IfOk result (λ run. run.oneline ≡ oneline) }
+        ensures waiting { IfOk result (λ run. run.waiting.items ≡ []) }
+        ensures room { IfOk result (λ run. length run.piece.items ≡ largest_read) }
+    {
+        Ok(Run {
+            oneline,
+            waiting: Vec::new(alloc),
+            piece: vec![in alloc; 0u8; LARGEST_READ]?,
+        })
     }
-    waiting.extend_from_slice(&piece[..count])?;
-    match answer_all(session, waiting, writer, oneline)? {
-        Progress::Bad => Ok(Some(2)),
-        Progress::Waits(done) => {
-            waiting.drain(..done);
-            writer.flush()?;
-            Ok(None)
+
+    // Makes one read, and answers the commands in it. `Some` is the result of a run that has ended.
+    fn take_turn<R: Read, W: Write>(
+        &mut self,
+        session: &mut Session<Actions>,
+        reader: &mut Input<R>,
+        writer: &mut Output<W>,
+    ) -> Result<Option<u8>, Stop>
+        requires room { length self.old.piece.items ≡ largest_read }
+        requires pending { IsPending self.old.waiting.items }
+        ensures turn { Turns (replies.session self.old.oneline)
+            (run_state session.old.folder self.old.waiting.items
+            (bytes_left R.remaining reader.old) (bytes_written W.contents writer.old))
+            (run_state session.new.folder self.new.waiting.items
+            (bytes_left R.remaining reader.new) (bytes_written W.contents writer.new))
+            result }
+        ensures oneline { self.new.oneline ≡ self.old.oneline }
+        ensures room { length self.new.piece.items ≡ largest_read }
+        ensures turns { turns_of reader.new ≡ count_after (turns_of reader.old) 1 }
+        ensures asked { largest_ask reader.new ≡ max (largest_ask reader.old) largest_read }
+        ensures read_failures { CountsFailures result Stop.ReadFault (read_failures reader.old)
+            (read_failures reader.new) }
+        ensures write_failures { CountsFailures result Stop.WriteFault
+            (write_failures writer.old) (write_failures writer.new) }
+    {
+        let count = reader.read(&mut self.piece)?;
+        if count == 0 {
+            if self.waiting.is_empty() {
+                return Ok(Some(session.status()?));
+            }
+            writer.write_all(b"bad command\n")?;
+            return Ok(Some(2));
+        }
+        self.waiting.extend_from_slice(&self.piece[..count])?;
+        match answer_all(session, &self.waiting, writer, self.oneline)? {
+            Progress::Bad => Ok(Some(2)),
+            Progress::Waits(done) => {
+                self.waiting.drain(..done);
+                writer.flush()?;
+                Ok(None)
+            }
         }
     }
 }
