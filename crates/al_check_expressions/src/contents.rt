@@ -1,17 +1,16 @@
 //! The faults of the expressions in one scalar, with their spans in the file.
 #![tactic(auto, using(al_base::proofs::Growing::growth, al_expr_typing::proofs::Shown::shown))]
 
-ghost use Rattle.std.specs.List.{flat_map};
-ghost use Rattle.std.specs.Prelude.{true, ◌≡◌, ◌++◌, ◌<◌, ◌^◌, map, All, OnOk};
+ghost use Rattle.std.specs.Prelude.{true, ◌≡◌, ◌++◌, ◌<◌, ◌^◌, map, OnOk};
 ghost use Rattle.al_scalar.specs.Scalar.{offset_of, text_of};
 ghost use Rattle.al_expr_grammar.specs.View.{expr_view};
 ghost use Rattle.al_expr_types.specs.Tables.{objects_of};
 ghost use Rattle.al_expr_typing.specs.Scopes.{IsShown, scope_view};
 ghost use Rattle.al_check_expressions.specs.Contents as contents;
-ghost use Rattle.al_check_expressions.specs.Contents.{chunk_faults, chunked_faults, content_faults, is_one_chunk};
+ghost use Rattle.al_check_expressions.specs.Contents.{chunked_faults, content_faults};
 ghost use Rattle.al_check_expressions.specs.Contents.{is_whole_span, fault_in_file, place_faults, tree_faults, HasRoom};
 ghost use Rattle.al_check_expressions.specs.Inside.{IsReadable};
-ghost use Rattle.al_expr_grammar.specs.Chunks.{chunks_of, span_of_chunk, IsCutFrom};
+ghost use Rattle.al_expr_grammar.specs.Chunks.{chunks_of, span_of_chunk};
 ghost use Rattle.al_check_places.specs.Places.{place_of};
 ghost use Rattle.al_base.specs.Growth.{BeginsWith};
 

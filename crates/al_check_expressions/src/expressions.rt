@@ -1,10 +1,8 @@
 //! All expressions of a file.
 ghost use Rattle.std.specs.Prelude.{◌≡◌, ◌++◌, ◌+◌, OnOk};
-ghost use Rattle.al_check_expressions.specs.FileExpressions.{expression_faults as faults_in, expression_faults_at};
-ghost use Rattle.al_check_expressions.specs.Inside.{IsReadable};
+ghost use Rattle.al_check_expressions.specs.FileExpressions.{expression_faults as faults_in};
 ghost use Rattle.al_check_contexts.specs.Answered.{known_of};
 ghost use Rattle.al_check_contexts.specs.Environments.{HasMoved, IsAtPosition, file_of};
-ghost use Rattle.al_check_places.specs.Places.{place_of};
 ghost use Rattle.al_base.specs.Limits.{largest_file};
 ghost use Rattle.al_yaml_tree.specs.Spans.{IsLaid};
 ghost use Rattle.al_yaml_tree.specs.Texts.{HasTexts};

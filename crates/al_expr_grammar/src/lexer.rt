@@ -1,6 +1,7 @@
 //! The tokens of a content, or the character at which they end early.
 
-ghost use Rattle.std.specs.Prelude.{map, IfOk, IfSome, All, MatchOption, MatchResult, drop, slice_index, ◌+◌, ◌≡◌, ◌≢◌, ◌≤◌, ◌<◌, Some, length};
+ghost use Rattle.std.specs.Prelude.{map, IfOk, IfSome, All, MatchOption, MatchResult, drop, slice_index};
+ghost use Rattle.std.specs.Prelude.{◌+◌, ◌≡◌, ◌≢◌, ◌≤◌, ◌<◌, Some, length};
 ghost use Rattle.std.specs.Int.{is_in_range};
 ghost use Rattle.std.specs.List.{prefix_len};
 ghost use Rattle.al_expr_grammar.specs.Lexeme.{seen};

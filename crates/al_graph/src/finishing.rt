@@ -1,6 +1,6 @@
 //! A postorder of a graph: the order in which a depth-first search finishes its nodes.
 
-ghost use Rattle.al_graph.specs.Private.Finishing.{IsFinished, IsSearch, cost, frame_of, frames_of};
+ghost use Rattle.al_graph.specs.Private.Finishing.{IsFinished, IsSearch, frames_of};
 ghost use Rattle.al_graph.specs.Graphs.{Edge, edges_of};
 ghost use Rattle.al_graph.specs.Private.Marks.{Marked};
 ghost use Rattle.std.specs.Prelude.{◌≡◌, ℕ, ◌<◌, ◌++◌, ◌∷◌, [], false, true, length, slice_index_or, set, IfOk, OnOk};

@@ -1,6 +1,6 @@
 //! The faults of calls on a call cycle, merged with the file's own faults.
 
-ghost use Rattle.std.specs.Prelude.{◌≡◌, ◌++◌, ◌==◌, IfOk, OnOk, length, not};
+ghost use Rattle.std.specs.Prelude.{◌≡◌, ◌==◌, IfOk, length, not};
 ghost use Rattle.std.specs.List.{enumerate_from, list_any};
 ghost use Rattle.al_session_folder.specs.Kept.{folder_of, referents};
 ghost use Rattle.al_session_folder.specs.Cycles as cycles;
