@@ -8,7 +8,6 @@ ghost use Rattle.std.specs.Cmp.Lexicographic.{slice_cmp};
 ghost use Rattle.al_base.specs.Limits.{largest_file};
 ghost use Rattle.al_session.specs.Affected.{is_among};
 ghost use Rattle.al_session.specs.Folder.{paths_of};
-ghost use Rattle.al_session.specs.Meaning.{candidates};
 ghost use Rattle.al_cli.specs.Private.Turns.{AreAmong, IsCalling, IsTakenAs, IsTakenIfThere};
 ghost use Rattle.al_cli.specs.Taken.{AreGathered, AreInOrder, IsGathered, owned_entry};
 ghost use Rattle.al_cli.specs.Taken.{called_by, each_once, path_named};
@@ -184,29 +183,15 @@ impl Candidates {
         ensures { OnOk result (AreAmong (called_by files.now) self.new.waiting.keys) }
     {
         for call in files.calls(number) {
-            self.add_call(files, call)?;
+            match call {
+                Target::Only(path) => self.add(files, path)?,
+                Target::FirstOf(first, second) => {
+                    self.add(files, first)?;
+                    self.add(files, second)?;
+                }
+            }
         }
         Ok(())
-    }
-
-    // Adds the candidates of a call.
-    fn add_call(&mut self, files: &TakenFiles, call: &Target) -> Result<(), Unread>
-        requires waiting { AreAmong (called_by files.now) self.old.waiting.keys }
-        requires called { AllByRecursion (λ path. is_among path (called_by files.now) ≡ true)
-            (candidates call.now) }
-        ensures { OnOk result (AreAmong (called_by files.now) self.new.waiting.keys) }
-    {
-        match call {
-            Target::Only(path) => {
-                self.add(files, path)?;
-                Ok(())
-            }
-            Target::FirstOf(first, second) => {
-                self.add(files, first)?;
-                self.add(files, second)?;
-                Ok(())
-            }
-        }
     }
 }
 
