@@ -21,8 +21,9 @@ pub fn is_same_name(a: &[u8], b: &[u8]) -> bool
 fn end_alike(a: &[u8], b: &[u8]) -> bool
     ensures { IsTrue (same_name a.now b.now) → IsTrue result }
 {
-    match (a, b) {
-        ([.., last_a], [.., last_b]) => a.len() == b.len() && last_a.eq_ignore_ascii_case(last_b),
-        _ => a.len() == b.len(),
+    let length = a.len();
+    if length != b.len() {
+        return false;
     }
+    length == 0 || a[length - 1].eq_ignore_ascii_case(&b[length - 1])
 }

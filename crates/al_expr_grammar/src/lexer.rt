@@ -42,7 +42,7 @@ fn name_len(bytes: &[u8]) -> usize
 {
     bytes
         .iter()
-        .take_while(|b| matches!(**b, b'a'..=b'z' | b'A'..=b'Z' | b'0'..=b'9' | b'_' | b'-'))
+        .take_while(|b| b.is_ascii_alphanumeric() || **b == b'_' || **b == b'-')
         .count()
 }
 
