@@ -8,7 +8,7 @@ use Rattle.al_scalar.specs.Scalar.{Scalar, offset_of, text_of}
 pub same_end : (s : Scalar) (i : ℕ) → length (text_of s) ≤ i → offset_of s (length (text_of s)) ≡ offset_of s i
 same_end s i h =
     let e = length-map s.cells (λ c. c.0) in
-    offset_or-end s.cells s.end (length (text_of s)) (omega (arith, e)) ∙ sym (offset_or-end s.cells s.end i (omega (arith, e, h)))
+    offset_or-end s.cells s.span.end (length (text_of s)) (omega (arith, e)) ∙ sym (offset_or-end s.cells s.span.end i (omega (arith, e, h)))
 
 -- An index cut off at the end of the text has the same offset.
 pub offset_by_end : (s : Scalar) (i : ℕ) → offset_of s (min i (length (text_of s))) ≡ offset_of s i

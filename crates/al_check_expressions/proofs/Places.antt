@@ -31,12 +31,12 @@ either_small false high end most h e = e
 
 pub readable : (s : Scalar) (at : Span) → IsPlaced 1048576 s at → at.end ≤ 1048576 → (length (text_of s) ≤ 4194304) × HasRoom s
 readable s at p h =
-    let end : s.end ≤ 1048576 = omega (arith, h, p.end) in
-    let far : reach 1048576 s.style s.end ≤ 1048576 = either_small (is_block s.style) 1048576 s.end 1048576 (omega arith) end in
+    let end : s.span.end ≤ 1048576 = omega (arith, h, p.end) in
+    let far : reach 1048576 s.style s.span.end ≤ 1048576 = either_small (is_block s.style) 1048576 s.span.end 1048576 (omega arith) end in
     let many = p.small in
     let same = length-map s.cells (λ c. c.0) in (
       omega (arith, far, many, same),
-      (λ i. let there = below s.cells at.start (reach 1048576 s.style s.end) s.end 1048576 p.rising far end i in omega (arith, there)),
+      (λ i. let there = below s.cells at.start (reach 1048576 s.style s.span.end) s.span.end 1048576 p.rising far end i in omega (arith, there)),
     )
 
 -- ---- all places of a tree that was read

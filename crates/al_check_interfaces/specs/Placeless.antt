@@ -11,7 +11,7 @@ use Rattle.al_check_interfaces.specs.Interfaces.{interface_of, parameter}
 use Rattle.al_check_interfaces.specs.declared.signatures.Declaring.{Declaring}
 
 abbrev pub placeless_scalar : Scalar → Scalar
-placeless_scalar s = record { style = s.style; class = s.class; cells = map (λ (c : Cell). (c.0, 0)) s.cells; end = 0 }
+placeless_scalar s = record { style = s.style; class = s.class; cells = map (λ (c : Cell). (c.0, 0)) s.cells; span = span 0 0 }
 
 -- a tree with all nodes and texts moved to the offset 0
 abbrev mutual

@@ -21,7 +21,7 @@ use al_scalar::Scalar;
 use al_tree::{
     contains_chunk, is_combination_key, items, key_of, key_text, members, value, value_below_two,
 };
-use al_yaml_tree::{Entry, Kind, Node};
+use al_yaml_tree::{Entry, Node};
 use std::alloc::{AllocError, Global};
 
 /// The type of a scalar. Fails with `AllocError` when out of memory, as everything here does.
@@ -41,14 +41,14 @@ fn scalar_type(alloc: Global, scalar: &Scalar) -> Result<Ty, AllocError>
 fn node_type<'a>(types: &mut Types<'a>, node: &'a Node) -> Result<Ty, AllocError>
     ensures { Makes types.old types.new result (matrix.node_type (view node.entry.now)) }
 {
-    match &node.kind {
-        Kind::Scalar(scalar) => scalar_type(types.alloc(), scalar),
-        Kind::Sequence(nodes) => {
-            let ty = items_type(types, nodes.as_slice())?;
+    match node {
+        Node::Scalar(scalar) => scalar_type(types.alloc(), scalar),
+        Node::Sequence { items, .. } => {
+            let ty = items_type(types, items.as_slice())?;
             ty.in_arrays(1)
         }
-        Kind::Mapping(entries) => entries_type(types, entries.as_slice()),
-        Kind::Shared(inner) => node_type(types, inner),
+        Node::Mapping { entries, .. } => entries_type(types, entries.as_slice()),
+        Node::Shared(inner) => node_type(types, inner),
     }
 }
 

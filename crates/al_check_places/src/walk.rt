@@ -22,7 +22,7 @@ use al_tree::{
     FileKind, KeyIndex, Keys, Rule, ScalarNode, ScalarSet, Shape, Standing, contains_chunk,
     is_null_scalar, key_of, refine, root_shape, rule_of, scalar_fault, standing_of,
 };
-use al_yaml_tree::{Entry, Kind, Node};
+use al_yaml_tree::{Entry, Node};
 use std::alloc::{AllocError, Global};
 
 /// A scalar with expressions, and what their checks depend on.
@@ -136,24 +136,24 @@ fn find<'a>(
     ensures way { OnOk result (walk.new.way.steps.items ≡ walk.old.way.steps.items) }
     ensures kind { OnOk result (walk.new.kind ≡ walk.old.kind) }
 {
-    match &node.kind {
-        Kind::Scalar(scalar) => {
+    match node {
+        Node::Scalar(scalar) => {
             let scalar = ScalarNode {
                 scalar,
-                span: node.span,
+                span: scalar.span(),
             };
             find_scalar(shape, is_item, scalar, walk)
         }
-        Kind::Sequence(nodes) => match rule_at(shape).items {
+        Node::Sequence { items, .. } => match rule_at(shape).items {
             None => Ok(()),
-            Some(inner) => find_items(inner, nodes.as_slice(), walk),
+            Some(inner) => find_items(inner, items.as_slice(), walk),
         },
-        Kind::Mapping(entries) => find_entries(
+        Node::Mapping { entries, .. } => find_entries(
             rule_at(refine(shape, entries.as_slice())).keys,
             entries.as_slice(),
             walk,
         ),
-        Kind::Shared(inner) => find(shape, is_item, inner, walk),
+        Node::Shared(inner) => find(shape, is_item, inner, walk),
     }
 }
 

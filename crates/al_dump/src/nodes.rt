@@ -2,7 +2,7 @@
 
 use crate::scalars::push_scalar;
 use al_base::Span;
-use al_yaml_tree::{Entry, Kind, Node};
+use al_yaml_tree::{Entry, Node};
 use std::alloc::{AllocError, Global};
 
 /// The end of a collection, with its span.
@@ -23,25 +23,25 @@ fn push_comma(out: &mut String, index: usize) -> Result<(), AllocError> {
 /// A node of a tree.
 #[cycle(nodes)]
 pub fn push_node(alloc: Global, out: &mut String, node: &Node) -> Result<(), AllocError> {
-    match &node.kind {
-        Kind::Scalar(scalar) => push_scalar(alloc, out, scalar, node.span),
-        Kind::Sequence(items) => {
+    match node {
+        Node::Scalar(scalar) => push_scalar(alloc, out, scalar, scalar.span()),
+        Node::Sequence { items, span } => {
             out.push_str("{\"kind\":\"list\",\"items\":[")?;
             for (i, item) in items.iter().enumerate() {
                 push_comma(out, i)?;
                 push_node(alloc, out, item)?;
             }
-            push_end(alloc, out, node.span)
+            push_end(alloc, out, *span)
         }
-        Kind::Mapping(entries) => {
+        Node::Mapping { entries, span } => {
             out.push_str("{\"kind\":\"mapping\",\"entries\":[")?;
             for (i, entry) in entries.iter().enumerate() {
                 push_comma(out, i)?;
                 push_entry(alloc, out, entry)?;
             }
-            push_end(alloc, out, node.span)
+            push_end(alloc, out, *span)
         }
-        Kind::Shared(node) => push_node(alloc, out, node),
+        Node::Shared(node) => push_node(alloc, out, node),
     }
 }
 

@@ -18,7 +18,7 @@ reading_at places.Flow ls = value.scalar_at plain.flow ls
 reading_at places.Empty ls = Ok (value.empty_at ls)
 
 abbrev pub read_of : List ℕ → ScalarRead → value.ScalarRead
-read_of bytes r = record { scalar = r.scalar; span = r.span; left = lines_at bytes r.next }
+read_of bytes r = record { scalar = r.scalar; left = lines_at bytes r.next }
 
 -- a fault as the definitions have it: its code and where its span starts
 abbrev pub placed_fault : YamlFault → FaultAt
@@ -31,5 +31,5 @@ GivesScalar bytes at place (Err f) =
 
 -- the scalar begins at the offset and ends no later than the next one to read, which is in the file; a fault isn't before the offset
 abbrev pub LiesAfter : List ℕ → ℕ → Result ScalarRead YamlFault → Type 0
-LiesAfter bytes at (Ok r) = (r.span.start ≡ at) × (at ≤ r.span.end) × (r.span.end ≤ r.next) × (r.next ≤ length bytes)
+LiesAfter bytes at (Ok r) = (r.scalar.span.start ≡ at) × (at ≤ r.scalar.span.end) × (r.scalar.span.end ≤ r.next) × (r.next ≤ length bytes)
 LiesAfter bytes at (Err f) = (at ≤ f.span.start) × (f.span.start ≤ length bytes)

@@ -16,17 +16,16 @@ use Rattle.al_scalar.specs.declared.styles.Class.TheVariants as class
 use Rattle.al_base.specs.Spans.{span}
 use Rattle.al_base.specs.declared.faults.Span.{Span}
 
--- the end is that of the written form, which `locate` returns for the length of the text
+-- the span is that of the written form; `locate` returns its end for the length of the text
 pub record Scalar : Type 0 where
   pub style : Style
   pub class : Class
   pub cells : List Cell
-  pub end : ℕ
+  pub span : Span
 
--- a scalar that was read, the span of its written form, and the lines left
+-- a scalar that was read, and the lines left
 pub record ScalarRead : Type 0 where
   pub scalar : Scalar
-  pub span : Span
   pub left : List Line
 
 -- the class of a plain scalar is that of its text; all others are strings (10.3.2)
@@ -36,8 +35,7 @@ class_in _ cs = class.Str
 
 abbrev pub read_as : Style → ℕ → Result Taken FaultAt → Result ScalarRead FaultAt
 read_as style at taken = taken >>= (λ t. Ok (record {
-  scalar = record { style = style; class = class_in style t.text; cells = t.text; end = t.end };
-  span = span at t.end;
+  scalar = record { style = style; class = class_in style t.text; cells = t.text; span = span at t.end };
   left = t.left;
 }))
 
@@ -76,17 +74,17 @@ scalar_at p (l ∷ ls) =
 
 -- the empty node (7.2) at an offset
 abbrev pub empty_scalar : ℕ → Scalar
-empty_scalar at = record { style = style.Plain; class = class.Null; cells = []; end = at }
+empty_scalar at = record { style = style.Plain; class = class.Null; cells = []; span = span at at }
 
 abbrev pub empty_at : List Line → ScalarRead
-empty_at ls = record { scalar = empty_scalar (start ls); span = span (start ls) (start ls); left = ls }
+empty_at ls = record { scalar = empty_scalar (start ls); left = ls }
 
 -- the offset of cell i, or the end if there are no more cells
 abbrev pub offset_or : List Cell → ℕ → ℕ → ℕ
 offset_or cs end i = slice_index_or (map (λ (c : Cell). c.1) cs) i end
 
 abbrev pub offset_of : Scalar → ℕ → ℕ
-offset_of s i = offset_or s.cells s.end i
+offset_of s i = offset_or s.cells s.span.end i
 
 abbrev pub text_of : Scalar → List ℕ
 text_of s = map (λ (c : Cell). c.0) s.cells

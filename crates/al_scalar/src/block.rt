@@ -317,7 +317,7 @@ pub fn read_block(
             at: place,
         }));
     }
-    let mut text = Text::new(alloc);
+    let mut text = Text::new(alloc, at);
     let end = line_end(bytes, header.end);
     if end == bytes.len() {
         return Ok(Ok(Taken {

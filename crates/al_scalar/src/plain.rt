@@ -167,7 +167,7 @@ pub fn read_plain(
         (λ read. Gives bytes.now (plain.plain (context_of context) (lines_at bytes.now at)) read) }
     ensures within { IfOk result (λ read. StaysWithin bytes.now at read) }
 {
-    let mut text = Text::new(alloc);
+    let mut text = Text::new(alloc, at);
     let mut end = plain_end(bytes, at, context, false);
     text.push_run(bytes, at, end)?;
     'text_lines: loop {

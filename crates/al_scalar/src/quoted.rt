@@ -250,7 +250,7 @@ pub fn read_quoted(
         (λ read. Gives bytes.now (quoted_in quotes quote (lines_at bytes.now (suc quote))) read) }
     ensures within { IfOk result (λ read. StaysWithin bytes.now quote read) }
 {
-    let mut text = Text::new(alloc);
+    let mut text = Text::new(alloc, quote);
     let mut at = quote + 1;
     'runs: loop {
         let run = literal_run(bytes, at, quotes);

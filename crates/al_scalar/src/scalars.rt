@@ -1,12 +1,14 @@
 //! A scalar, and the result of reading one.
 
-ghost use Rattle.std.specs.Prelude.{◌≡◌, ◌<◌, ◌≤◌, ◌^◌, length, IsUtf8};
+ghost use Rattle.std.specs.Prelude.{◌≡◌, ◌<◌, ◌≤◌, ◌^◌, length, IfOk, IsUtf8};
+ghost use Rattle.al_scalar.specs.Private.Forms as forms;
 ghost use Rattle.al_scalar.specs.Scalar.{offset_of, text_of};
 
 use crate::reads::Taken;
 use crate::styles::{Class, Style};
-use crate::texts::Text;
+use crate::texts::{Form, LongText, ShortText, Text};
 use al_base::Span;
+use std::alloc::{AllocError, Global};
 use std::marker::Model;
 
 /// The context in which a scalar is read.
@@ -27,18 +29,45 @@ pub enum ScalarContext {
 /// `''` that of the first quote, and a space or line feed from a line break that of the first byte of the break.
 #[derive(Drop)]
 pub struct Scalar {
-    style: Style,
-    class: Class,
-    end: u32,
-    text: Text,
+    form: ScalarForm,
+}
+
+/// How a scalar is stored. Most have a short text, which is all of the written form but its quotes, so that the span
+/// follows from the text.
+#[derive(Drop)]
+enum ScalarForm {
+    Short {
+        text: ShortText,
+        style: Style,
+        class: Class,
+    },
+    Long {
+        text: Box<LongText>,
+        style: Style,
+        class: Class,
+        span: Span,
+    },
+}
+
+/// The number of bytes of each quote around a scalar of a style.
+fn quote_len(style: Style) -> u32
+    ensures { result ≡ forms.quote_len style }
+{
+    match style {
+        Style::SingleQuoted | Style::DoubleQuoted => 1,
+        Style::Plain | Style::Literal | Style::Folded => 0,
+    }
 }
 
 impl Model for Scalar {
     ghost use Rattle.al_scalar.specs.Scalar.{Scalar as ScalarValue};
+    ghost use Rattle.al_scalar.specs.Private.Forms.{scalar_of, IsSoundScalar};
 
     ghost Value = { ScalarValue };
 
-    ghost view = { λ s. record { style = s.style; class = s.class; cells = s.text; end = s.end } };
+    ghost view = { λ s. scalar_of s.form };
+
+    ghost invariant = { λ s. IsSoundScalar s.form };
 }
 
 impl Scalar {
@@ -46,21 +75,41 @@ impl Scalar {
     pub fn style(&self) -> Style
         ensures { result ≡ (self.now).style }
     {
-        self.style
+        match &self.form {
+            ScalarForm::Short { style, .. } => *style,
+            ScalarForm::Long { style, .. } => *style,
+        }
+    }
+
+    /// The span of the written form, including quotes; that of a block scalar extends from its indicator to the end of
+    /// the text of its last line.
+    pub fn span(&self) -> Span
+        ensures { result ≡ (self.now).span }
+    {
+        match &self.form {
+            ScalarForm::Short { text, style, .. } => text.span_with(quote_len(*style)),
+            ScalarForm::Long { span, .. } => *span,
+        }
     }
 
     /// The class of the scalar by the core schema.
     pub fn class(&self) -> Class
         ensures { result ≡ (self.now).class }
     {
-        self.class
+        match &self.form {
+            ScalarForm::Short { class, .. } => *class,
+            ScalarForm::Long { class, .. } => *class,
+        }
     }
 
     /// The decoded bytes.
     pub fn text(&self) -> &[u8]
         ensures { result.now ≡ text_of self.now }
     {
-        self.text.as_bytes()
+        match &self.form {
+            ScalarForm::Short { text, .. } => text.as_bytes(),
+            ScalarForm::Long { text, .. } => text.as_bytes(),
+        }
     }
 
     /// The decoded bytes as text, without a check: the caller guarantees that they are UTF-8, as they are if the file
@@ -70,7 +119,7 @@ impl Scalar {
         ensures { result.now ≡ text_of self.now }
     {
         // The bytes are UTF-8, by the precondition.
-        unsafe { str::from_utf8_unchecked(self.text.as_bytes()) }
+        unsafe { str::from_utf8_unchecked(self.text()) }
     }
 
     /// The file offset, in bytes, from which the byte at an index of the text came. For the length of the text, the end
@@ -79,10 +128,12 @@ impl Scalar {
         requires { i ≤ length (text_of self.now) }
         ensures { result ≡ offset_of self.now i }
     {
-        if i == self.text.as_bytes().len() {
-            self.end
-        } else {
-            self.text.locate(i)
+        if i == self.text().len() {
+            return self.span().end;
+        }
+        match &self.form {
+            ScalarForm::Short { text, .. } => text.locate(i),
+            ScalarForm::Long { text, .. } => text.locate(i),
         }
     }
 }
@@ -91,35 +142,66 @@ impl Scalar {
 #[derive(Drop)]
 pub struct ScalarRead {
     pub scalar: Scalar,
-    /// The span of the written form, including quotes; that of a block scalar extends from its indicator to the end of
-    /// the text of its last line.
-    pub span: Span,
     /// The byte offset at which the rest of the file begins: for a block scalar, the start of the line that ends it or
     /// the end of the file; otherwise the end of the span.
     pub next: usize,
 }
 
-/// The scalar made of what was read from an offset on.
-pub fn scalar_read(at: usize, style: Style, class: Class, taken: Taken) -> ScalarRead
-    requires start { at < 2 ^ 32 }
-    requires end { taken.end < 2 ^ 32 }
-    ensures scalar { result.scalar
-        ≡ record { style = style; class = class; cells = taken.text; end = taken.end } }
-    ensures span { result.span ≡ record { start = at; end = taken.end } }
-    ensures next { result.next ≡ taken.next }
+/// How a scalar with a text and a span is stored. Fails with `AllocError` when out of memory.
+fn form_of(
+    alloc: Global,
+    style: Style,
+    class: Class,
+    span: Span,
+    text: Text,
+) -> Result<ScalarForm, AllocError>
+    ensures scalar { IfOk result (λ form. forms.scalar_of form
+        ≡ record { style = style; class = class; cells = text; span = span }) }
+    ensures sound { IfOk result forms.IsSoundScalar }
 {
-    let end = taken.end as u32;
-    ScalarRead {
-        scalar: Scalar {
+    match text.into_form() {
+        Form::Short(text) if text.fills(quote_len(style), span) => {
+            Ok(ScalarForm::Short { text, style, class })
+        }
+        Form::Short(short) => {
+            let text = Box::new(alloc, short.to_long(alloc)?)?;
+            Ok(ScalarForm::Long {
+                text,
+                style,
+                class,
+                span,
+            })
+        }
+        Form::Long(text) => Ok(ScalarForm::Long {
+            text,
             style,
             class,
-            text: taken.text,
-            end,
-        },
-        span: Span {
-            start: at as u32,
-            end,
-        },
-        next: taken.next,
+            span,
+        }),
     }
+}
+
+/// The scalar made of what was read from an offset on. Fails with `AllocError` when out of memory.
+pub fn scalar_read(
+    alloc: Global,
+    at: usize,
+    style: Style,
+    class: Class,
+    taken: Taken,
+) -> Result<ScalarRead, AllocError>
+    requires start { at < 2 ^ 32 }
+    requires end { taken.end < 2 ^ 32 }
+    ensures scalar { IfOk result (λ read. read.scalar
+        ≡ record { style = style; class = class; cells = taken.text; span = record { start = at; end = taken.end } }) }
+    ensures next { IfOk result (λ read. read.next ≡ taken.next) }
+{
+    let span = Span {
+        start: at as u32,
+        end: taken.end as u32,
+    };
+    let form = form_of(alloc, style, class, span, taken.text)?;
+    Ok(ScalarRead {
+        scalar: Scalar { form },
+        next: taken.next,
+    })
 }

@@ -6,9 +6,10 @@ ghost use Rattle.al_scalar.specs.LineEnds.{cells_between};
 ghost use Rattle.al_scalar.specs.Scalar.{offset_or};
 ghost use Rattle.al_scalar.specs.Private.Segments.{first_run, offset_in, offset_at, cells_from, AreUpTo, AreInRange, IsRising};
 ghost use Rattle.al_scalar.specs.Private.Segments.{IsOrdered, GoesOn, run_cells};
-ghost use Rattle.al_scalar.specs.Private.Forms.{short_cells, IsSound};
+ghost use Rattle.al_scalar.specs.Private.Forms.{cells_of, short_cells, short_span, IsSound};
 ghost use Rattle.al_scalar.specs.declared.texts.Form.TheVariants.{Short};
 
+use al_base::Span;
 use std::alloc::{AllocError, Global};
 use std::marker::Model;
 
@@ -120,7 +121,7 @@ impl Runs {
 
 /// Decoded bytes of several runs, or more bytes than fit inline.
 #[derive(Drop)]
-struct LongText {
+pub struct LongText {
     bytes: Vec<u8>,
     runs: Runs,
 }
@@ -149,14 +150,14 @@ impl LongText {
     }
 
     /// The decoded bytes.
-    fn as_bytes(&self) -> &[u8]
+    pub fn as_bytes(&self) -> &[u8]
         ensures { result.now ≡ map (λ (c : Cell). c.0) self.now }
     {
         self.bytes.as_slice()
     }
 
     /// The offset from which the byte at an index came.
-    fn locate(&self, i: usize) -> u32
+    pub fn locate(&self, i: usize) -> u32
         requires { i < length self.now }
         ensures { (end : ℕ) → result ≡ offset_or self.now end i }
     {
@@ -165,19 +166,58 @@ impl LongText {
 }
 
 /// The number of bytes stored inline: most keys and values fit, and need no allocation.
-const SHORT: usize = 26;
+const SHORT: usize = 23;
 
-/// The bytes of a text of one moving run.
+/// The bytes of a text of one moving run, and the offset at which it begins, even if it is empty.
 #[derive(Clone, Copy)]
 pub struct ShortText {
-    count: u8,
     bytes: [u8; SHORT],
+    count: u8,
     first: u32,
 }
 
 impl ShortText {
+    /// The decoded bytes.
+    pub fn as_bytes(&self) -> &[u8]
+        requires { IsSound (Short self.now) }
+        ensures { result.now ≡ map (λ (c : Cell). c.0) (short_cells self.now) }
+    {
+        &self.bytes[..self.count as usize]
+    }
+
+    /// The offset from which the byte at an index came.
+    pub fn locate(&self, i: usize) -> u32
+        requires sound { IsSound (Short self.now) }
+        requires inside { i < length (short_cells self.now) }
+        ensures { (end : ℕ) → result ≡ offset_or (short_cells self.now) end i }
+    {
+        Segment::first(self.first).locate(i)
+    }
+
+    /// The span of the text with so many bytes before and after it.
+    pub fn span_with(&self, around: u32) -> Span
+        requires before { around ≤ self.now.first }
+        requires after { self.now.first + self.now.count + around < 2 ^ 32 }
+        ensures { result ≡ short_span around self.now }
+    {
+        Span {
+            start: self.first - around,
+            end: self.first + self.count as u32 + around,
+        }
+    }
+
+    /// Whether the text, with so many bytes before and after it, is all of a span.
+    pub fn fills(&self, around: u32, span: Span) -> bool
+        requires { IsSound (Short self.now) }
+        ensures before { IsTrue result → around ≤ self.now.first }
+        ensures span { IsTrue result → span ≡ short_span around self.now }
+    {
+        self.first as usize == span.start as usize + around as usize
+            && span.end as usize == self.first as usize + self.count as usize + around as usize
+    }
+
     /// The same text, in the form that can hold any bytes. Fails with `AllocError` if memory runs out.
-    fn to_long(&self, alloc: Global) -> Result<LongText, AllocError>
+    pub fn to_long(&self, alloc: Global) -> Result<LongText, AllocError>
         requires { IsSound (Short self.now) }
         ensures { IfOk result (λ text. text ≡ short_cells self.now) }
     {
@@ -191,9 +231,9 @@ impl ShortText {
     }
 }
 
-/// How a text is stored: most are short, and a node with one is then as small as one with a collection.
+/// How a text is stored.
 #[derive(Drop)]
-enum Form {
+pub enum Form {
     Short(ShortText),
     Long(Box<LongText>),
 }
@@ -218,14 +258,15 @@ impl Model for Text {
 }
 
 impl Text {
-    /// The empty text. Doesn't allocate.
-    pub fn new(alloc: Global) -> Self
+    /// The empty text at an offset. Doesn't allocate.
+    pub fn new(alloc: Global, at: usize) -> Self
+        requires { at < 2 ^ 32 }
         ensures { result ≡ [] }
     {
         let none = ShortText {
-            count: 0,
             bytes: [0; SHORT],
-            first: 0,
+            count: 0,
+            first: at as u32,
         };
         Text {
             alloc,
@@ -289,19 +330,16 @@ impl Text {
         ensures { result.now ≡ map (λ (c : Cell). c.0) self.now }
     {
         match &self.form {
-            Form::Short(short) => &short.bytes[..short.count as usize],
+            Form::Short(short) => short.as_bytes(),
             Form::Long(text) => text.as_bytes(),
         }
     }
 
-    /// The offset from which the byte at an index came.
-    pub fn locate(&self, i: usize) -> u32
-        requires { i < length self.now }
-        ensures { (end : ℕ) → result ≡ offset_or self.now end i }
+    /// How the text is stored.
+    pub fn into_form(self) -> Form
+        ensures cells { cells_of result ≡ self }
+        ensures sound { IsSound result }
     {
-        match &self.form {
-            Form::Short(short) => Segment::first(short.first).locate(i),
-            Form::Long(text) => text.locate(i),
-        }
+        self.form
     }
 }

@@ -2,7 +2,7 @@
 
 use al_scalar::{ScalarContext, ScalarRead, read_scalar};
 use al_text::YamlCode;
-use al_yaml::{Class, Doc, Kind, Node, Scalar, Style, YamlFault, read_yaml};
+use al_yaml::{Class, Doc, Node, Scalar, Style, YamlFault, read_yaml};
 use std::alloc::{AllocError, Global};
 
 /// The maximum size of a file, in bytes.
@@ -63,7 +63,7 @@ fn is_as_expected(read: &ScalarRead, row: &Row) -> bool {
         && read.scalar.class() == Class::Str
         && read.scalar.text() == row.text
         && comes_from(&read.scalar, row.offsets)
-        && read.span.start == 3
+        && read.scalar.span().start == 3
         && read.next == row.next
 }
 
@@ -160,15 +160,15 @@ fn classes() -> &'static [Class] {
 }
 
 fn is_of_class(node: &Node, class: Class) -> bool {
-    match &node.kind {
-        Kind::Scalar(scalar) => scalar.class() == class,
+    match node {
+        Node::Scalar(scalar) => scalar.class() == class,
         _ => false,
     }
 }
 
 fn are_of_classes(node: &Node, wanted: &[Class]) -> bool {
-    match &node.kind {
-        Kind::Sequence(items) => {
+    match node {
+        Node::Sequence { items, .. } => {
             items.len() == wanted.len()
                 && items
                     .iter()
@@ -181,10 +181,10 @@ fn are_of_classes(node: &Node, wanted: &[Class]) -> bool {
 
 /// Whether the value of the first entry is a flow sequence with items of these classes, and its span includes the brackets.
 fn holds(root: &Node, wanted: &[Class]) -> bool {
-    match &root.kind {
-        Kind::Mapping(entries) => match entries.first() {
+    match root {
+        Node::Mapping { entries, .. } => match entries.first() {
             Some(entry) => {
-                (entry.value.span.start, entry.value.span.end) == (3, 27)
+                (entry.value.span().start, entry.value.span().end) == (3, 27)
                     && are_of_classes(&entry.value, wanted)
             }
             None => false,

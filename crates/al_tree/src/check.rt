@@ -20,7 +20,7 @@ use crate::standings::{Standing, is_needed, refine, standing_of, takes_null};
 use crate::table::{Keys, Row, Shape, rule_of};
 use al_base::{Code, Fault, FaultSink, KeyCode, Span};
 use al_scalar::{Scalar, Style};
-use al_yaml_tree::{Entry, Kind, Node};
+use al_yaml_tree::{Entry, Node};
 use std::alloc::{AllocError, Global};
 
 /// What the place of a node requires: a shape, and whether null is accepted, below a key, which faults name.
@@ -119,19 +119,15 @@ fn check(demand: Demand<'_>, node: &Node, faults: &mut FaultSink) -> Result<(), 
     ensures { OnOk result (faults.new
         ≡ faults.old ++ demanded_faults demand.entry (view node.now)) }
 {
-    match &node.kind {
-        Kind::Scalar(scalar) => check_scalar(demand, scalar, node.span, faults),
-        Kind::Sequence(nodes) => match rule_of(demand.shape).map(|rule| rule.items) {
+    match node {
+        Node::Scalar(scalar) => check_scalar(demand, scalar, scalar.span(), faults),
+        Node::Sequence { items, span } => match rule_of(demand.shape).map(|rule| rule.items) {
             None => Ok(()),
-            Some(None) => faults.report_text(
-                node.span,
-                Code::Key(KeyCode::WrongKind),
-                demand.above,
-            ),
-            Some(Some(inner)) => check_items(inner, demand.above, nodes.as_slice(), faults),
+            Some(None) => faults.report_text(*span, Code::Key(KeyCode::WrongKind), demand.above),
+            Some(Some(inner)) => check_items(inner, demand.above, items.as_slice(), faults),
         },
-        Kind::Mapping(entries) => check_mapping(demand, entries.as_slice(), node.span, faults),
-        Kind::Shared(inner) => check(demand, inner, faults),
+        Node::Mapping { entries, span } => check_mapping(demand, entries.as_slice(), *span, faults),
+        Node::Shared(inner) => check(demand, inner, faults),
     }
 }
 

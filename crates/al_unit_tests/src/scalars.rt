@@ -130,8 +130,8 @@ fn reads(alloc: Global, case: &Case) -> Result<bool, AllocError> {
     }
     match read_scalar(alloc, case.file, case.at, case.place)? {
         Ok(read) => Ok(
-            read.span.start as usize == case.at
-                && Some(&read.span.end) == case.offsets.last()
+            read.scalar.span().start as usize == case.at
+                && Some(&read.scalar.span().end) == case.offsets.last()
                 && read.next == case.next
                 && is_as_expected(&read.scalar, case),
         ),

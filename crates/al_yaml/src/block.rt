@@ -236,7 +236,7 @@ fn resume_block(
             }
         }
         BlockWaiting::Value(mut entries, key) => {
-            entries.push(entry_of(scalar_node(key.scalar, key.span), part.node))?;
+            entries.push(entry_of(scalar_node(key.scalar), part.node))?;
             let Some(at) = entry_on(file.bytes, begun.start.column, next)? else {
                 let part = mapping_part(entries, begun.start.at, part.end, part.next);
                 let part = complete(file, &mut progress.state, begun.anchor, part)?;

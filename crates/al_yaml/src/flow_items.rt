@@ -114,7 +114,7 @@ fn put_entry(
         (frames.entries (entries_of (map entry_view entries.new.items))) result }
     ensures within { IfOk result (IsPut (size file.now) part.next) }
 {
-    entries.push(entry_of(scalar_node(key.scalar, key.span), part.node))?;
+    entries.push(entry_of(scalar_node(key.scalar), part.node))?;
     Ok(after_item(file.bytes, opening, b'}', gap_end(file.bytes, part.next))?)
 }
 

@@ -125,7 +125,7 @@ module _ (bytes : List ℕ) (e : ℕ) (inside : e ≤ length bytes) (ended : IsL
         (scalar_at (block 0) (lines_at (take e bytes) at)) result → IfOk result (λ r. IsReadInside (take e bytes) at r)
         → Answers (read_of bytes) (plain_on_line (lines_at bytes at)) result
     line_read (Ok r) h k =
-        let read : ScalarRead → List Line → value.ScalarRead = λ r left. record { scalar = r.scalar; span = r.span; left = left } in
+        let read : ScalarRead → List Line → value.ScalarRead = λ r left. record { scalar = r.scalar; left = left } in
         let next_in : r.next ≤ e = omega (arith, k.inside, short_length) in
         let next_from : at ≤ r.next = omega (arith, k.from, k.end) in
         plain_at ∙ ap (read_with_lines (lines_at bytes at)) h ∙ ap (λ left. Ok (read r left)) (left_at r.next next_from next_in)
@@ -139,7 +139,7 @@ module _ (bytes : List ℕ) (e : ℕ) (inside : e ≤ length bytes) (ended : IsL
       end = k.end;
       inside = omega (arith, k.inside, short_length);
       placed =
-          placed-wider (length (take e bytes)) (length bytes) r.scalar r.span (omega (arith, short_length, inside)) k.placed;
+          placed-wider (length (take e bytes)) (length bytes) r.scalar r.scalar.span (omega (arith, short_length, inside)) k.placed;
     }
     line_inside (Err s) k = tt
 
@@ -177,14 +177,14 @@ after_scalar is_block = if is_block then gives else ending_line
 
 module _ (within : ℕ) (n m : State) (bytes : List ℕ) (at : ℕ) (inside : at ≤ length bytes) (fits : broken_limit n.nodes n.text (start_of at 1 0 ∷ []) ≡ None) (more : m ≡ with_nodes 1 n) where
   abbrev pub left_of : value.ScalarRead → Reading (Part tree.Node)
-  left_of r = after_scalar (is_block_start (text_at bytes at)) (part (tree.scalar_node r) r.span.end r.left)
+  left_of r = after_scalar (is_block_start (text_at bytes at)) (part (tree.scalar_node r) r.scalar.span.end r.left)
 
   pub line-starts : run n (scalar_node_at within (lines_at bytes at)) ≡ run m (of_result (scalar_at (block within) (lines_at bytes at)) >>= left_of)
   line-starts = rw (start-at bytes at inside, more) (run-start n 1 at 0 (of_result (scalar_at (block within) (lines_at bytes at)) >>= left_of) fits)
 
   module _ (r : ScalarRead) (read : scalar_at (block within) (lines_at bytes at) ≡ Ok (read_of bytes r)) where
     abbrev pub found : Part tree.Node
-    found = part (tree.scalar_node (read_of bytes r)) r.span.end (lines_at bytes r.next)
+    found = part (tree.scalar_node (read_of bytes r)) r.scalar.span.end (lines_at bytes r.next)
 
     scalar-read : run n (scalar_node_at within (lines_at bytes at)) ≡ run m (after_scalar (is_block_start (text_at bytes at)) found)
     scalar-read = line-starts ∙ given-ok (scalar_at (block within) (lines_at bytes at)) left_of m (read_of bytes r) read
@@ -193,5 +193,5 @@ module _ (within : ℕ) (n m : State) (bytes : List ℕ) (at : ℕ) (inside : at
     block-read h = scalar-read ∙ ap (λ b. run m (after_scalar b found)) (sym h)
 
     pub line-read : false ≡ is_block_start (text_at bytes at) → run n (scalar_node_at within (lines_at bytes at))
-        ≡ run m (of_result (line_ended (lines_at bytes r.next)) >>= (λ left. gives (part (tree.scalar_node (read_of bytes r)) r.span.end left)))
+        ≡ run m (of_result (line_ended (lines_at bytes r.next)) >>= (λ left. gives (part (tree.scalar_node (read_of bytes r)) r.scalar.span.end left)))
     line-read h = scalar-read ∙ ap (λ b. run m (after_scalar b found)) (sym h)

@@ -34,8 +34,8 @@ IsColon asked bytes at (Some next) = (asked ≡ Some (lines_at bytes next)) × (
 
 -- a scalar begins at an offset and ends no later than the next one to read, which is in the file; its text is in it
 pub record IsReadInside (bytes : List ℕ) (at : ℕ) (r : ScalarRead) : Type 0 where
-  pub start : r.span.start ≡ at
-  pub from : at ≤ r.span.end
-  pub end : r.span.end ≤ r.next
+  pub start : r.scalar.span.start ≡ at
+  pub from : at ≤ r.scalar.span.end
+  pub end : r.scalar.span.end ≤ r.next
   pub inside : r.next ≤ length bytes
-  pub placed : IsPlaced (length bytes) r.scalar r.span
+  pub placed : IsPlaced (length bytes) r.scalar r.scalar.span

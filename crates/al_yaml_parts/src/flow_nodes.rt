@@ -266,7 +266,7 @@ pub fn read_flow_value(
     key: &FlowKey,
     depth: u32,
 ) -> Result<FoundNode, ReadError>
-    requires inside { IsKeyInside file.now.bytes.now key.now.read.span.start key.now }
+    requires inside { IsKeyInside file.now.bytes.now key.now.read.scalar.span.start key.now }
     requires opening { opening ≤ size file.now }
     ensures fault { IfErr result (IsStopInside (size file.now)) }
     ensures is { Finds file.now.bytes.now
@@ -274,10 +274,11 @@ pub fn read_flow_value(
         (flow_key_of file.now.bytes.now key.now)) depth (state_of state.old) result
         (state_of state.new) }
     ensures within { IfOk result
-        (λ found. IsFound file.now.bytes.now key.now.read.span.start found) }
+        (λ found. IsFound file.now.bytes.now key.now.read.scalar.span.start found) }
 {
     let Some(colon) = key.colon else {
-        let part = empty_part(file, state, key.read.span.end as usize, key.read.next)?;
+        let end = key.read.scalar.span().end as usize;
+        let part = empty_part(file, state, end, key.read.next)?;
         return Ok(FoundNode::Node(part));
     };
     let at = gap_end(file.bytes, colon);

@@ -42,7 +42,7 @@ pub fn is_short_key(bytes: &[u8], at: usize, read: &ScalarRead) -> bool
         ≡ true }
     ensures { result ≡ content.is_short_key (lines_at bytes.now at) (read_of bytes.now read.now) }
 {
-    let end = read.span.end as usize;
+    let end = read.scalar.span().end as usize;
     // no more characters than bytes
     end - at <= LONGEST_KEY || characters(bytes, at, end) <= LONGEST_KEY
 }

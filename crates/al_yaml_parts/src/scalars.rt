@@ -44,12 +44,12 @@ pub fn scalar_at(
 
 /// A scalar as a node, with the offset after it.
 pub fn scalar_part(next: usize, read: ScalarRead) -> Part
-    ensures node { view result.node ≡ tree.scalar read.scalar read.span }
-    ensures end { result.end ≡ read.span.end }
+    ensures node { view result.node ≡ tree.scalar read.scalar read.scalar.span }
+    ensures end { result.end ≡ read.scalar.span.end }
     ensures next { result.next ≡ next }
 {
-    let end = read.span.end as usize;
-    let node = scalar_node(read.scalar, read.span);
+    let end = read.scalar.span().end as usize;
+    let node = scalar_node(read.scalar);
     Part { node, end, next }
 }
 

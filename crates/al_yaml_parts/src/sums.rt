@@ -6,7 +6,7 @@ ghost use Rattle.al_yaml_parts.specs.Private.Sums.{IsOwn, IsSums, inside, member
 ghost use Rattle.al_yaml_tree.specs.View.{entry_view, view};
 ghost use Rattle.std.specs.Prelude.{IfOk, map, ◌++◌, ◌+◌, ◌≡◌};
 
-use al_yaml_tree::{Entry, Kind, Node};
+use al_yaml_tree::{Entry, Node};
 use std::alloc::{AllocError, Global};
 
 /// What an alias counts of its node: the nodes in it, the bytes of their texts, and the depth of collections in it. All counts saturate.
@@ -74,23 +74,23 @@ fn count<'a>(
     ensures left { IfOk result (λ sums. map uncounted_view left.new.items
         ≡ map uncounted_view left.old.items ++ within sums.levels (inside (view node.now))) }
 {
-    match &node.kind {
-        Kind::Scalar(scalar) => Ok(Sums {
+    match node {
+        Node::Scalar(scalar) => Ok(Sums {
             nodes: 1,
             text: scalar.text().len().min(u32::MAX as usize) as u32,
             levels,
         }),
-        Kind::Sequence(items) => {
+        Node::Sequence { items, .. } => {
             let own = Sums::of_collection(levels);
             leave_items(items.as_slice(), own.levels, left)?;
             Ok(own)
         }
-        Kind::Mapping(entries) => {
+        Node::Mapping { entries, .. } => {
             let own = Sums::of_collection(levels);
             leave_entries(entries.as_slice(), own.levels, left)?;
             Ok(own)
         }
-        Kind::Shared(shared) => count(shared, levels, left),
+        Node::Shared(shared) => count(shared, levels, left),
     }
 }
 

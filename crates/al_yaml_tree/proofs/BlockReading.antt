@@ -145,7 +145,7 @@ module _ {f : File} where
   scalar_node-in within low ls h =
       reads-start (starts-in h)
       (reads-then (reads-given (IsRead f low) (scalar_at (block within) ls) (scalar-read (block within) low ls h))
-      (λ r k. after_scalar-in (is_block_start (first_text ls)) low (part (scalar_node r) r.span.end r.left) (read-part k k.left)))
+      (λ r k. after_scalar-in (is_block_start (first_text ls)) low (part (scalar_node r) r.scalar.span.end r.left) (read-part k k.left)))
 
   after_flow-in : (spot : Spot) (at low : ℕ) (x : Part Node) → at ≤ f.size → IsNode f low x
       → Reads f (IsNode f low) (if not (is_after_key spot) && has_colon x.left then fails yaml.WrongKey at else ending_line x)
@@ -203,7 +203,7 @@ module _ {f : File} where
     unfolding mapping_entries
     entries-in zero column depth from low done key d h = reads-fault (omega arith)
     entries-in (suc turns) column depth from low done key d h =
-        reads-then (rest-lies node n (value_slot column (start key.after)) depth 0 key.scalar.span.end key.after key.after tt refl h.1)
+        reads-then (rest-lies node n (value_slot column (start key.after)) depth 0 key.scalar.scalar.span.end key.after key.after tt refl h.1)
         (λ x k. let i = entry-done d h.0 k in
         rest_below-in from (part (with_entry done (scalar_node key.scalar) x.value) x.end x.left) (whole-part i k.left) column
         (more_entries turns column depth)

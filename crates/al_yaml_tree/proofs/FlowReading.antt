@@ -43,7 +43,7 @@ FlowIn f node = (slot : FlowSlot) (depth low : ℕ) (ls : List Line) → SlotIn 
     → Reads f (IsNode f low) (node slot depth ls)
 
 abbrev FlowKeyIn : File → ℕ → FlowKey → Type 0
-FlowKeyIn f low key = IsRead f low key.scalar × OptionLeft f key.scalar.span.end key.after
+FlowKeyIn f low key = IsRead f low key.scalar × OptionLeft f key.scalar.scalar.span.end key.after
 
 key_colon-stands : (after_quote : Bool) (ls : List Line) → is_key_colon after_quote ls ≡ true → begins (ascii ":") (after_blanks (first_text ls)) ≡ true
 key_colon-stands after_quote ls e =
@@ -101,7 +101,7 @@ module _ {f : File} where
       → Reads f (FlowKeyIn f low) (of_result (key_colon ls r) >>= key_with ls r)
   colon_key-in low ls r a h =
       reads-then {g = key_with ls r}
-      (reads-given (OptionLeft f r.span.end) (key_colon ls r) (key_colon-in r.span.end ls r a h.left))
+      (reads-given (OptionLeft f r.scalar.span.end) (key_colon ls r) (key_colon-in r.scalar.span.end ls r a h.left))
       (λ colon k. reads-one a (h, k))
 
   flow_key-in : (collection : CollectionReader) → CollectionIn f collection → (depth low : ℕ) (ls : List Line) → AreLeft f low ls
@@ -130,10 +130,10 @@ module _ {f : File} where
         by-empty (Some at) e =
             let a = is-inside h in empty-reads (omega (arith, e)) (omega (arith, a, e)) (left-lower (omega (arith, e)) h)
 
-    value_after-in : (opening depth : ℕ) (key : ScalarRead) → opening ≤ f.size → AreLeft f key.span.end key.left
-        → (o : Option (List Line)) → OptionLeft f key.span.end o
-        → Reads f (IsNode f key.span.end) (elim o [
-          | None ↦ empty_node key.span.end key.left
+    value_after-in : (opening depth : ℕ) (key : ScalarRead) → opening ≤ f.size → AreLeft f key.scalar.span.end key.left
+        → (o : Option (List Line)) → OptionLeft f key.scalar.span.end o
+        → Reads f (IsNode f key.scalar.span.end) (elim o [
+          | None ↦ empty_node key.scalar.span.end key.left
           | Some left ↦ flow_value node (record { opening = opening; empty = Some (start left) }) depth (gap false left)
         ])
     value_after-in opening depth key o h None k = empty-reads (omega arith) (is-inside h) h
@@ -142,7 +142,7 @@ module _ {f : File} where
         (left-gap (left-start k))) (λ p i. part-lower (starts-after k) i)
 
     entry_value-in : (opening depth low : ℕ) (key : FlowKey) → opening ≤ f.size → FlowKeyIn f low key
-        → Reads f (IsNode f key.scalar.span.end) (flow_entry_value node opening depth key)
+        → Reads f (IsNode f key.scalar.scalar.span.end) (flow_entry_value node opening depth key)
     unfolding flow_entry_value
     entry_value-in opening depth low key o h = value_after-in opening depth key.scalar o h.0.left key.after h.1
 
@@ -189,7 +189,7 @@ module _ {f : File} where
         reads-unless (flow_fault (first_text ls)) (start ls) a
         (reads-by (is_property (first_text ls)) (λ _. reads-fault a)
         (λ _. reads-by (is_flow_start (first_text ls)) (λ e. c depth low ls e h)
-        (λ _. reads-start a (reads-then {g = λ (r : ScalarRead). gives (part (scalar_node r) r.span.end r.left)}
+        (λ _. reads-start a (reads-then {g = λ (r : ScalarRead). gives (part (scalar_node r) r.scalar.span.end r.left)}
         (reads-given (IsRead f low) (scalar_at flow ls) (scalar-read flow low ls h)) (λ r k. reads-value (read-part k k.left))))))
 
     property-in : (slot : FlowSlot) (depth low : ℕ) (ls : List Line) → is_property (first_text ls) ≡ true → SlotIn f low slot

@@ -41,7 +41,7 @@ first_text-utf8 [] u = IsUtf8-nil
 first_text-utf8 (l ∷ ls) u = u.0
 
 abbrev pub KeyIn : File → ℕ → Key → Type 0
-KeyIn f low key = IsRead f low key.scalar × AreLeft f key.scalar.span.end key.after
+KeyIn f low key = IsRead f low key.scalar × AreLeft f key.scalar.scalar.span.end key.after
 
 abbrev pub OptionKeyIn : File → ℕ → Option Key → Type 0
 OptionKeyIn f low None = Unit {0}
@@ -62,10 +62,10 @@ module _ {f : File} where
       → Answers l.end (IsRead (up_to f l) low) r → Answers f.size (IsRead f low) (read_with_lines (l ∷ ls) r)
   with_lines-read low l ls (Err e) h k = let a = h.stand.1.0 in omega (arith, k, a)
   with_lines-read low l ls (Ok r) h k = record {
-    placed = placed-more l.end f.size h.stand.1.0 low r.span.end low r.span.end (scalar_node r) (omega arith) (omega arith) k.placed;
+    placed = placed-more l.end f.size h.stand.1.0 low r.scalar.span.end low r.scalar.span.end (scalar_node r) (omega arith) (omega arith) k.placed;
     text = k.text;
     left = record {
-      stand = stand-cut f.size low r.span.end (first_text r.left) l ls (first_text-climbs l.end r.span.end r.left k.left.stand) h.stand;
+      stand = stand-cut f.size low r.scalar.span.end (first_text r.left) l ls (first_text-climbs l.end r.scalar.span.end r.left k.left.stand) h.stand;
       utf8 = λ u. (first_text-utf8 r.left (k.left.utf8 u), (h.utf8 u).1);
     };
   }

@@ -38,9 +38,9 @@ pub record AreLeft (f : File) (low : ℕ) (ls : List Line) : Type 0 where
 
 -- a scalar at `low` or later, and the remaining lines after it
 pub record IsRead (f : File) (low : ℕ) (r : ScalarRead) : Type 0 where
-  pub placed : IsPlacedIn f.size low r.span.end (scalar_node r)
+  pub placed : IsPlacedIn f.size low r.scalar.span.end (scalar_node r)
   pub text : f.is_utf8 → IsUtf8 (text_of r.scalar)
-  pub left : AreLeft f r.span.end r.left
+  pub left : AreLeft f r.scalar.span.end r.left
 
 abbrev pub NextLeft : File → ℕ → Next → Type 0
 NextLeft f low ended = Unit {0}

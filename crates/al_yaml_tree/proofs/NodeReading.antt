@@ -58,7 +58,7 @@ module _ {f : File} where
     placed = λ p. wider_in f.size low end low' end n a (omega arith) (h.placed p);
   }
 
-  pub scalar-lies : {low : ℕ} {r : ScalarRead} → IsRead f low r → Lies f low r.span.end (scalar_node r)
+  pub scalar-lies : {low : ℕ} {r : ScalarRead} → IsRead f low r → Lies f low r.scalar.span.end (scalar_node r)
   scalar-lies h = record {
     laid = (record { ordered = h.placed.0.ordered; inside = is-inside h.left }, h.placed.1);
     texts = h.text;
@@ -66,7 +66,7 @@ module _ {f : File} where
   }
 
   -- A scalar ends at `low` or later.
-  pub read-ends : {low : ℕ} {r : ScalarRead} → IsRead f low r → low ≤ r.span.end
+  pub read-ends : {low : ℕ} {r : ScalarRead} → IsRead f low r → low ≤ r.scalar.span.end
   read-ends h = let a = h.placed.0.from in let b = h.placed.0.ordered in omega (arith, a, b)
 
   empty-lies : (at : ℕ) → at ≤ f.size → Lies f at at (scalar (empty_scalar at) (span at at))
@@ -145,8 +145,8 @@ module _ {f : File} where
       → IsPart f g same from (part x end ls)
   whole-part d h = record { done = d; inside = is-inside h; left = h }
 
-  pub read-part : {low : ℕ} {r : ScalarRead} {ls : List Line} → IsRead f low r → AreLeft f r.span.end ls
-      → IsNode f low (part (scalar_node r) r.span.end ls)
+  pub read-part : {low : ℕ} {r : ScalarRead} {ls : List Line} → IsRead f low r → AreLeft f r.scalar.span.end ls
+      → IsNode f low (part (scalar_node r) r.scalar.span.end ls)
   read-part k h = whole-part (record { ordered = read-ends k; lies = scalar-lies k }) h
 
   pub part-lower : {low low' : ℕ} {p : Part Node} → low' ≤ low → IsNode f low p → IsNode f low' p
@@ -172,7 +172,7 @@ module _ {f : File} where
       (λ u. past-item f.size from low p.end ns p.value d.ordered a (d.lies.placed u).1 (n.placed u))
 
   pub entry-done : {from low : ℕ} {es : Entries} {r : ScalarRead} {p : Part Node} → IsDone f mapping from low es → IsRead f low r
-      → IsNode f r.span.end p → IsDone f mapping from p.end (with_entry es (scalar_node r) p.value)
+      → IsNode f r.scalar.span.end p → IsDone f mapping from p.end (with_entry es (scalar_node r) p.value)
   entry-done {from} {low} {es} {r} {p} d k h =
       let a = h.done.ordered in
       let b : low ≤ p.end = omega (arith, a, read-ends k) in
@@ -182,7 +182,7 @@ module _ {f : File} where
       (each-entry (Laid f.size f.size) (LiesAround f.size) es (scalar_node r) p.value d.lies.laid.1 key.laid v.laid)
       (λ u. each-entry Text Inner es (scalar_node r) p.value (d.lies.texts u) (key.texts u) (v.texts u))
       (λ u. past-entry f.size from low p.end es (scalar_node r) p.value d.ordered b (d.lies.placed u).1
-      (wider_in f.size low r.span.end low p.end (scalar_node r) (omega arith) a k.placed) (v.placed u))
+      (wider_in f.size low r.scalar.span.end low p.end (scalar_node r) (omega arith) a k.placed) (v.placed u))
 
 -- ---- outcomes
 

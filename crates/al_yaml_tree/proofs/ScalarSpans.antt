@@ -11,8 +11,8 @@ use Rattle.al_yaml_tree.specs.Spans.{IsPlacedIn}
 
 -- the scalar is placed at `low` or later, and the remaining lines follow it
 pub record ReadIn (size low : ℕ) (r : ScalarRead) : Type 0 where
-  pub placed : IsPlacedIn size low r.span.end (scalar_node r)
-  pub left : Stand size r.span.end r.left
+  pub placed : IsPlacedIn size low r.scalar.span.end (scalar_node r)
+  pub left : Stand size r.scalar.span.end r.left
 
 module _ (size : ℕ) where
   -- P holds for a value; a fault is within the file
@@ -28,7 +28,7 @@ module _ (size : ℕ) where
   read-in low (Ok r) h = record {
     placed = (
       record { from = h.1; ordered = h.2; to = omega arith },
-      placed-wider (start r.left) size _ _ (start-in size r.span.end r.left h.3) h.0,
+      placed-wider (start r.left) size _ _ (start-in size r.scalar.span.end r.left h.3) h.0,
     );
     left = h.3;
   }

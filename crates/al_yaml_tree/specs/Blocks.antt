@@ -124,7 +124,7 @@ abbrev pub scalar_node_at : ℕ → List Line → Reading (Part Node)
 scalar_node_at within ls =
     starting_scalar (start ls) (do
       r ← of_result (scalar_at (block within) ls)
-      (if is_block_start (first_text ls) then gives else ending_line) (part (scalar_node r) r.span.end r.left))
+      (if is_block_start (first_text ls) then gives else ending_line) (part (scalar_node r) r.scalar.span.end r.left))
 
 -- a flow collection in block context: a colon after it would make it a key, and is a fault
 abbrev pub flow_at : CollectionReader → Spot → ℕ → List Line → Reading (Part Node)

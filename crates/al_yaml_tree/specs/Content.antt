@@ -158,7 +158,7 @@ characters end (c ∷ cs) =
 
 -- A key has at most 1,024 characters (7.4, implicit keys).
 abbrev pub is_short_key : List Line → ScalarRead → Bool
-is_short_key ls r = nat_le (characters r.span.end (first_text ls)) longest_key
+is_short_key ls r = nat_le (characters r.scalar.span.end (first_text ls)) longest_key
 
 -- and it is on one line
 abbrev pub is_simple_key : List Line → ScalarRead → Bool

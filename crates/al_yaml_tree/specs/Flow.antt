@@ -118,7 +118,7 @@ flow_key collection depth ls =
 unfoldable pub flow_entry_value : FlowReader → ℕ → ℕ → FlowKey → Reading (Part Node)
 flow_entry_value node opening depth key =
     elim key.after [
-      | None ↦ empty_node key.scalar.span.end key.scalar.left
+      | None ↦ empty_node key.scalar.scalar.span.end key.scalar.left
       | Some left ↦ flow_value node (record { opening = opening; empty = Some (start left) }) depth (gap false left)
     ]
 
@@ -143,7 +143,7 @@ flow_content collection slot depth ls =
     else (if is_flow_start (first_text ls) then collection depth ls
     else starting_scalar (start ls) (do
       r ← of_result (scalar_at flow ls)
-      gives (part (scalar_node r) r.span.end r.left))))
+      gives (part (scalar_node r) r.scalar.span.end r.left))))
 
 -- An alias, or an anchor and its node (6.9.2, 7.1), not on a key: ending continues after an alias, node after an anchor's
 -- name.

@@ -1,8 +1,6 @@
 -- The tree of a `Node` of the code.
 use Rattle.std.specs.Prelude.{List, [], ◌∷◌}
-use Rattle.al_base.specs.declared.faults.Span.{Span}
 use Rattle.al_yaml_tree.specs.Node as tree
-use Rattle.al_yaml_tree.specs.declared.node.Kind.{Kind-F}
 use Rattle.al_yaml_tree.specs.declared.node.Entry.{Entry, Entry-F, fold-Entry}
 use Rattle.al_yaml_tree.specs.declared.node.Node.{Node, Node-F, fold-Node}
 
@@ -14,21 +12,18 @@ abbrev pub entries_of : List (tree.Node × tree.Node) → tree.Entries
 entries_of [] = tree.no_entries
 entries_of (e ∷ es) = tree.entry e.0 e.1 (entries_of es)
 
--- One level each, with what is inside already seen as its tree; a kind is a tree once its node's span is known.
-abbrev pub kind_step : Kind-F (Span → tree.Node) (tree.Node × tree.Node) tree.Node → Span → tree.Node
-kind_step (Kind-F.Scalar s) at = tree.scalar s at
-kind_step (Kind-F.Sequence v) at = tree.sequence (nodes_of v.items) at
-kind_step (Kind-F.Mapping v) at = tree.mapping (entries_of v.items) at
-kind_step (Kind-F.Shared n) at = n.value
-
-abbrev pub entry_step : Entry-F (Span → tree.Node) (tree.Node × tree.Node) tree.Node → tree.Node × tree.Node
+-- One level each, with what is inside already seen as its tree.
+abbrev pub entry_step : Entry-F tree.Node (tree.Node × tree.Node) → tree.Node × tree.Node
 entry_step e = (e.key, e.value)
 
-abbrev pub node_step : Node-F (Span → tree.Node) (tree.Node × tree.Node) tree.Node → tree.Node
-node_step n = n.kind n.span
+abbrev pub node_step : Node-F tree.Node (tree.Node × tree.Node) → tree.Node
+node_step (Node-F.Scalar s) = tree.scalar s s.span
+node_step (Node-F.Sequence v at) = tree.sequence (nodes_of v.items) at
+node_step (Node-F.Mapping v at) = tree.mapping (entries_of v.items) at
+node_step (Node-F.Shared n) = n.value
 
 abbrev pub view : Node → tree.Node
-view = fold-Node (Span → tree.Node) (tree.Node × tree.Node) tree.Node kind_step entry_step node_step
+view = fold-Node tree.Node (tree.Node × tree.Node) node_step entry_step
 
 abbrev pub entry_view : Entry → tree.Node × tree.Node
-entry_view = fold-Entry (Span → tree.Node) (tree.Node × tree.Node) tree.Node kind_step entry_step node_step
+entry_view = fold-Entry tree.Node (tree.Node × tree.Node) node_step entry_step

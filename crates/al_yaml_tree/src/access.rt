@@ -7,9 +7,9 @@ ghost use Rattle.al_yaml_tree.specs.Access.{mapping_in, scalar_in, sequence_in};
 ghost use Rattle.al_yaml_tree.specs.Node.{span_of};
 ghost use Rattle.al_yaml_tree.specs.Texts.{HasTexts};
 ghost use Rattle.al_yaml_tree.specs.View.{entry_view, view};
-ghost use Rattle.al_yaml_tree.specs.declared.node.Kind.TheVariants.{Shared};
+ghost use Rattle.al_yaml_tree.specs.declared.node.Node.TheVariants.{Shared};
 
-use crate::node::{Entry, Kind, Node};
+use crate::node::{Entry, Node};
 use al_base::Span;
 use al_scalar::Scalar;
 
@@ -17,11 +17,11 @@ impl Node {
     /// The node itself, or the one that it shares.
     fn unshared(&self) -> &Node
         ensures view { view result.now ≡ view self.now }
-        ensures own { (node : _) → result.now.kind ≡ Shared node → ⊥ }
+        ensures own { (node : _) → result.now ≡ Shared node → ⊥ }
     {
-        match &self.kind {
-            Kind::Scalar(_) | Kind::Sequence(_) | Kind::Mapping(_) => self,
-            Kind::Shared(node) => node.unshared(),
+        match self {
+            Node::Shared(node) => node.unshared(),
+            _ => self,
         }
     }
 
@@ -30,7 +30,11 @@ impl Node {
     pub fn span(&self) -> Span
         ensures { result ≡ span_of (view self.now) }
     {
-        self.unshared().span
+        match self.unshared() {
+            Node::Scalar(scalar) => scalar.span(),
+            Node::Sequence { span, .. } | Node::Mapping { span, .. } => *span,
+            Node::Shared(_) => unreachable!(),
+        }
     }
 
     /// The scalar, if the node is one.
@@ -38,8 +42,8 @@ impl Node {
     pub fn scalar(&self) -> Option<&Scalar>
         ensures { option_copied result ≡ scalar_in (view self.now) }
     {
-        match &self.unshared().kind {
-            Kind::Scalar(scalar) => Some(scalar),
+        match self.unshared() {
+            Node::Scalar(scalar) => Some(scalar),
             _ => None,
         }
     }
@@ -57,8 +61,8 @@ impl Node {
     pub fn sequence(&self) -> Option<&[Node]>
         ensures { option_map (λ v. map view v.now) result ≡ sequence_in (view self.now) }
     {
-        match &self.unshared().kind {
-            Kind::Sequence(items) => Some(items.as_slice()),
+        match self.unshared() {
+            Node::Sequence { items, .. } => Some(items.as_slice()),
             _ => None,
         }
     }
@@ -68,8 +72,8 @@ impl Node {
     pub fn mapping(&self) -> Option<&[Entry]>
         ensures { option_map (λ v. map entry_view v.now) result ≡ mapping_in (view self.now) }
     {
-        match &self.unshared().kind {
-            Kind::Mapping(entries) => Some(entries.as_slice()),
+        match self.unshared() {
+            Node::Mapping { entries, .. } => Some(entries.as_slice()),
             _ => None,
         }
     }

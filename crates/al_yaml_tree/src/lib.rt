@@ -8,7 +8,6 @@ mod worked;
 
 pub use laws::{tree_spans, tree_texts};
 pub use node::{
-    Doc, Entry, Kind, Node, entry_of, mapping_node, scalar_node, sequence_node, sharable,
-    shared_node,
+    Doc, Entry, Node, entry_of, mapping_node, scalar_node, sequence_node, sharable, shared_node,
 };
 pub use worked::rows;

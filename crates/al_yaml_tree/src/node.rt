@@ -9,22 +9,14 @@ use al_scalar::Scalar;
 use std::alloc::{AllocError, Global};
 use std::rc::Rc;
 
-/// A node (YAML 1.2.2, 3.2.1.1) and the span of its written form.
+/// A node (YAML 1.2.2, 3.2.1.1), with the span of its written form. A node with an anchor is shared by its own place and those of its
+/// aliases.
 #[cycle(node)]
 #[derive(Drop)]
-pub struct Node {
-    pub kind: Kind,
-    pub span: Span,
-}
-
-/// The kind of a node, with its content. A node with an anchor is shared by its own place and those of its aliases; the shared node has
-/// the span of the written form.
-#[cycle(node)]
-#[derive(Drop)]
-pub enum Kind {
+pub enum Node {
     Scalar(Scalar),
-    Sequence(Vec<Node>),
-    Mapping(Vec<Entry>),
+    Sequence { items: Vec<Node>, span: Span },
+    Mapping { entries: Vec<Entry>, span: Span },
     Shared(Rc<Node>),
 }
 
@@ -43,36 +35,31 @@ pub struct Doc {
 }
 
 /// A scalar node.
-pub fn scalar_node(scalar: Scalar, span: Span) -> Node
-    ensures { view result ≡ tree.scalar scalar span }
+pub fn scalar_node(scalar: Scalar) -> Node
+    ensures { view result ≡ tree.scalar scalar scalar.span }
 {
-    let kind = Kind::Scalar(scalar);
-    Node { kind, span }
+    Node::Scalar(scalar)
 }
 
 /// A sequence node with these items.
 pub fn sequence_node(items: Vec<Node>, span: Span) -> Node
     ensures { view result ≡ tree.sequence (nodes_of (map view items.items)) span }
 {
-    let kind = Kind::Sequence(items);
-    Node { kind, span }
+    Node::Sequence { items, span }
 }
 
 /// A mapping node with these entries.
 pub fn mapping_node(entries: Vec<Entry>, span: Span) -> Node
     ensures { view result ≡ tree.mapping (entries_of (map entry_view entries.items)) span }
 {
-    let kind = Kind::Mapping(entries);
-    Node { kind, span }
+    Node::Mapping { entries, span }
 }
 
 /// One more owner of a shared node. Fails with `AllocError` if it has too many.
 pub fn shared_node(node: &Rc<Node>) -> Result<Node, AllocError>
     ensures { IfOk result (λ n. view n ≡ view node.now.value) }
 {
-    let kind = Kind::Shared(node.clone()?);
-    let span = node.span;
-    Ok(Node { kind, span })
+    Ok(Node::Shared(node.clone()?))
 }
 
 /// A node made sharable. Fails with `AllocError` when out of memory.

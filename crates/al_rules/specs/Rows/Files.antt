@@ -22,7 +22,7 @@ cells_from i [] = []
 cells_from i (b ∷ bs) = (b, i) ∷ cells_from (i + 1) bs
 
 abbrev pub plain : Class → List ℕ → ℕ → Node
-plain c text i = scalar (record { style = Plain; class = c; cells = cells_from i text; end = i + length text }) (at i (i + length text))
+plain c text i = scalar (record { style = Plain; class = c; cells = cells_from i text; span = at i (i + length text) }) (at i (i + length text))
 
 abbrev pub word : List ℕ → ℕ → Node
 word = plain Str
@@ -31,7 +31,7 @@ word = plain Str
 abbrev pub quoted : List ℕ → ℕ → Node
 quoted text i =
     let end = i + length text + 2 in
-    scalar (record { style = SingleQuoted; class = Str; cells = cells_from (i + 1) text; end = end }) (at i end)
+    scalar (record { style = SingleQuoted; class = Str; cells = cells_from (i + 1) text; span = at i end }) (at i end)
 
 -- the faults of needs, by walks of at most as many steps as there are jobs
 abbrev pub needs_by_steps : Node → List Fault

@@ -23,7 +23,7 @@ find-returns-in-Mapping-clause-found t c =
     let way = map way_step_view c.args.walk.now.way.steps.items in
     let taken : rule_or_any (rule (mapping_shape c.args.shape (map entry_view es))) ≡ rule_view c.rule_at-in-Mapping.result =
     cc (c.refine.ensures, c.as_slice-in-Mapping.ensures.value, c.rule_at-in-Mapping.ensures) in
-    let same = places_of_mapping kind c.args.shape c.args.is_item way c.args.node.now c.in-Mapping.entries c.in-Mapping.is
+    let same = places_of_mapping kind c.args.shape c.args.is_item way c.args.node.now c.in-Mapping.entries c.in-Mapping.span c.in-Mapping.is
     ∙ ap (λ r. places_of_entries kind r.keys_of [] (among (keys_in (map entry_view es))) way (entries_of (map entry_view es))) taken in
     let here = rw c.as_slice-in-Mapping-2.ensures.value at c.find_entries.ensures.found in
     rw same here

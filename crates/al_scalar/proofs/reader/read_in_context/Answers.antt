@@ -8,16 +8,16 @@ use Rattle.al_scalar.proofs.ScalarLemmas.{scalar-is, scalar-ok, scalar-fault, fa
 use Rattle.std.proofs.Common.{◌≡◌, sym}
 use Rattle.al_scalar.proofs.reader.read_in_context.Goals as goal
 
-pub returns-in-Ok-clause-gives : goal.returns-in-Ok-clause-gives
-returns-in-Ok-clause-gives c =
+pub returns-in_ok-read-in-Ok-clause-gives : goal.returns-in_ok-read-in-Ok-clause-gives
+returns-in_ok-read-in-Ok-clause-gives c =
     let bytes = c.args.bytes.now in
     let p = context_of c.args.context in
     let style = c.style_at-style.result in
     let asked = taken_as p style (lines_at bytes c.args.at) in
     let gives : Gives bytes asked (Ok c.in-Ok.taken) = subst (λ r. Gives bytes asked r) c.in-Ok.is c.in_ok-taken.ensures.gives in
     scalar-is p bytes c.args.at style c.requires.inside c.style_at-style.ensures
-    ∙ scalar-ok bytes c.args.at style c.class_in_style-class.result asked c.in-Ok.taken c.scalar_read.result gives c.class_in_style-class.ensures
-    c.scalar_read.ensures.scalar c.scalar_read.ensures.span c.scalar_read.ensures.next
+    ∙ scalar-ok bytes c.args.at style c.class_in_style-class.result asked c.in-Ok.taken c.in_ok-read-in-Ok.read gives c.class_in_style-class.ensures
+    c.in_ok-read-in-Ok.ensures.scalar c.in_ok-read-in-Ok.ensures.next
 
 pub returns-in-Err-clause-gives : goal.returns-in-Err-clause-gives
 returns-in-Err-clause-gives c =

@@ -13,7 +13,7 @@ use Rattle.al_tree.proofs.check.+checks.Goals as goal
 pub check-returns-in-Mapping : goal.check-returns-in-Mapping
 check-returns-in-Mapping t c =
     let demand = c.args.demand in
-    let same = faults_mapping demand.shape demand.takes_null demand.above.now c.args.node.now c.in-Mapping.entries c.in-Mapping.is in
+    let same = faults_mapping demand.shape demand.takes_null demand.above.now c.args.node.now c.in-Mapping.entries c.in-Mapping.span c.in-Mapping.is in
     let here = rw c.as_slice-in-Mapping.ensures.value at c.check_mapping.ensures in
     rw same here
 

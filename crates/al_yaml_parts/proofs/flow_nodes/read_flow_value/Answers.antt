@@ -8,11 +8,11 @@ pub returns-in_err-part-clause-is : goal.returns-in_err-part-clause-is
 unfolding flow_entry_value
 returns-in_err-part-clause-is c =
     let p = err_from_is_err_and c.from_residual.result c.from_residual.ensures.1 in
-    rw (p.1, p.2) (λ col. rw c.in_default.is c.in_err-part.ensures.is)
+    rw (p.1, p.2) (λ col. rw (c.in_default.is, ← c.span.ensures) c.in_err-part.ensures.is)
 
 pub returns-in_default-clause-is : goal.returns-in_default-clause-is
 unfolding flow_entry_value
-returns-in_default-clause-is c = λ col. rw c.in_default.is c.in_ok-part.ensures.is
+returns-in_default-clause-is c = λ col. rw (c.in_default.is, ← c.span.ensures) c.in_ok-part.ensures.is
 
 pub returns-then-is_text_end-clause-is : goal.returns-then-is_text_end-clause-is
 unfolding flow_entry_value

@@ -11,7 +11,7 @@ returns-in_ok-leave_items-in-Sequence-clause-left t c =
     c.in_ok-leave_items-in-Sequence.ensures
     ∙ ap (λ ns. before ++ within levels (map view ns)) c.as_slice.ensures.value
     ∙ ap (λ ns. before ++ within levels ns)
-    (sym (nodes_again (map view c.in-Sequence.items.items)) ∙ sym (ap inside (view_sequence c.args.node.now c.in-Sequence.items c.in-Sequence.is)))
+    (sym (nodes_again (map view c.in-Sequence.items.items)) ∙ sym (ap inside (view_sequence c.args.node.now c.in-Sequence.items c.in-Sequence.span c.in-Sequence.is)))
 
 pub returns-in_ok-leave_entries-in-Mapping-clause-left : goal.returns-in_ok-leave_entries-in-Mapping-clause-left
 returns-in_ok-leave_entries-in-Mapping-clause-left t c =
@@ -21,4 +21,4 @@ returns-in_ok-leave_entries-in-Mapping-clause-left t c =
     ∙ ap (λ es. before ++ within levels (members (map entry_view es))) c.as_slice-in-Mapping.ensures.value
     ∙ ap (λ ns. before ++ within levels ns)
     (sym (ap members (entries_again (map entry_view c.in-Mapping.entries.items)))
-    ∙ sym (ap inside (view_mapping c.args.node.now c.in-Mapping.entries c.in-Mapping.is)))
+    ∙ sym (ap inside (view_mapping c.args.node.now c.in-Mapping.entries c.in-Mapping.span c.in-Mapping.is)))

@@ -7,4 +7,4 @@ use Rattle.al_yaml_tree.proofs.node.Node.sequence.Goals as goal
 pub returns-in-Sequence : goal.returns-in-Sequence
 returns-in-Sequence c =
     ap (λ ns. Some (map view ns)) c.as_slice.ensures.value ∙ ap Some (sym (nodes_again (map view c.in-Sequence.items.items)))
-    ∙ sym (ap sequence_in (view_sequence c.unshared.result.now c.in-Sequence.items c.in-Sequence.is)) ∙ ap sequence_in c.unshared.ensures.view
+    ∙ sym (ap sequence_in (view_sequence c.unshared.result.now c.in-Sequence.items c.in-Sequence.span c.in-Sequence.is)) ∙ ap sequence_in c.unshared.ensures.view
