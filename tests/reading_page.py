@@ -2,9 +2,9 @@
 
 The page lists the definitions that the public theorems depend on, each module after those it uses. They are found in the sources: the names
 in a function's contract, by the `use` lines of its file, and then the names that each of these definitions uses (`definitions.py`). None of
-them may be in `specs/Private`, which holds words of private contracts. If an `impl` names proofs of its trait's laws (`specs/Proofs`), the
-laws count, which the trait states. Modules that use one another are listed together, and the page says so. No two of these definitions have
-the same name.
+them may be in `specs/Private`, which holds words of private contracts, except those that say how a type stores its value: the contracts of
+its methods say what the value is. If an `impl` names proofs of its trait's laws (`specs/Proofs`), the laws count, which the trait states.
+Modules that use one another are listed together, and the page says so. No two of these definitions have the same name.
 """
 
 import pathlib
@@ -69,7 +69,8 @@ def roots_of(top, definitions, crate, file, openings):
             inner, outer = imports(match[0].splitlines()), imports(text.splitlines())
             block = re.sub(r"ghost invariant = \{.*?\};", "", match[0], flags=re.DOTALL)
             words = set().union(*(words_of(line) for line in block.splitlines() if not USE.search(line)))
-            yield from definitions.named(words, {**outer[0], **inner[0]}, {**outer[1], **inner[1]})
+            found = definitions.named(words, {**outer[0], **inner[0]}, {**outer[1], **inner[1]})
+            yield from (it for it in found if ".Private." not in it[0].name)
 
 
 def in_order(modules, below):

@@ -65,7 +65,8 @@ module _ (size : ℕ) (s : Scalar) (at : Span) (there : LiesIn size at) (p : IsP
       let apart : i < j = grind (arith, nat_tests) in
       let same = length-map s.cells (λ c. c.0) in
       let last : offset_of s (j - 1) < size = from (j - 1) (omega (arith, apart, h)) in
-      let up : offset_of s i ≤ offset_of s (j - 1) = offset-order at.start (reach 1048576 s.style s.span.end) s.span.end s.cells i (j - 1) p.rising (omega (arith, apart)) (omega (arith, apart, h, same)) in
+      let up : offset_of s i ≤ offset_of s (j - 1) =
+      offset-order at.start (reach 1048576 s.style s.span.end) s.span.end s.cells i (j - 1) p.rising (omega (arith, apart)) (omega (arith, apart, h, same)) in
       record { ordered = omega (arith, up); inside = omega (arith, last) }
 
   located_lies : (i j : ℕ) → i ≤ j → j ≤ length (text_of s) → LiesIn size (span_in_file s i j)

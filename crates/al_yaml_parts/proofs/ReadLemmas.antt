@@ -107,7 +107,8 @@ empty-stops n at left x (stop.Fault f) h = cc
 empty-stops n at left x stop.Memory h = tt
 
 pub empty-ok : (bytes : List ℕ) (n m : State) (at next : ℕ) (r : ScalarRead) (p : code.Part) → broken_limit n.nodes n.text (start_of at 1 0 ∷ []) ≡ None → m ≡ with_nodes 1 n → at ≤ length bytes
-    → ◌≡◌ {A = Result value.ScalarRead FaultAt} (Ok (value.empty_at (lines_at bytes at))) (Ok (read_of bytes r)) → view p.node ≡ tree.scalar r.scalar r.scalar.span → p.end ≡ r.scalar.span.end → p.next ≡ next
+    → ◌≡◌ {A = Result value.ScalarRead FaultAt} (Ok (value.empty_at (lines_at bytes at))) (Ok (read_of bytes r)) → view p.node ≡ tree.scalar r.scalar r.scalar.span
+    → p.end ≡ r.scalar.span.end → p.next ≡ next
     → run n (empty_node at (lines_at bytes next)) ≡ Ok (part_of bytes p, m)
 empty-ok bytes n m at next r p fits more inside h a b c =
     let same : value.empty_at (lines_at bytes at) ≡ read_of bytes r = cc in

@@ -22,7 +22,9 @@ cells_from i [] = []
 cells_from i (b ∷ bs) = (b, i) ∷ cells_from (i + 1) bs
 
 abbrev pub plain : Class → List ℕ → ℕ → Node
-plain c text i = scalar (record { style = Plain; class = c; cells = cells_from i text; span = at i (i + length text) }) (at i (i + length text))
+plain c text i =
+    let span = at i (i + length text) in
+    scalar (record { style = Plain; class = c; cells = cells_from i text; span = span }) span
 
 abbrev pub word : List ℕ → ℕ → Node
 word = plain Str
