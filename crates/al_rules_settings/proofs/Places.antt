@@ -79,12 +79,12 @@ module _ (size : ℕ) where
       let fits : i + length (b ∷ bs) ≤ length (text_of t.0) = o.fits in
       let inside : last < length cells = omega (arith, len, fits) in
       let lower : i ≤ last = omega arith in
-      let rises : offset_of t.0 i ≤ offset_of t.0 last = offset-order t.1.start (reach 1048576 t.0.style t.0.end) t.0.end cells i last p.placed.rising lower inside in
+      let rises : offset_of t.0 i ≤ offset_of t.0 last = offset-order t.1.start (reach 1048576 t.0.style t.0.span.end) t.0.span.end cells i last p.placed.rising lower inside in
       let reads : get_or (text_of t.0) (i + length bs) 0 ≡ get_or (b ∷ bs) (length bs) 0 = o.reads (length bs) (omega arith) in
       let at_last : get_or (text_of t.0) last 0 ≡ get_or (b ∷ bs) (length bs) 0 = ap (λ k. get_or (text_of t.0) k 0) is ∙ reads in
-      let ends : offset_of t.0 last < t.0.end = before_end t.0.end t.0.end cells last p.placed.before inside (λ e. n (sym at_last ∙ e)) in
+      let ends : offset_of t.0 last < t.0.span.end = before_end t.0.span.end t.0.span.end cells last p.placed.before inside (λ e. n (sym at_last ∙ e)) in
       let to : t.1.end ≤ size = p.place.inside in
-      let same : t.0.end ≡ t.1.end = p.placed.end in
+      let same : t.0.span.end ≡ t.1.end = p.placed.end in
       after_at (nat_lt (offset_of t.0 last) (2 ^ 32 - 1)) (offset_of t.0 i) (offset_of t.0 last) rises (omega (arith, ends, to, same))
 
   command_lies : (t : Scalar × Span) (c : List ℕ × List ℕ) → Text size t → IsNeedle c.0 → AllByRecursion (Lies size) (one_command t.0 c)
