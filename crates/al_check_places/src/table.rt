@@ -1,6 +1,6 @@
 //! Which contexts and special functions are available where: the table, and finding a row.
-ghost use Rattle.std.specs.Prelude.{◌≡◌, map, option_map, true};
-ghost use Rattle.al_check_places.specs.Availability.{availability, longer, row_view, table};
+ghost use Rattle.std.specs.Prelude.{◌≡◌, ◌&&◌, ◌==◌, find, length, map, option_map, true};
+ghost use Rattle.al_check_places.specs.Availability.{availability, row_view, table};
 ghost use Rattle.al_check_places.specs.Paths.{is_path_prefix, key_view};
 ghost use Rattle.std.specs.Option.{option_map_or};
 ghost use Rattle.std.specs.Str.{bytes_eq};
@@ -278,27 +278,34 @@ pub(crate) fn begins_keys(path: &[Key], keys: &[&[u8]]) -> bool
     true
 }
 
-fn better(best: Option<&'static Row>, row: &'static Row) -> Option<&'static Row>
-    ensures { option_map (λ r. row_view r.now) result
-        ≡ longer (option_map (λ r. row_view r.now) best.entry) (row_view row.now) }
+/// Whether the keys are a path.
+pub(crate) fn is_path(path: &[Key], keys: &[&[u8]]) -> bool
+    ensures { let ks = map (λ k. k.now) keys.now in let p = map key_view path.now in
+        result ≡ ((length p == length ks) && is_path_prefix p ks) }
 {
-    match best {
-        Some(old) if old.path.len() < row.path.len() => Some(row),
-        Some(old) => Some(old),
-        None => Some(row),
-    }
+    path.len() == keys.len() && begins_keys(path, keys)
 }
+
+/// The row whose path the keys are.
+fn row_of(keys: &[&[u8]]) -> Option<&'static Row>
+    ensures { let ks = map (λ k. k.now) keys.now in option_map (λ r. row_view r.now) result
+        ≡ find (λ r. (length r.path == length ks) && is_path_prefix r.path ks) table }
+{
+    rows().iter().find(|row| is_path(row.path, keys))
+}
+
+/// No path of the table has more keys.
+const LONGEST: usize = 6;
 
 /// The row of a place, by the keys on the way to it; `None` if everything is available.
 pub fn available(keys: &[&[u8]]) -> Option<&'static Row>
     ensures { option_map (λ r. row_view r.now) result ≡ availability (map (λ k. k.now) keys.now) }
 {
-    let rows = rows();
-    let mut best: Option<&'static Row> = None;
-    for row in rows {
-        if begins_keys(row.path, keys) {
-            best = better(best, row);
+    for count in (0..keys.len().min(LONGEST) + 1).rev() {
+        let row = row_of(&keys[..count]);
+        if row.is_some() {
+            return row;
         }
     }
-    best
+    None
 }

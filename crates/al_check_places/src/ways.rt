@@ -5,7 +5,7 @@ ghost use Rattle.al_check_places.specs.Ways as ways;
 ghost use Rattle.al_check_places.specs.Ways.{begins_one, is_one, keys_of, way_step_view};
 
 use crate::table::Key::{Id, Named};
-use crate::table::{Key, begins_keys};
+use crate::table::{Key, begins_keys, is_path};
 use al_tree::FileKind;
 use std::alloc::{AllocError, Global};
 
@@ -145,7 +145,7 @@ fn is_any(paths: &[&[Key]], keys: &[&[u8]]) -> bool
     ensures { result ≡ is_one (map (λ p. map key_view p.now) paths.now) (map (λ k. k.now) keys.now) }
 {
     for path in paths {
-        if path.len() == keys.len() && begins_keys(path, keys) {
+        if is_path(path, keys) {
             return true;
         }
     }

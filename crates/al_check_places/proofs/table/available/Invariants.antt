@@ -1,12 +1,12 @@
-use Rattle.std.proofs.Common.{◌≡◌, drop, map, filter, Bor, List, ℕ, option_map}
-use Rattle.std.specs.List.{fold}
-use Rattle.al_check_places.specs.Availability.{availability, longer, row_view}
-use Rattle.al_check_places.specs.Paths.{is_path_prefix}
+use Rattle.std.proofs.Common.{◌≡◌, ◌+◌, ◌≤◌, false, length, map}
+use Rattle.std.specs.List.{list_any}
+use Rattle.al_check_places.specs.Availability.{table}
+use Rattle.al_check_places.proofs.Longest.{begins, reaches}
 use Rattle.al_check_places.proofs.table.available.Given as goal
-use Rattle.al_check_places.specs.declared.table.Row.{Row}
 
-abbrev pub invariant-loop-row : goal.invariant-loop-row
-invariant-loop-row l =
-    fold longer (option_map (λ (r : Bor Row). row_view r.now) l.best)
-    (filter (λ r. is_path_prefix r.path (map (λ (k : Bor (List ℕ)). k.now) l.keys)) (map row_view (drop l.row-index l.rows)))
-    ≡ availability (map (λ (k : Bor (List ℕ)). k.now) l.keys)
+-- no path with so many keys or more begins the keys
+abbrev pub invariant-loop-count : goal.invariant-loop-count
+invariant-loop-count l = record {
+  inside : l.count ≤ length l.keys + 1;
+  fewer : list_any (reaches (begins (map (λ k. k.now) l.keys)) l.count) table ≡ false;
+}
