@@ -55,6 +55,7 @@ fn check_missing(
 }
 
 /// Adds the fault of a key that can't stand beside another.
+#[inline(always)]
 fn check_beside(
     other: Option<&'static str>,
     key: &Node,

@@ -1,5 +1,6 @@
 //! The text of a key, and the keys of a mapping.
 
+ghost use Rattle.al_base.specs.NamePlaces.{TellsFirsts, is_first_text, text_place, text_position};
 ghost use Rattle.al_tree.specs.Keys.{IsIndexOf, has_first, holds, key_of as key_in, key_text as text_in, keys_in, repeats};
 ghost use Rattle.al_tree.specs.Faults.{is_key};
 ghost use Rattle.al_yaml_tree.specs.View.{entry_view, view};
@@ -25,7 +26,7 @@ pub fn key_of(entry: &Entry) -> &[u8]
 }
 
 /// Up to this many keys of a mapping are compared one by one; most mappings have no more.
-const FEW: usize = 8;
+pub const FEW_KEYS: usize = 8;
 
 /// The first entry with a key.
 pub(crate) fn entry_among<'a>(entries: &'a [Entry], key: &str) -> Option<&'a Entry>
@@ -33,6 +34,20 @@ pub(crate) fn entry_among<'a>(entries: &'a [Entry], key: &str) -> Option<&'a Ent
         ≡ find (is_key key.now) (map entry_view entries.now) }
 {
     entries.iter().find(|entry| key_of(entry) == key.as_bytes())
+}
+
+/// The first position of the key of each entry. Fails with `AllocError` if memory runs out.
+fn key_positions<'a>(alloc: Global, entries: &'a [Entry]) -> Result<TextPositions<'a>, AllocError>
+    ensures position { IfOk result
+        (λ p. text_position p ≡ text_place (keys_in (map entry_view entries.now))) }
+    ensures first { let ks = keys_in (map entry_view entries.now) in
+        IfOk result (λ p. TellsFirsts (text_place ks) ks (is_first_text p)) }
+{
+    let mut keys = Vec::with_capacity(alloc, entries.len())?;
+    for entry in entries {
+        keys.push(key_of(entry))?;
+    }
+    TextPositions::of(alloc, keys.as_slice())
 }
 
 /// The keys of a mapping, prepared for lookups.
@@ -47,20 +62,17 @@ impl<'a> KeyIndex<'a> {
     /// The keys of some entries. With few entries it takes no time and doesn't allocate. Fails with `AllocError` if
     /// memory runs out.
     #[tactic(auto, using(crate::proofs::KeyLemmas::few_keys, crate::proofs::KeyLemmas::many_keys))]
+    #[inline(always)]
     pub fn of(alloc: Global, entries: &'a [Entry]) -> Result<KeyIndex<'a>, AllocError>
         ensures { IfOk result (λ x. IsIndexOf x entries.now) }
     {
-        if entries.len() <= FEW {
+        if entries.len() <= FEW_KEYS {
             return Ok(KeyIndex {
                 entries,
                 positions: None,
             });
         }
-        let mut keys = Vec::with_capacity(alloc, entries.len())?;
-        for entry in entries {
-            keys.push(key_of(entry))?;
-        }
-        let positions = TextPositions::of(alloc, keys.as_slice())?;
+        let positions = key_positions(alloc, entries)?;
         Ok(KeyIndex {
             entries,
             positions: Some(positions),

@@ -32,6 +32,7 @@ pub fn is_null_scalar(scalar: &Scalar) -> bool
 }
 
 /// The fault of a scalar where only the scalars of a set are accepted.
+#[inline(always)]
 pub fn scalar_fault(scalars: ScalarSet, scalar: &Scalar) -> Option<KeyCode>
     ensures { result ≡ faults.scalar_fault scalars scalar.now }
 {

@@ -32,6 +32,7 @@ pub fn runs_of(using_text: &[u8]) -> Shape
 }
 
 /// The shape of a mapping with these entries; that of `runs` depends on one of its keys.
+#[inline(always)]
 pub fn refine(shape: Shape, entries: &[Entry]) -> Shape
     ensures { result ≡ mapping_shape shape (map entry_view entries.now) }
 {
@@ -52,6 +53,7 @@ pub(crate) fn takes_null(shape: Shape) -> bool
 }
 
 /// The row of a key.
+#[inline(always)]
 fn row_at<'a>(rows: &'a [Row], key: &[u8]) -> Option<&'a Row>
     ensures { option_map (λ r. field_view r.now) result
         ≡ find (λ f. bytes_eq f.key key.now) (map field_view rows.now) }
@@ -103,6 +105,7 @@ fn clash(clash: Clash, seen: KeySet<'_>, all: KeySet<'_>) -> Option<&'static str
 }
 
 /// The standing of an entry with a key, after the keys seen so far, in a mapping with all these keys.
+#[inline(always)]
 pub fn standing_of(keys: Keys, key: EntryKey<'_>, all: KeySet<'_>) -> Standing
     ensures { standing_view result
         ≡ stands (keys_view keys) (holds (key.entry).seen) (holds all.entry) (key.entry).key.now }
