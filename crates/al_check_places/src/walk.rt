@@ -19,8 +19,8 @@ use crate::ways::{Way, is_checked, is_condition, is_script};
 use al_base::Span;
 use al_scalar::Scalar;
 use al_tree::{
-    FileKind, KeyIndex, Keys, Rule, ScalarNode, ScalarSet, Shape, Standing, contains_chunk,
-    is_null_scalar, key_of, refine, root_shape, rule_of, scalar_fault, standing_of,
+    FEW_KEYS, FileKind, KeyIndex, Keys, Rule, ScalarNode, ScalarSet, Shape, Standing,
+    contains_chunk, is_null_scalar, key_of, refine, root_shape, rule_of, scalar_fault, standing_of,
 };
 use al_yaml_tree::{Entry, Node};
 use std::alloc::{AllocError, Global};
@@ -199,8 +199,8 @@ fn find_entries<'a>(
     ensures way { OnOk result (walk.new.way.steps.items ≡ walk.old.way.steps.items) }
     ensures kind { OnOk result (walk.new.kind ≡ walk.old.kind) }
 {
-    // Most mappings need no further tests.
-    if !entries.iter().any(may_have_expression) {
+    // Many keys are sorted only if there may be an expression.
+    if entries.len() > FEW_KEYS && !entries.iter().any(may_have_expression) {
         return Ok(());
     }
     let index = KeyIndex::of(walk.alloc, entries)?;

@@ -132,24 +132,14 @@ fn begins_any(paths: &[&[Key]], keys: &[&[u8]]) -> bool
     ensures { result
         ≡ begins_one (map (λ p. map key_view p.now) paths.now) (map (λ k. k.now) keys.now) }
 {
-    for path in paths {
-        if begins_keys(path, keys) {
-            return true;
-        }
-    }
-    false
+    paths.iter().any(|path| begins_keys(path, keys))
 }
 
 /// Whether the keys are one of these paths.
 fn is_any(paths: &[&[Key]], keys: &[&[u8]]) -> bool
     ensures { result ≡ is_one (map (λ p. map key_view p.now) paths.now) (map (λ k. k.now) keys.now) }
 {
-    for path in paths {
-        if is_path(path, keys) {
-            return true;
-        }
-    }
-    false
+    paths.iter().any(|path| is_path(path, keys))
 }
 
 /// Whether the node at the end of a way is checked.
