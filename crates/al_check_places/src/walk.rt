@@ -176,6 +176,7 @@ fn find_items<'a>(shape: Shape, nodes: &'a [Node], walk: &mut Walk<'a>) -> Resul
 }
 
 /// Whether an entry may have an expression: a scalar without `${{` has none, unless its key ends in `if`, like those of conditions.
+#[inline(always)]
 fn may_have_expression(entry: &Entry) -> bool
     ensures { result ≡ walks.may_have_expression (entry_view entry.now) }
 {
