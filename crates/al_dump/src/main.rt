@@ -96,7 +96,7 @@ fn scalar_line(alloc: Global, file: &[u8]) -> Result<String, AllocError> {
     match read_scalar(alloc, file, 0, ScalarContext::BlockFromIndent(0))? {
         Ok(read) => {
             line.push_str("{\"tree\":")?;
-            push_scalar(alloc, &mut line, &read.scalar, read.span)?;
+            push_scalar(alloc, &mut line, &read.scalar)?;
         }
         Err(fault) => {
             line.push_str("{\"fault\":")?;

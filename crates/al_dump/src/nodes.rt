@@ -24,7 +24,7 @@ fn push_comma(out: &mut String, index: usize) -> Result<(), AllocError> {
 #[cycle(nodes)]
 pub fn push_node(alloc: Global, out: &mut String, node: &Node) -> Result<(), AllocError> {
     match node {
-        Node::Scalar(scalar) => push_scalar(alloc, out, scalar, scalar.span()),
+        Node::Scalar(scalar) => push_scalar(alloc, out, scalar),
         Node::Sequence { items, span } => {
             out.push_str("{\"kind\":\"list\",\"items\":[")?;
             for (i, item) in items.iter().enumerate() {
