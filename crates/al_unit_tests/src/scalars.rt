@@ -129,12 +129,15 @@ fn reads(alloc: Global, case: &Case) -> Result<bool, AllocError> {
         return Ok(false);
     }
     match read_scalar(alloc, case.file, case.at, case.place)? {
-        Ok(read) => Ok(
-            read.scalar.span().start as usize == case.at
-                && Some(&read.scalar.span().end) == case.offsets.last()
-                && read.next == case.next
-                && is_as_expected(&read.scalar, case),
-        ),
+        Ok(read) => {
+            let span = read.scalar.span();
+            Ok(
+                span.start as usize == case.at
+                    && Some(&span.end) == case.offsets.last()
+                    && read.next == case.next
+                    && is_as_expected(&read.scalar, case),
+            )
+        }
         Err(_) => Ok(false),
     }
 }
