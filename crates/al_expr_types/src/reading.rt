@@ -69,6 +69,19 @@ impl Fields<'_> {
             }
         }
     }
+
+    /// The type of the field with a name, otherwise that of other fields, if others are possible.
+    fn property(&self, name: &[u8]) -> Result<Option<Ty>, AllocError>
+        ensures ty { IfOk result (λ t. (ms : List Parts) → option_map (type_in ms) t
+            ≡ property_in name.now (object_type (fields_parts ms self.now))) }
+        ensures below { IfOk result
+            (λ t. (n : ℕ) → are_fields_below n self.now ≡ true → is_rest_below n t ≡ true) }
+    {
+        match self.map.get(name, self.count)? {
+            Some(ty) => Ok(Some(ty)),
+            None => Ok(self.rest),
+        }
+    }
 }
 
 /// Joins a part of an object with string fields with the types so far.
@@ -163,6 +176,9 @@ impl<'a> Types<'a> {
         ensures known { IfOk result (λ t. is_rest_below (length self.new.objects.items) t ≡ true) }
         ensures kept { BeginsWith (objects_of self.new) (objects_of self.old) }
     {
+        if let Object::Fields(fields) = self.object(n) {
+            return fields.property(name);
+        }
         self.prepare(n)?;
         self.find(n, name)
     }
