@@ -58,6 +58,12 @@ walks_append ts mid ss s rest (to_all w) one = to_all (walks_append _ _ _ s rest
 walks_append ts mid ss s rest (to_each w) one = to_each (walks_append _ _ _ s rest w one)
 walks_append ts mid ss s rest (to_index d w) one = to_index d (walks_append _ _ _ s rest w one)
 
+-- a path after its base, as far as it was read
+pub record PathBegun (room : ℕ) (ts : List Lexeme) (t : Tree) (ss : List StepTree) (rest : List Lexeme) : Type 0 where
+  pub mid : List Lexeme
+  pub base : Parsed Primary room ts t mid
+  pub steps : PartOfPath room mid ss rest
+
 pub path_begins : (room : ℕ) (ts : List Lexeme) → PartOfPath room ts [] ts
 path_begins room ts = record { derives = arrived; goes = λ k st h. refl; shorter = omega arith }
 
@@ -68,16 +74,7 @@ path_goes_on room ts mid rest ss s w r = record {
   shorter = let a = w.shorter in let b = r.shorter in omega arith;
 }
 
-walks_none : {ts rest : List Lexeme} {ss : List StepTree} → Walks ts ss rest → ss ≡ [] → ts ≡ rest
-walks_none arrived e = refl
-walks_none _ e = cc
-
--- the path if no step was read, and if some were
-pub without_steps : (room : ℕ) (ts mid rest : List Lexeme) (t : Tree) (xs : List PathStep) → length xs ≡ 0 → Parsed Primary room ts t mid
-    → PartOfPath room mid (map step_of xs) rest → EndsPath (kinds rest) → Parsed Postfix room ts t rest
-without_steps room ts mid rest t [] none p w ends = bare_read room ts rest t (subst (λ m. Parsed Primary room ts t m) (walks_none w.derives refl) p) ends
-without_steps room ts mid rest t (x ∷ xs) none p w ends = absurd (omega (arith, none))
-
+-- the path if some steps were read
 pub with_steps : (room : ℕ) (ts mid rest : List Lexeme) (t : Tree) (xs : List PathStep) → 0 < length xs → Parsed Primary room ts t mid
     → PartOfPath room mid (map step_of xs) rest → EndsPath (kinds rest) → Parsed Postfix room ts (Path t (steps_of (map step_of xs))) rest
 with_steps room ts mid rest t [] some p w ends = absurd (omega (arith, some))
@@ -147,21 +144,36 @@ chain_goes_on l room ts inner rest os o b s t c lv p = record {
   shorter = let a = c.shorter in let d = p.shorter in omega arith;
 }
 
-operators_none : {l : ℕ} {ts rest : List Lexeme} {os : List (Sign × Tree)} → Operators l ts os rest → os ≡ [] → ts ≡ rest
-operators_none no_more e = refl
-operators_none (one_more a d w) e = cc
-
--- the chain if no further operand was read, and if some were
-pub without_operands : (l room : ℕ) (ts mid rest : List Lexeme) (t : Tree) (xs : List Operand) → length xs ≡ 0 → Parsed (below l) room ts t mid
-    → PartOfChain l room mid (map operand_of xs) rest → NoOperator l (kinds rest) → Parsed (Binary l) room ts t rest
-without_operands l room ts mid rest t [] none p c never = single_read l room ts rest t (subst (λ m. Parsed (below l) room ts t m) (operators_none c.derives refl) p) never
-without_operands l room ts mid rest t (x ∷ xs) none p c never = absurd (omega (arith, none))
-
+-- the chain if further operands were read
 pub with_operands : (l room : ℕ) (ts mid rest : List Lexeme) (t : Tree) (xs : List Operand) → 0 < length xs → Parsed (below l) room ts t mid
     → PartOfChain l room mid (map operand_of xs) rest → EndsRule (below l) (kinds rest) → NoOperator l (kinds rest)
     → Parsed (Binary l) room ts (Chain t (operands_of (map operand_of xs))) rest
 with_operands l room ts mid rest t [] some p c s never = absurd (omega (arith, some))
 with_operands l room ts mid rest t (x ∷ xs) some p c s never = chain_read l room ts mid rest t (operand_of x) (map operand_of xs) p c s never
+
+pub some_element : {X : Type 0} (xs : List X) (x : X) → 0 < length (xs ++ x ∷ [])
+some_element [] x = omega arith
+some_element (y ∷ ys) x = omega arith
+
+-- an operand of the next level
+pub at_next_level : (i room : ℕ) (ts rest : List Lexeme) (t : Tree) → Parsed (Binary i) room ts t rest → Parsed (below (i + 1)) room ts t rest
+at_next_level i room ts rest t p =
+    let next : suc i ≡ i + 1 = omega arith in subst (λ k. Parsed (below k) room ts t rest) next p
+
+pub chain_made : (i j room : ℕ) (ts mid left rest : List Lexeme) (t u : Tree) → mid ≡ left → j ≡ i
+    → ((all : List Lexeme) → Parsed (below j) room all t left → Parsed (Binary j) room all u rest) → Parsed (below i) room ts t mid → Parsed (Binary i) room ts u rest
+chain_made i j room ts mid left rest t u same level make p =
+    let q = subst (λ m. Parsed (below i) room ts t m) same p in
+    subst (λ k. Parsed (Binary k) room ts u rest) level (make ts (subst (λ k. Parsed (below k) room ts t left) (sym level) q))
+
+-- What is refused at a tighter level is refused.
+pub refused_below : (i l room : ℕ) (ts : List Lexeme) (e : ParseError) → i < l → Refused (Binary i) room ts e → Refused (below l) room ts e
+refused_below i zero room ts e lt r = absurd (omega (arith, lt))
+refused_below i (suc l) room ts e lt r = r
+
+pub unary_refused : (l room : ℕ) (ts : List Lexeme) (e : ParseError) → Refused Unary room ts e → Refused (below l) room ts e
+unary_refused zero room ts e r = r
+unary_refused (suc l) room ts e r = λ k st a h. r k st tt h
 
 -- A later operand of a chain is refused.
 pub later_refused : (l room : ℕ) (ts mid inner : List Lexeme) (t : Tree) (os : List (Sign × Tree)) (o : Operator) (b : List ℕ) (s : Span)

@@ -1,9 +1,9 @@
-//! A recursive descent parser: a function for each level of the operators.
+//! A recursive descent parser.
 
-ghost use Rattle.std.specs.Prelude.{map, IfOk, ◌≡◌, ◌+◌, ◌++◌, MatchOption, MatchResult, [], ◌∷◌};
-ghost use Rattle.al_expr_grammar.specs.Lexeme.{seen, kinds, kind_of, lexeme_text, lexeme_span};
+ghost use Rattle.std.specs.Prelude.{map, List, ◌≡◌, ◌+◌, MatchOption, MatchResult, [], ◌∷◌};
+ghost use Rattle.al_expr_grammar.specs.Lexeme.{Lexeme, seen, kinds, kind_of, lexeme_text, lexeme_span};
 ghost use Rattle.al_expr_grammar.specs.Parsed.{EndsPath, IsStray, IsVerdict, Lacks, NoBang, NoOperator};
-ghost use Rattle.al_expr_grammar.specs.Parsed.{Parses, ParsesStep, StepRead, StepRefused, ArgumentsRead, ArgumentsRefused};
+ghost use Rattle.al_expr_grammar.specs.Parsed.{Parsed, Parses, ParsesStep, StepRead, StepRefused, ArgumentsRead, ArgumentsRefused};
 ghost use Rattle.al_expr_grammar.specs.View.{expr_view, step_of};
 ghost use Rattle.al_expr_grammar.specs.Grammar.{Binary, Unary, Postfix, Primary, level_of, below, IsTreeOf};
 ghost use Rattle.al_expr_grammar.specs.Table.{Fine, verdict_of};
@@ -42,15 +42,15 @@ impl<T: Drop> From<AllocFailed<T>> for ParseError {
 /// What the first tokens spell, and the tokens after them.
 type Parse<'t, 'a, T = Expr<'a>> = Result<(T, &'t [Token<'a>]), ParseError>;
 
-/// The level of `||`.
-const LOOSEST: u8 = 3;
+/// How many levels of operators there are.
+const LEVELS: u8 = 4;
 
-/// The level of an operator, from 0, the tightest, to `LOOSEST`.
+/// The level of an operator, from 0, the tightest.
 fn level_of(operator: Operator) -> u8
     ensures { result ≡ level_of operator }
 {
     match operator {
-        Operator::Or => LOOSEST,
+        Operator::Or => 3,
         Operator::And => 2,
         Operator::Equal | Operator::NotEqual => 1,
         Operator::Less | Operator::LessEqual | Operator::Greater | Operator::GreaterEqual => 0,
@@ -77,18 +77,6 @@ fn word<'a>(token: Token<'a>) -> Word<'a>
         text: token.text,
         span: token.span,
     }
-}
-
-/// Appends to the steps of a path or the operands of a chain. The first one reserves room only for itself, since most
-/// lists have no other.
-fn add<T: Drop>(list: &mut Vec<T>, item: T) -> Result<(), AllocError>
-    ensures { IfOk result (λ _. list.new.items ≡ list.old.items ++ item ∷ []) }
-{
-    if list.is_empty() {
-        list.reserve_exact(1)?;
-    }
-    list.push(item)?;
-    Ok(())
 }
 
 /// The first token, which must be of this kind, and the rest.
@@ -182,7 +170,7 @@ fn group<'t, 'a>(alloc: Global, bracket: Token, tokens: &'t [Token<'a>], room: u
     ensures { Parses Primary room (seen bracket.entry ∷ map seen tokens.now) result }
 {
     let inner = deeper(room, tokens.len() + 1)?;
-    let (expr, left) = binary(alloc, LOOSEST, tokens, inner)?;
+    let (expr, left) = operand(alloc, LEVELS, tokens, inner)?;
     let (close, rest) = expect(left, TokenKind::Close)?;
     let boxed = Box::new(alloc, expr)?;
     Ok((Expr::Group(boxed, bracket.span, close.span), rest))
@@ -225,11 +213,11 @@ fn arguments<'t, 'a>(
         (λ x. ArgumentsRead room (map seen tokens.now) (map expr_view x.0.items) (map seen x.1.now))
         (λ e. ArgumentsRefused room (map seen tokens.now) e) }
 {
-    let (first, mut left) = binary(alloc, LOOSEST, tokens, room)?;
+    let (first, mut left) = operand(alloc, LEVELS, tokens, room)?;
     let mut given = Vec::new(alloc);
     given.push(first)?;
     'list: while let Some((_, next)) = accept(left, TokenKind::Comma) {
-        let (argument, rest) = binary(alloc, LOOSEST, next, room)?;
+        let (argument, rest) = operand(alloc, LEVELS, next, room)?;
         given.push(argument)?;
         left = rest;
     }
@@ -243,20 +231,22 @@ fn postfix<'t, 'a>(alloc: Global, tokens: &'t [Token<'a>], room: u32) -> Parse<'
     requires { NoBang (kinds (map seen tokens.now)) }
     ensures { Parses Postfix room (map seen tokens.now) result }
 {
-    let (base, mut left) = primary(alloc, tokens, room)?;
-    let mut steps = Vec::new(alloc);
+    let (base, after) = primary(alloc, tokens, room)?;
+    let Some((first, mut left)) = step(alloc, after, room)? else {
+        return Ok((base, after));
+    };
+    let mut steps = Vec::with_capacity(alloc, 1)?;
+    steps.push(first)?;
     'walk: while let Some((taken, rest)) = step(alloc, left, room)? {
-        add(&mut steps, taken)?;
+        steps.push(taken)?;
         left = rest;
-    }
-    if steps.len() == 0 {
-        return Ok((base, left));
     }
     Ok((Expr::Path(Box::new(alloc, base)?, steps), left))
 }
 
 /// A step at the start; `None` if the path doesn't continue.
 #[cycle(parser)]
+#[inline(always)]
 fn step<'t, 'a>(
     alloc: Global,
     tokens: &'t [Token<'a>],
@@ -292,7 +282,7 @@ fn index<'t, 'a>(
         let (close, rest) = expect(left, TokenKind::CloseIndex)?;
         return Ok((PathStep::All(bracket.span, close.span), rest));
     }
-    let (expr, left) = binary(alloc, LOOSEST, tokens, inner)?;
+    let (expr, left) = operand(alloc, LEVELS, tokens, inner)?;
     let (close, rest) = expect(left, TokenKind::CloseIndex)?;
     Ok((PathStep::Index(bracket.span, expr, close.span), rest))
 }
@@ -311,40 +301,59 @@ fn unary<'t, 'a>(alloc: Global, tokens: &'t [Token<'a>], room: u32) -> Parse<'t,
     Ok((Expr::Not(bang.span, Box::new(alloc, expr)?), rest))
 }
 
-/// Operands, separated by operators of one level.
-#[tactic(auto, using(crate::proofs::Chains::later_refused))]
-#[cycle(parser)]
-fn binary<'t, 'a>(alloc: Global, level: u8, tokens: &'t [Token<'a>], room: u32) -> Parse<'t, 'a>
-    ensures { Parses (Binary level) room (map seen tokens.now) result }
-{
-    let (first, mut left) = operand(alloc, level, tokens, room)?;
-    let mut more = Vec::new(alloc);
-    'chain: while let Some((found, sign, inner)) = operator(level, left) {
-        let (expr, rest) = operand(alloc, level, inner, room)?;
-        let next = Operand {
-            operator: found,
-            at: sign.span,
-            expr,
-        };
-        add(&mut more, next)?;
-        left = rest;
-    }
-    if more.len() == 0 {
-        return Ok((first, left));
-    }
-    Ok((Expr::Chain(Box::new(alloc, first)?, more), left))
-}
-
-/// An operand of a level.
+/// An operand of a level: paths and negations, separated by operators of the levels below it.
+#[tactic(auto, using(crate::proofs::Chains::refused_below, crate::proofs::Chains::unary_refused))]
 #[cycle(parser)]
 fn operand<'t, 'a>(alloc: Global, level: u8, tokens: &'t [Token<'a>], room: u32) -> Parse<'t, 'a>
     ensures { Parses (below level) room (map seen tokens.now) result }
 {
-    if level == 0 {
-        unary(alloc, tokens, room)
-    } else {
-        binary(alloc, level - 1, tokens, room)
+    let (mut expr, mut left) = unary(alloc, tokens, room)?;
+    'levels: for tighter in 0..level {
+        let Some((found, sign, inner)) = operator(tighter, left) else {
+            continue;
+        };
+        let (whole, rest) = chain(alloc, expr, found, sign, inner, room)?;
+        expr = whole;
+        left = rest;
     }
+    Ok((expr, left))
+}
+
+/// Operators of one level with their operands, after the first operand and operator.
+#[tactic(auto, using(crate::proofs::Chains::later_refused))]
+#[cycle(parser)]
+fn chain<'t, 'a>(
+    alloc: Global,
+    first: Expr<'a>,
+    which: Operator,
+    sign: Token<'a>,
+    tokens: &'t [Token<'a>],
+    room: u32,
+) -> Parse<'t, 'a>
+    requires { kind_of (seen sign) ≡ Infix which }
+    ensures { (all : List Lexeme)
+        → Parsed (below (level_of which)) room all (expr_view first.entry)
+        (seen sign.entry ∷ map seen tokens.now)
+        → Parses (Binary (level_of which)) room all result }
+{
+    let level = level_of(which);
+    let (second, mut left) = operand(alloc, level, tokens, room)?;
+    let mut more = Vec::with_capacity(alloc, 1)?;
+    more.push(Operand {
+        operator: which,
+        at: sign.span,
+        expr: second,
+    })?;
+    'operators: while let Some((found, sign, inner)) = operator(level, left) {
+        let (expr, rest) = operand(alloc, level, inner, room)?;
+        more.push(Operand {
+            operator: found,
+            at: sign.span,
+            expr,
+        })?;
+        left = rest;
+    }
+    Ok((Expr::Chain(Box::new(alloc, first)?, more), left))
 }
 
 /// The tree of the tokens, or the first fault in them.
@@ -354,7 +363,7 @@ pub fn parse<'a>(alloc: Global, tokens: &[Token<'a>]) -> Result<Expr<'a>, ParseE
         × IsTreeOf (expr_view e) (map seen tokens.now))
         (λ e. IsVerdict e (verdict_of (kinds (map seen tokens.now)))) }
 {
-    let (expr, rest) = binary(alloc, LOOSEST, tokens, DEEPEST_EXPRESSION)?;
+    let (expr, rest) = operand(alloc, LEVELS, tokens, DEEPEST_EXPRESSION)?;
     match rest.len() {
         0 => Ok(expr),
         left => Err(ParseError::Unexpected(left)),

@@ -1,4 +1,4 @@
-use Rattle.std.proofs.Common.{map, refl, arith}
+use Rattle.std.proofs.Common.{◌∷◌, map, refl, sym}
 use Rattle.std.proofs.lemmas.List.{map-append}
 use Rattle.al_expr_grammar.specs.Lexeme.{seen}
 use Rattle.al_expr_grammar.proofs.Trees.{tree_of-Keyword, tree_of-Number, tree_of-Text, tree_of-Name, tree_of-Call, tree_of-Group, tree_of-Not, tree_of-Path}
@@ -6,8 +6,8 @@ use Rattle.al_expr_grammar.proofs.Trees.{tree_of-Chain, step_of-All, step_of-Ind
 use Rattle.al_expr_grammar.proofs.Rules.{constant_read, number_read, text_read, name_read, group_read, call_empty_read}
 use Rattle.al_expr_grammar.proofs.Rules.{first_argument_refused, later_argument_read, later_argument_refused, call_closed, call_not_closed}
 use Rattle.al_expr_grammar.proofs.Rules.{each_read, star_not_closed, index_read, index_refused, index_not_closed}
-use Rattle.al_expr_grammar.proofs.Chains.{not_read, positive_read, path_begins, path_goes_on, with_steps, without_steps}
-use Rattle.al_expr_grammar.proofs.Chains.{chain_begins, chain_goes_on, with_operands, without_operands, either_way, refusal}
+use Rattle.al_expr_grammar.proofs.Chains.{not_read, positive_read, bare_read, path_begins, path_goes_on, path_refused, with_steps}
+use Rattle.al_expr_grammar.proofs.Chains.{at_next_level, chain_begins, chain_goes_on, chain_made, single_read, some_element, with_operands, either_way, refusal}
 use Rattle.al_expr_grammar.proofs.parser.+parser.Goals as goal
 
 pub primary-returns-in-Keyword : goal.primary-returns-in-Keyword
@@ -75,27 +75,39 @@ arguments-list-preserved t c =
     let h = rw (g.0, g.1) at c.list.invariant in
     rw (c.in_ok-push-2.ensures.items, map-append) (later_argument_read _ _ _ _ _ _ _ _ h c.in_ok-argument.ensures)
 
+pub postfix-returns-in_default : goal.postfix-returns-in_default
+postfix-returns-in_default t c =
+    let e = rw c.in_default.is at c.in_ok-first.ensures in
+    bare_read _ _ _ _ c.in_ok-base.ensures e
+
 pub postfix-walk-init : goal.postfix-walk-init
-postfix-walk-init t c = record { same = refl; so_far = rw c.new-steps.ensures.items (path_begins _ _) }
+postfix-walk-init t c =
+    let a = c.in_ok-push.ensures.items in
+    let s = rw c.in-Some.is at c.in_ok-first.ensures in
+    let b = path_goes_on _ _ _ _ _ _ (path_begins _ _) s in
+    record {
+      so_far = record { mid = _; base = c.in_ok-base.ensures; steps = rw (a, c.in_ok-steps.ensures.items) b };
+      some = rw a (some_element _ _);
+    }
 
 pub postfix-walk-preserved : goal.postfix-walk-preserved
 postfix-walk-preserved t c =
-    let a = c.in_ok-add.ensures in
-    let s = rw c.in-Some.is at c.in_ok-taken.ensures in
-    let b = path_goes_on _ _ _ _ _ _ c.walk.invariant.so_far s in
-    record { same = c.walk.invariant.same; so_far = rw (a, map-append) b }
+    let a = c.in_ok-push-2.ensures.items in
+    let p = c.walk.invariant.so_far in
+    let s = rw c.in-Some-2.is at c.in_ok-taken.ensures in
+    let b = path_goes_on _ _ _ _ _ _ p.steps s in
+    record { so_far = record { mid = p.mid; base = p.base; steps = rw (a, map-append) b }; some = rw a (some_element _ _) }
 
-pub postfix-returns-then-len-eq0 : goal.postfix-returns-then-len-eq0
-postfix-returns-then-len-eq0 t c =
-    let e = rw c.in_default.is at c.in_ok-taken.ensures in
-    rw c.walk.invariant.same
-    (without_steps _ _ _ _ _ _ (omega (arith, c.walk.steps.ok.0, c.len.ensures, c.if-len-eq0.true)) c.in_ok-base.ensures c.walk.invariant.so_far e)
+pub postfix-returns-in_err-taken : goal.postfix-returns-in_err-taken
+postfix-returns-in_err-taken t c =
+    let p = c.walk.invariant.so_far in
+    refusal _ _ c.from_residual-in_err-taken.result _ c.from_residual-in_err-taken.ensures.1 (path_refused _ _ _ _ _ _ _ p.base p.steps c.in_err-taken.ensures)
 
 pub postfix-returns : goal.postfix-returns
 postfix-returns t c =
-    let e = rw c.in_default.is at c.in_ok-taken.ensures in
-    rw (tree_of-Path, c.in_ok-new.ensures.ok, c.walk.invariant.same)
-    (with_steps _ _ _ _ _ _ (omega (arith, c.walk.steps.ok.0, c.len.ensures, c.if-len-eq0.false)) c.in_ok-base.ensures c.walk.invariant.so_far e)
+    let e = rw c.in_default-2.is at c.in_ok-taken.ensures in
+    let p = c.walk.invariant.so_far in
+    rw (tree_of-Path, c.in_ok-new.ensures.ok) (with_steps _ _ _ _ _ _ c.walk.invariant.some p.base p.steps e)
 
 pub index-returns-in_err-close : goal.index-returns-in_err-close
 index-returns-in_err-close t c =
@@ -136,24 +148,40 @@ unary-returns t c =
     let g = c.in-Some.ensures in
     rw (g.0, g.1, tree_of-Not, c.in_ok-new.ensures.ok) (not_read _ c.in_ok-within.within _ _ _ _ _ c.in_ok-within.ensures c.in_ok-expr.ensures)
 
-pub binary-chain-init : goal.binary-chain-init
-binary-chain-init t c = record { same = refl; so_far = rw c.new-more.ensures.items (chain_begins _ _ _); stops = c.in_ok-first.ensures.stops }
+pub operand-levels-preserved-in_default : goal.operand-levels-preserved-in_default
+operand-levels-preserved-in_default t c = at_next_level _ _ _ _ _ (single_read _ _ _ _ _ c.levels.invariant c.in_default.ensures)
 
-pub binary-chain-preserved : goal.binary-chain-preserved
-binary-chain-preserved t c =
-    let a = c.in_ok-add.ensures in
+pub operand-levels-preserved : goal.operand-levels-preserved
+operand-levels-preserved t c =
     let g = c.in-Some.ensures in
-    let h = rw (g.0, g.1) at c.chain.invariant.so_far in
+    at_next_level _ _ _ _ _ (chain_made _ _ _ _ _ _ _ _ _ g.0 g.2 c.in_ok-whole.ensures c.levels.invariant)
+
+pub chain-operators-init : goal.chain-operators-init
+chain-operators-init t c =
+    let a = c.in_ok-push.ensures.items in
+    let none = c.in_ok-more.ensures.items in
+    let h = rw c.requires at (chain_begins c.level_of-level.result c.args.room (seen c.args.sign ∷ map seen c.args.tokens.now)) in
+    let b = chain_goes_on _ _ _ _ _ _ _ _ _ _ h (sym c.level_of-level.ensures) c.in_ok-second.ensures in
+    record { same = refl; so_far = rw (a, none, operand_of-made, c.requires) b; some = rw a (some_element _ _); stops = c.in_ok-second.ensures.stops }
+
+pub chain-operators-preserved : goal.chain-operators-preserved
+chain-operators-preserved t c =
+    let a = c.in_ok-push-2.ensures.items in
+    let g = c.in-Some.ensures in
+    let h = rw (g.0, g.1) at c.operators.invariant.so_far in
     let b = chain_goes_on _ _ _ _ _ _ _ _ _ _ h g.2 c.in_ok-expr.ensures in
-    record { same = c.chain.invariant.same; so_far = rw (a, map-append, operand_of-made) b; stops = c.in_ok-expr.ensures.stops }
+    record {
+      same = c.operators.invariant.same;
+      so_far = rw (a, map-append, operand_of-made) b;
+      some = rw a (some_element _ _);
+      stops = c.in_ok-expr.ensures.stops;
+    }
 
-pub binary-returns-then-len-eq0 : goal.binary-returns-then-len-eq0
-binary-returns-then-len-eq0 t c =
-    rw c.chain.invariant.same
-    (without_operands _ _ _ _ _ _ _ (omega (arith, c.chain.more.ok.0, c.len.ensures, c.if-len-eq0.true)) c.in_ok-first.ensures c.chain.invariant.so_far c.in_default.ensures)
-
-pub binary-returns : goal.binary-returns
-binary-returns t c =
-    rw (tree_of-Chain, c.in_ok-new.ensures.ok, c.chain.invariant.same)
-    (with_operands _ _ _ _ _ _ _ (omega (arith, c.chain.more.ok.0, c.len.ensures, c.if-len-eq0.false)) c.in_ok-first.ensures c.chain.invariant.so_far
-    c.chain.invariant.stops c.in_default.ensures)
+pub chain-returns : goal.chain-returns
+chain-returns t c =
+    let e = c.level_of-level.ensures in
+    let so_far = rw e at c.operators.invariant.so_far in
+    let stops = rw e at c.operators.invariant.stops in
+    let ends = rw e at c.in_default.ensures in
+    λ all p. rw (tree_of-Chain, c.in_ok-new.ensures.ok, c.operators.invariant.same)
+    (with_operands _ _ _ _ _ _ _ c.operators.invariant.some p so_far stops ends)
