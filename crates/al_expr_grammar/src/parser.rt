@@ -124,6 +124,7 @@ fn deeper(room: u32, left: usize) -> Result<u32, ParseError>
 }
 
 /// The property that a dot leads to.
+#[inline(always)]
 fn property<'t, 'a>(dot: Token, tokens: &'t [Token<'a>], room: u32) -> Parse<'t, 'a, PathStep<'a>>
     requires { kind_of (seen dot) ≡ Dot }
     ensures { ParsesStep room (seen dot.entry ∷ map seen tokens.now) result }
