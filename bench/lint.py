@@ -155,7 +155,7 @@ def main():
             script = put_commands([(WORKFLOW, text)]) + b"report\n"
             inputs = [text.encode()] * len(others) + [script] * len(programs)
             compare(name, len(text), others + [[it, *SESSION] for it in programs], inputs)
-        for count, jobs_of_each in ((200, 5), (4_096, 1)):
+        for count, jobs_of_each in ((1, 6), (200, 5), (4_096, 1)):
             folder = pathlib.Path(made) / str(count)
             paths, size = fill(folder, count, jobs_of_each)
             commands = [[*it, *paths] for it in others] + [[it] for it in programs]

@@ -2,9 +2,9 @@
 a build of crates/actionlint, otherwise with the carried program.
 
 A time is that of a script with more edits or reports minus that of one with fewer, the least of several runs that take turns. Files have a
-line or two, so the session's own work shows, except for callers of 10 KB with 200 expressions. A put of an existing file finds it by hash,
-and looks only at its callers: its time doesn't grow with the other files. A new path and a delete move the files after them in the order of
-paths: this is shown with its cost.
+line or two, so the session's own work shows, except for usual workflows of 3 KB and callers of 10 KB with 200 expressions. A put of an
+existing file finds it by hash, and looks only at its callers: its time doesn't grow with the other files. A new path and a delete move the
+files after them in the order of paths: this is shown with its cost.
 
 Reports are over 4,096 workflows that call one another. Each is compared with the report on as many workflows without calls, with as many
 faults, each as far into its line, whose printed lines are as long. Every workflow has a fault of its own, so the status after a report,
@@ -17,6 +17,7 @@ import functools
 import subprocess
 import sys
 
+import lint
 from common import EMPTY, SESSION, least_in_turns, program, put_commands, run_seconds
 
 RUNS = 7
@@ -32,11 +33,13 @@ CALLER = "on: push\njobs:\n  c:\n    uses: ./.github/workflows/e.yml\n"
 CALLED = "on: workflow_call\njobs: {}\n"
 # a caller of 10 KB that has 200 expressions too
 LARGE_CALLER = CALLER + "  d:\n    runs-on: u\n    steps:\n" + "      - run: make ${{ github.ref }} # a step of its job\n" * 200
+USUAL = lint.workflow(5)
 OTHER_INTERFACE = "on:\n  workflow_call:\n    inputs: {a: {type: string}}\njobs: {}\n"
 
 # what is timed: the text of the other files, the texts that are put in turn, how many of them, and the numbers of other files
 TABLE = {
     "put of other bytes, no file calls it": (EMPTY, (EMPTY, f"{EMPTY}#\n"), MANY, BESIDE),
+    "put of other bytes of a usual workflow, beside others": (USUAL, (USUAL, f"{USUAL}#\n"), SOME, [0, 200]),
     "put of the bytes that are there": (EMPTY, (EMPTY, EMPTY), MANY, BESIDE),
     "put of other bytes, all others call it": (CALLER, (CALLED, f"{CALLED}#\n"), MANY, CALLERS),
     "put of another interface, all others call it": (CALLER, (CALLED, OTHER_INTERFACE), FEW, CALLERS),

@@ -282,7 +282,7 @@ pub fn read_block_node(
             BlockTask::Inside(inside) => {
                 let begun = inside.begun;
                 let (waiting, inner) = enter(file, &mut progress.state, inside)?;
-                progress.stack.push_block(BlockFrame { begun, waiting });
+                progress.stack.push_block(BlockFrame { begun, waiting })?;
                 task = inner;
             }
             BlockTask::Read(part) => {

@@ -135,7 +135,7 @@ fn read_on(
                 opening,
                 has,
                 inner,
-            });
+            })?;
             Ok(open_at(file, inner.at))
         }
     }

@@ -10,7 +10,5 @@ pub mod LineReadLemmas
 pub mod ReadLemmas
 pub mod ByteLemmas
 pub mod DocumentLemmas
-pub mod CellLemmas
-pub mod StackLemmas
 pub mod FlowNodeLemmas
 pub mod NoteLemmas

@@ -1,4 +1,3 @@
-pub mod Cells
 pub mod Stacks
 pub mod Answers
 pub mod BlockReads

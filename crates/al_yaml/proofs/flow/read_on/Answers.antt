@@ -50,15 +50,15 @@ returns-in_err-start-in-Opens-clause-is c = λ first whole deep now.
     (λ bound. collection-broken bound c.args.depth n bytes c.in-Opens.inner.at (omega (arith, within.inside))
     c.in_err-start-in-Opens.field-0.0 c.in_err-start-in-Opens.ensures.limits))
 
-pub returns-in_ok-start-in-Opens-clause-is : goal.returns-in_ok-start-in-Opens-clause-is
-returns-in_ok-start-in-Opens-clause-is c = λ first whole deep now.
+pub returns-in_ok-push_flow-in-Opens-clause-is : goal.returns-in_ok-push_flow-in-Opens-clause-is
+returns-in_ok-push_flow-in-Opens-clause-is c = λ first whole deep now.
     let bytes = c.args.file.now.bytes.now in
     let outer = c.args.progress.now.stack.flows in
     let b = c.in-Opens.inner in
     let found = rw c.in-Opens.is at c.in_ok-step.ensures.is in
     let within = rw c.in-Opens.is at c.in_ok-step.ensures.within in
     let begun = c.open_at in
-    rw (c.push_flow.ensures.flows, begun.ensures.opening)
+    rw (c.in_ok-push_flow-in-Opens.ensures.flows, begun.ensures.opening)
     (opens-keeps bytes first whole outer (state_of c.args.progress.now.state) c.args.collection.opening
     (open_of c.args.collection.has) c.args.at c.args.depth (omega (arith, deep, frames-length bytes outer)) now
     (state_of c.read_inside.new.state) b c.read_inside.new.has found within.from within.inside (state_of c.start.new.self)
@@ -66,15 +66,15 @@ returns-in_ok-start-in-Opens-clause-is c = λ first whole deep now.
     (begun.ensures.is c.args.depth (state_of c.read_inside.new.state) (state_of c.start.new.self)
     c.in_ok-start-in-Opens.ensures.limits c.in_ok-start-in-Opens.ensures.state))
 
-pub returns-in_ok-start-in-Opens-clause-within : goal.returns-in_ok-start-in-Opens-clause-within
-returns-in_ok-start-in-Opens-clause-within c =
+pub returns-in_ok-push_flow-in-Opens-clause-within : goal.returns-in_ok-push_flow-in-Opens-clause-within
+returns-in_ok-push_flow-in-Opens-clause-within c =
     let size = length c.args.file.now.bytes.now in
     let within = rw c.in-Opens.is at c.in_ok-step.ensures.within in
     record {
       blocks = c.push_flow.ensures.blocks;
-      outer = subst (AreOpen size) (sym c.push_flow.ensures.flows) (c.requires.opening, within.inside, c.requires.outer);
-      room = omega (arith, ap length c.push_flow.ensures.flows, c.in_ok-start-in-Opens.ensures.depth);
-      more = omega (arith, ap length c.push_flow.ensures.flows);
+      outer = subst (AreOpen size) (sym c.in_ok-push_flow-in-Opens.ensures.flows) (c.requires.opening, within.inside, c.requires.outer);
+      room = omega (arith, ap length c.in_ok-push_flow-in-Opens.ensures.flows, c.in_ok-start-in-Opens.ensures.depth);
+      more = omega (arith, ap length c.in_ok-push_flow-in-Opens.ensures.flows);
       opening = omega (arith, c.open_at.ensures.opening, within.inside);
       next = (omega (arith, within.from, c.open_at.ensures.from), c.open_at.ensures.end);
     }
