@@ -139,7 +139,7 @@ module _ (bytes : List ℕ) (e : ℕ) (inside : e ≤ length bytes) (ended : IsL
       end = k.end;
       inside = omega (arith, k.inside, short_length);
       placed =
-          placed-wider (length (take e bytes)) (length bytes) r.scalar r.scalar.span (omega (arith, short_length, inside)) k.placed;
+          placed-wider (length (take e bytes)) (length bytes) r.scalar (omega (arith, short_length, inside)) k.placed;
     }
     line_inside (Err s) k = tt
 

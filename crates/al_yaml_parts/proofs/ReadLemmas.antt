@@ -89,15 +89,15 @@ module _ (asked : Result value.ScalarRead FaultAt) (n m : State) (at : ℕ) (fit
   scalar-stops e h = stops-from (with_start (start_of at 1 0) (scalar_reading asked)) (scalar_reading asked) n m e scalar-starts
       (stops-given asked (λ r. gives (part (tree.scalar_node r) r.scalar.span.end r.left)) m e h)
 
-  pub scalar-ok : (bytes : List ℕ) (r : ScalarRead) (p : code.Part) → asked ≡ Ok (read_of bytes r) → view p.node ≡ tree.scalar r.scalar r.scalar.span → p.end ≡ r.scalar.span.end → p.next ≡ r.next
+  pub scalar-ok : (bytes : List ℕ) (r : ScalarRead) (p : code.Part) → asked ≡ Ok (read_of bytes r) → view p.node ≡ tree.scalar r.scalar → p.end ≡ r.scalar.span.end → p.next ≡ r.next
       → run n (with_start (start_of at 1 0) (scalar_reading asked)) ≡ Ok (part_of bytes p, m)
   scalar-ok bytes r p h a b c =
       scalar-starts ∙ given-ok asked (λ r. gives (part (tree.scalar_node r) r.scalar.span.end r.left)) m (read_of bytes r) h
-      ∙ run-gives m (part (tree.scalar r.scalar r.scalar.span) r.scalar.span.end (lines_at bytes r.next))
-      ∙ same_part (tree.scalar r.scalar r.scalar.span) (view p.node) r.scalar.span.end p.end (lines_at bytes r.next) (lines_at bytes p.next) m m (sym a) (sym b) (ap (lines_at bytes) (sym c)) refl
+      ∙ run-gives m (part (tree.scalar r.scalar) r.scalar.span.end (lines_at bytes r.next))
+      ∙ same_part (tree.scalar r.scalar) (view p.node) r.scalar.span.end p.end (lines_at bytes r.next) (lines_at bytes p.next) m m (sym a) (sym b) (ap (lines_at bytes) (sym c)) refl
 
 abbrev pub empty_tree : ℕ → tree.Node
-empty_tree at = tree.scalar (value.empty_scalar at) (span at at)
+empty_tree at = tree.scalar (value.empty_scalar at)
 
 pub empty-broken : (n : State) (at : ℕ) (left : List Line) (f : FaultAt) → broken_limit n.nodes n.text (start_of at 1 0 ∷ []) ≡ Some f → run n (empty_node at left) ≡ Err f
 empty-broken n at left f h = run-broken n 1 at 0 (gives (part (empty_tree at) at left)) f h
@@ -107,15 +107,13 @@ empty-stops n at left x (stop.Fault f) h = cc
 empty-stops n at left x stop.Memory h = tt
 
 pub empty-ok : (bytes : List ℕ) (n m : State) (at next : ℕ) (r : ScalarRead) (p : code.Part) → broken_limit n.nodes n.text (start_of at 1 0 ∷ []) ≡ None → m ≡ with_nodes 1 n → at ≤ length bytes
-    → ◌≡◌ {A = Result value.ScalarRead FaultAt} (Ok (value.empty_at (lines_at bytes at))) (Ok (read_of bytes r)) → view p.node ≡ tree.scalar r.scalar r.scalar.span
+    → ◌≡◌ {A = Result value.ScalarRead FaultAt} (Ok (value.empty_at (lines_at bytes at))) (Ok (read_of bytes r)) → view p.node ≡ tree.scalar r.scalar
     → p.end ≡ r.scalar.span.end → p.next ≡ next
     → run n (empty_node at (lines_at bytes next)) ≡ Ok (part_of bytes p, m)
 empty-ok bytes n m at next r p fits more inside h a b c =
     let same : value.empty_at (lines_at bytes at) ≡ read_of bytes r = cc in
-    let here = start-at bytes at inside in
-    let s : value.empty_scalar at ≡ r.scalar = ap value.empty_scalar (sym here) ∙ ap (λ x. x.scalar) same in
-    let t : span at at ≡ r.scalar.span = ap (λ i. span i i) (sym here) ∙ ap (λ x. x.scalar.span) same in
-    let end : at ≡ r.scalar.span.end = ap (λ x. x.end) t in
+    let s : value.empty_scalar at ≡ r.scalar = ap value.empty_scalar (sym (start-at bytes at inside)) ∙ ap (λ x. x.scalar) same in
+    let end : at ≡ r.scalar.span.end = ap (λ x. x.span.end) s in
     run-start n 1 at 0 (gives (part (empty_tree at) at (lines_at bytes next))) fits ∙ run-gives (with_nodes 1 n) (part (empty_tree at) at (lines_at bytes next))
     ∙ same_part (empty_tree at) (view p.node) at p.end (lines_at bytes next) (lines_at bytes p.next) (with_nodes 1 n) m
-    (ap (λ x. tree.scalar x (span at at)) s ∙ ap (λ x. tree.scalar r.scalar x) t ∙ sym a) (end ∙ sym b) (ap (lines_at bytes) (sym c)) (sym more)
+    (ap (λ x. tree.scalar x) s ∙ sym a) (end ∙ sym b) (ap (lines_at bytes) (sym c)) (sym more)

@@ -11,7 +11,7 @@ use Rattle.al_yaml_parts.specs.declared.sums.Sums.{Sums}
 
 -- ---- nodes that are left, each with the number of collections around it: their sums, and that a node is itself and those in it
 
-module _ (of_scalar : Scalar → Span → ℕ) (around : Span → ℕ → ℕ) where
+module _ (of_scalar : Scalar → ℕ) (around : Span → ℕ → ℕ) where
   abbrev pub sum_left : List (Node × ℕ) → ℕ
   sum_left [] = 0
   sum_left (x ∷ xs) = fold_node of_scalar around 0 (λ m n. m + n) (λ k m n. k + m + n) x.0 + sum_left xs
@@ -29,26 +29,26 @@ module _ (of_scalar : Scalar → Span → ℕ) (around : Span → ℕ → ℕ) w
   sum-entries k (entry key value es) = let h = sum-entries k es in omega (arith, h)
 
 abbrev pub nodes_left : List (Node × ℕ) → ℕ
-nodes_left = sum_left (λ s at. 1) (λ at nodes. nodes + 1)
+nodes_left = sum_left (λ s. 1) (λ at nodes. nodes + 1)
 
 nodes-append : (xs ys : List (Node × ℕ)) → nodes_left (xs ++ ys) ≡ nodes_left xs + nodes_left ys
-nodes-append = sum-append (λ s at. 1) (λ at nodes. nodes + 1)
+nodes-append = sum-append (λ s. 1) (λ at nodes. nodes + 1)
 
 pub nodes-inside : (k : ℕ) (n : Node) → nodes_in n ≡ nodes_left (within k (inside n)) + 1
-nodes-inside k (scalar s at) = refl
-nodes-inside k (sequence ns at) = ap (λ m. m + 1) (sym (sum-items (λ s at. 1) (λ at nodes. nodes + 1) k ns))
-nodes-inside k (mapping es at) = ap (λ m. m + 1) (sym (sum-entries (λ s at. 1) (λ at nodes. nodes + 1) k es))
+nodes-inside k (scalar s) = refl
+nodes-inside k (sequence ns at) = ap (λ m. m + 1) (sym (sum-items (λ s. 1) (λ at nodes. nodes + 1) k ns))
+nodes-inside k (mapping es at) = ap (λ m. m + 1) (sym (sum-entries (λ s. 1) (λ at nodes. nodes + 1) k es))
 
 abbrev pub text_left : List (Node × ℕ) → ℕ
-text_left = sum_left (λ s at. length s.cells) (λ at text. text)
+text_left = sum_left (λ s. length s.cells) (λ at text. text)
 
 text-append : (xs ys : List (Node × ℕ)) → text_left (xs ++ ys) ≡ text_left xs + text_left ys
-text-append = sum-append (λ s at. length s.cells) (λ at text. text)
+text-append = sum-append (λ s. length s.cells) (λ at text. text)
 
 text-inside : (k : ℕ) (n : Node) → text_size n ≡ own_text n + text_left (within k (inside n))
-text-inside k (scalar s at) = omega arith
-text-inside k (sequence ns at) = let h = sum-items (λ s at. length s.cells) (λ at text. text) k ns in omega (arith, h)
-text-inside k (mapping es at) = let h = sum-entries (λ s at. length s.cells) (λ at text. text) k es in omega (arith, h)
+text-inside k (scalar s) = omega arith
+text-inside k (sequence ns at) = let h = sum-items (λ s. length s.cells) (λ at text. text) k ns in omega (arith, h)
+text-inside k (mapping es at) = let h = sum-entries (λ s. length s.cells) (λ at text. text) k es in omega (arith, h)
 
 abbrev pub levels_left : List (Node × ℕ) → ℕ
 levels_left [] = 0
@@ -59,10 +59,10 @@ levels-append [] ys = omega arith
 levels-append (x ∷ xs) ys = let h = levels-append xs ys in omega (arith, h)
 
 abbrev pub levels_in_items : Nodes → ℕ
-levels_in_items = fold_items (λ s at. 0) (λ at levels. levels + 1) 0 (λ m n. max m n) (λ k m n. max k (max m n))
+levels_in_items = fold_items (λ s. 0) (λ at levels. levels + 1) 0 (λ m n. max m n) (λ k m n. max k (max m n))
 
 abbrev pub levels_in_entries : Entries → ℕ
-levels_in_entries = fold_entries (λ s at. 0) (λ at levels. levels + 1) 0 (λ m n. max m n) (λ k m n. max k (max m n))
+levels_in_entries = fold_entries (λ s. 0) (λ at levels. levels + 1) 0 (λ m n. max m n) (λ k m n. max k (max m n))
 
 levels-items : (k : ℕ) (ns : Nodes) → max k (levels_left (within k (nodes ns))) ≡ k + levels_in_items ns
 levels-items k no_nodes = omega arith
@@ -74,7 +74,7 @@ levels-entries k (entry key value es) = let h = levels-entries k es in omega (ar
 
 levels-inside : (k m : ℕ) (n : Node) → m ≡ most_counted (k + own_level n)
     → most_counted (max m (levels_left (within m (inside n)))) ≡ most_counted (k + levels_in n)
-levels-inside k m (scalar s at) e = omega (arith, e)
+levels-inside k m (scalar s) e = omega (arith, e)
 levels-inside k m (sequence ns at) e = let h = levels-items m ns in omega (arith, e, h)
 levels-inside k m (mapping es at) e = let h = levels-entries m es in omega (arith, e, h)
 

@@ -38,4 +38,4 @@ pub record IsReadInside (bytes : List ℕ) (at : ℕ) (r : ScalarRead) : Type 0 
   pub from : at ≤ r.scalar.span.end
   pub end : r.scalar.span.end ≤ r.next
   pub inside : r.next ≤ length bytes
-  pub placed : IsPlaced (length bytes) r.scalar r.scalar.span
+  pub placed : IsPlaced (length bytes) r.scalar

@@ -44,7 +44,7 @@ pub fn scalar_at(
 
 /// A scalar as a node, with the offset after it.
 pub fn scalar_part(next: usize, read: ScalarRead) -> Part
-    ensures node { view result.node ≡ tree.scalar read.scalar read.scalar.span }
+    ensures node { view result.node ≡ tree.scalar read.scalar }
     ensures end { result.end ≡ read.scalar.span.end }
     ensures next { result.next ≡ next }
 {

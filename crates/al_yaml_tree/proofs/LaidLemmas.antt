@@ -12,7 +12,7 @@ use Rattle.al_yaml_tree.specs.Spans.{IsInside, AreFrom, IsLaidIn, IsLaid, LiesAr
 
 -- ---- appending an item or an entry
 
-module _ (P : Scalar → Span → Type 0) (around : Span → Type 0 → Type 0) where
+module _ (P : Scalar → Type 0) (around : Span → Type 0 → Type 0) where
   pub each-item : (ns : Nodes) (n : Node) → EachItem P around ns → Each P around n → EachItem P around (with_item ns n)
   each-item no_nodes n h x = (x, tt)
   each-item (item m ms) n h x = (h.0, each-item ms n h.1 x)
@@ -24,11 +24,11 @@ module _ (P : Scalar → Span → Type 0) (around : Span → Type 0 → Type 0) 
 
 -- ---- implications
 
-module _ (P Q : Scalar → Span → Type 0) (outer inner : Span → Type 0 → Type 0) (of_scalar : (s : Scalar) (at : Span) → P s at → Q s at)
+module _ (P Q : Scalar → Type 0) (outer inner : Span → Type 0 → Type 0) (of_scalar : (s : Scalar) → P s → Q s)
     (of_collection : (A B : Type 0) (at : Span) → (A → B) → outer at A → inner at B) where
   mutual
     pub each-follows : (n : Node) → Each P outer n → Each Q inner n
-    each-follows (scalar s at) h = of_scalar s at h
+    each-follows (scalar s) h = of_scalar s h
     each-follows (sequence ns at) h = of_collection (EachItem P outer ns) (EachItem Q inner ns) at (items-follow ns) h
     each-follows (mapping es at) h = of_collection (EachEntry P outer es) (EachEntry Q inner es) at (entries-follow es) h
 
@@ -42,22 +42,22 @@ module _ (P Q : Scalar → Span → Type 0) (outer inner : Span → Type 0 → T
 
 -- ---- nodes within a file
 
-abbrev pub Laid : ℕ → ℕ → Scalar → Span → Type 0
-Laid most size s at = LiesIn size at × IsPlaced most s at
+abbrev pub Laid : ℕ → ℕ → Scalar → Type 0
+Laid most size s = LiesIn size s.span × IsPlaced most s
 
 module _ (most size : ℕ) where
   pub laid-span : (n : Node) → IsLaidIn most size n → LiesIn size (span_of n)
-  laid-span (scalar s at) h = h.0
+  laid-span (scalar s) h = h.0
   laid-span (sequence ns at) h = h.0
   laid-span (mapping es at) h = h.0
 
   pub laid-inside : (n : Node) → IsLaidIn most size n → IsInside size n
-  laid-inside = each-follows (Laid most size) (λ s at. LiesIn size at) (LiesAround size) (LiesAround size)
-      (λ s at h. h.0) (λ A B at f h. (h.0, f h.1))
+  laid-inside = each-follows (Laid most size) (λ s. LiesIn size s.span) (LiesAround size) (LiesAround size)
+      (λ s h. h.0) (λ A B at f h. (h.0, f h.1))
 
 pub laid-from : (size : ℕ) (n : Node) → IsLaidIn size size n → AreFrom size n
-laid-from size = each-follows (Laid size size) (λ s at. IsFrom size s) (LiesAround size) (λ at inner. inner)
-    (λ s at h. from-placed size size s at (omega arith) h.0.inside h.1) (λ A B at f h. f h.1)
+laid-from size = each-follows (Laid size size) (IsFrom size) (LiesAround size) (λ at inner. inner)
+    (λ s h. from-placed size size s (omega arith) h.0.inside h.1) (λ A B at f h. f h.1)
 
 -- ---- a larger file
 
@@ -66,7 +66,7 @@ lies-wider size size' at a h = let b = h.inside in record { ordered = h.ordered;
 
 pub laid-wider : (most size most' size' : ℕ) (a : most ≤ most') (b : size ≤ size') (n : Node) → IsLaidIn most size n → IsLaidIn most' size' n
 laid-wider most size most' size' a b = each-follows (Laid most size) (Laid most' size') (LiesAround size) (LiesAround size')
-    (λ s at h. (lies-wider size size' at b h.0, placed-wider most most' s at a h.1)) (λ A B at f h. (lies-wider size size' at b h.0, f h.1))
+    (λ s h. (lies-wider size size' s.span b h.0, placed-wider most most' s a h.1)) (λ A B at f h. (lies-wider size size' at b h.0, f h.1))
 
 pub laid-higher : (size size' : ℕ) (n : Node) → size ≤ size' → IsLaid size n → IsLaid size' n
 laid-higher size size' n a h = laid-wider 1048576 size 1048576 size' (omega arith) a n h

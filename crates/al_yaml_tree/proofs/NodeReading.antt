@@ -29,8 +29,8 @@ use Rattle.al_yaml_tree.proofs.SpanLemmas.{wider_in, items-wider, entries-wider,
 
 -- a scalar's text is UTF-8; a collection only passes this on to its parts
 
-abbrev pub Text : Scalar → Span → Type 0
-Text s at = IsUtf8 (text_of s)
+abbrev pub Text : Scalar → Type 0
+Text s = IsUtf8 (text_of s)
 
 abbrev pub Inner : Span → Type 0 → Type 0
 Inner at inner = inner
@@ -69,10 +69,9 @@ module _ {f : File} where
   pub read-ends : {low : ℕ} {r : ScalarRead} → IsRead f low r → low ≤ r.scalar.span.end
   read-ends h = let a = h.placed.0.from in let b = h.placed.0.ordered in omega (arith, a, b)
 
-  empty-lies : (at : ℕ) → at ≤ f.size → Lies f at at (scalar (empty_scalar at) (span at at))
+  empty-lies : (at : ℕ) → at ≤ f.size → Lies f at at (scalar (empty_scalar at))
   empty-lies at a =
-      let placed : IsPlaced f.size (empty_scalar at) (span at at) =
-      record { end = refl; rising = omega arith; before = tt; small = omega arith } in
+      let placed : IsPlaced f.size (empty_scalar at) = record { rising = omega arith; before = tt; small = omega arith } in
       record {
         laid = (record { ordered = omega arith; inside = a }, placed);
         texts = λ u. IsUtf8-nil;

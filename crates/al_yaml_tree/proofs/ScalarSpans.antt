@@ -28,7 +28,7 @@ module _ (size : ℕ) where
   read-in low (Ok r) h = record {
     placed = (
       record { from = h.1; ordered = h.2; to = omega arith },
-      placed-wider (start r.left) size _ _ (start-in size r.scalar.span.end r.left h.3) h.0,
+      placed-wider (start r.left) size _ (start-in size r.scalar.span.end r.left h.3) h.0,
     );
     left = h.3;
   }

@@ -13,7 +13,7 @@ module _ (size more : ℕ) (grown : size ≤ more) where
 
   mutual
     pub placed-more : (low high low' high' : ℕ) (n : Node) → low' ≤ low → high ≤ high' → IsPlacedIn size low high n → IsPlacedIn more low' high' n
-    placed-more low high low' high' (scalar s at) a b h = (between-wider low high low' high' at a b h.0, placed-wider size more s at grown h.1)
+    placed-more low high low' high' (scalar s) a b h = (between-wider low high low' high' s.span a b h.0, placed-wider size more s grown h.1)
     placed-more low high low' high' (sequence ns at) a b h = (between-wider low high low' high' at a b h.0, items-wider at.start at.end at.end ns (omega arith) h.1)
     placed-more low high low' high' (mapping es at) a b h = (between-wider low high low' high' at a b h.0, entries-wider at.start at.end at.end es (omega arith) h.1)
 
@@ -31,7 +31,7 @@ module _ (size more : ℕ) (grown : size ≤ more) where
 
 module _ (size : ℕ) where
   bounds_in : (low high : ℕ) (n : Node) → IsPlacedIn size low high n → IsBetween low high (span_of n)
-  bounds_in low high (scalar s at) h = h.0
+  bounds_in low high (scalar s) h = h.0
   bounds_in low high (sequence ns at) h = h.0
   bounds_in low high (mapping es at) h = h.0
 

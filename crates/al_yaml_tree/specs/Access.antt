@@ -13,7 +13,7 @@ entries no_entries = []
 entries (entry k v es) = (k, v) ∷ entries es
 
 abbrev pub scalar_in : Node → Option Scalar
-scalar_in (scalar s at) = Some s
+scalar_in (scalar s) = Some s
 scalar_in _ = None
 
 abbrev pub sequence_in : Node → Option (List Node)

@@ -10,7 +10,6 @@ use Rattle.al_scalar.specs.declared.faults.FaultAt.{FaultAt}
 use Rattle.al_scalar.specs.Plain.{flow, is_value_colon}
 use Rattle.al_scalar.specs.Block.{at_end}
 use Rattle.al_scalar.specs.Scalar.{ScalarRead, scalar_at, empty_scalar}
-use Rattle.al_base.specs.Spans.{span}
 use Rattle.al_yaml_tree.specs.Node.{Node, Nodes, Entries, scalar, sequence, mapping}
 use Rattle.al_yaml_tree.specs.Node.{no_nodes, with_item, no_entries, with_entry, scalar_node}
 use Rattle.al_yaml_tree.specs.Reading.{Reading, gives, fails, of_result, starting_scalar, start_of, with_start}
@@ -45,7 +44,7 @@ gap at_start (l ∷ ls) =
 
 -- an empty node at an offset
 abbrev pub empty_node : ℕ → List Line → Reading (Part Node)
-empty_node at left = starting_scalar at (gives (part (scalar (empty_scalar at) (span at at)) at left))
+empty_node at left = starting_scalar at (gives (part (scalar (empty_scalar at)) at left))
 
 -- The rest of a collection, given all its items or entries so far and the lines after the last one: after a comma, more reads the next.
 abbrev pub rest_after : {A : Type 0} → ℕ → (List Line → Reading (Part A)) → ℕ → A → List Line → Reading (Part A)

@@ -17,7 +17,7 @@ pub record IsBetween (low high : ℕ) (at : Span) : Type 0 where
 -- scalar's text, but the line feeds at a block scalar's end may come from after its span.
 abbrev mutual
   pub IsPlacedIn : ℕ → ℕ → ℕ → Node → Type 0
-  IsPlacedIn size low high (scalar s at) = IsBetween low high at × IsPlaced size s at
+  IsPlacedIn size low high (scalar s) = IsBetween low high s.span × IsPlaced size s
   IsPlacedIn size low high (sequence ns at) = IsBetween low high at × ArePlacedIn size at.start at.end ns
   IsPlacedIn size low high (mapping es at) = IsBetween low high at × EntriesPlacedIn size at.start at.end es
 
@@ -38,23 +38,23 @@ abbrev pub LiesAround : ℕ → Span → Type 0 → Type 0
 LiesAround size at inner = LiesIn size at × inner
 
 abbrev pub IsInside : ℕ → Node → Type 0
-IsInside size = Each (λ s at. LiesIn size at) (LiesAround size)
+IsInside size = Each (λ s. LiesIn size s.span) (LiesAround size)
 
 abbrev pub AreInside : ℕ → Nodes → Type 0
-AreInside size = EachItem (λ s at. LiesIn size at) (LiesAround size)
+AreInside size = EachItem (λ s. LiesIn size s.span) (LiesAround size)
 
 abbrev pub EntriesInside : ℕ → Entries → Type 0
-EntriesInside size = EachEntry (λ s at. LiesIn size at) (LiesAround size)
+EntriesInside size = EachEntry (λ s. LiesIn size s.span) (LiesAround size)
 
 -- each byte of each scalar's text, keys too, comes from a file of so many bytes
 
 abbrev pub AreFrom : ℕ → Node → Type 0
-AreFrom size = Each (λ s at. IsFrom size s) (λ at inner. inner)
+AreFrom size = Each (IsFrom size) (λ at inner. inner)
 
 -- The same without an order, as an alias refers to a node elsewhere in the file: each span of a node lies in the first size bytes of a
 -- file of so many, and each scalar's text relates to its span as above.
 abbrev pub IsLaidIn : ℕ → ℕ → Node → Type 0
-IsLaidIn most size = Each (λ s at. LiesIn size at × IsPlaced most s at) (LiesAround size)
+IsLaidIn most size = Each (λ s. LiesIn size s.span × IsPlaced most s) (LiesAround size)
 
 -- the same of a file of the greatest size
 
@@ -62,7 +62,7 @@ abbrev pub IsLaid : ℕ → Node → Type 0
 IsLaid size = IsLaidIn largest_file size
 
 abbrev pub AreLaid : ℕ → Nodes → Type 0
-AreLaid size = EachItem (λ s at. LiesIn size at × IsPlaced largest_file s at) (LiesAround size)
+AreLaid size = EachItem (λ s. LiesIn size s.span × IsPlaced largest_file s) (LiesAround size)
 
 abbrev pub EntriesLaid : ℕ → Entries → Type 0
-EntriesLaid size = EachEntry (λ s at. LiesIn size at × IsPlaced largest_file s at) (LiesAround size)
+EntriesLaid size = EachEntry (λ s. LiesIn size s.span × IsPlaced largest_file s) (LiesAround size)

@@ -4,10 +4,10 @@ use Rattle.al_scalar.specs.Scalar.{text_of}
 use Rattle.al_yaml_tree.specs.Node.{Node, Nodes, Entries, Each, EachItem, EachEntry}
 
 abbrev pub HasTexts : Node → Type 0
-HasTexts = Each (λ s at. IsUtf8 (text_of s)) (λ at inner. inner)
+HasTexts = Each (λ s. IsUtf8 (text_of s)) (λ at inner. inner)
 
 abbrev pub HaveTexts : Nodes → Type 0
-HaveTexts = EachItem (λ s at. IsUtf8 (text_of s)) (λ at inner. inner)
+HaveTexts = EachItem (λ s. IsUtf8 (text_of s)) (λ at inner. inner)
 
 abbrev pub EntriesHaveTexts : Entries → Type 0
-EntriesHaveTexts = EachEntry (λ s at. IsUtf8 (text_of s)) (λ at inner. inner)
+EntriesHaveTexts = EachEntry (λ s. IsUtf8 (text_of s)) (λ at inner. inner)

@@ -17,7 +17,7 @@ abbrev pub entry_step : Entry-F tree.Node (tree.Node × tree.Node) → tree.Node
 entry_step e = (e.key, e.value)
 
 abbrev pub node_step : Node-F tree.Node (tree.Node × tree.Node) → tree.Node
-node_step (Node-F.Scalar s) = tree.scalar s s.span
+node_step (Node-F.Scalar s) = tree.scalar s
 node_step (Node-F.Sequence v at) = tree.sequence (nodes_of v.items) at
 node_step (Node-F.Mapping v at) = tree.mapping (entries_of v.items) at
 node_step (Node-F.Shared n) = n.value

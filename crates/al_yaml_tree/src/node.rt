@@ -36,7 +36,7 @@ pub struct Doc {
 
 /// A scalar node.
 pub fn scalar_node(scalar: Scalar) -> Node
-    ensures { view result ≡ tree.scalar scalar scalar.span }
+    ensures { view result ≡ tree.scalar scalar }
 {
     Node::Scalar(scalar)
 }

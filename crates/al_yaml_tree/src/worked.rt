@@ -2,7 +2,6 @@
 
 ghost use Rattle.al_scalar.specs.Scalar.{empty_scalar};
 ghost use Rattle.al_scalar.specs.declared.styles.Class.TheVariants as class;
-ghost use Rattle.al_base.specs.Spans.{span};
 ghost use Rattle.al_base.specs.declared.codes.YamlCode.TheVariants as yaml;
 ghost use Rattle.al_yaml_tree.specs.Document.{tree_of};
 ghost use Rattle.al_yaml_tree.specs.Node.{scalar};
@@ -33,7 +32,7 @@ pub fn rows()
     ensures list_at_its_key { refusal (codes "a:\n- b\nc: d\n") ≡ None }
     ensures list_on_its_keys_line { refusal (codes "a: - b\n") ≡ fault_at yaml.UnexpectedCharacter 3 }
     ensures marker_in_flow { refusal (codes "a: [\n---\n]\n") ≡ None }
-    ensures comments_alone { tree_of (codes "# a\n") ≡ Ok (scalar (empty_scalar 4) (span 4 4)) }
+    ensures comments_alone { tree_of (codes "# a\n") ≡ Ok (scalar (empty_scalar 4)) }
     ensures classes { classes_of (tree_of (codes "v: [3.10, 0x1F, .5, ~, yes]\n"))
         ≡ class.Float ∷ class.Int ∷ class.Float ∷ class.Null ∷ class.Str ∷ [] }
 {}

@@ -19,19 +19,19 @@ members (e ∷ es) = e.0 ∷ e.1 ∷ members es
 
 -- the children of a node, without their own children
 abbrev pub inside : Node → List Node
-inside (scalar s at) = []
+inside (scalar s) = []
 inside (sequence ns at) = nodes ns
 inside (mapping es at) = members (entries es)
 
 -- the bytes of a node's own text
 abbrev pub own_text : Node → ℕ
-own_text (scalar s at) = length s.cells
+own_text (scalar s) = length s.cells
 own_text (sequence ns at) = 0
 own_text (mapping es at) = 0
 
 -- the level that a collection is
 abbrev pub own_level : Node → ℕ
-own_level (scalar s at) = 0
+own_level (scalar s) = 0
 own_level (sequence ns at) = 1
 own_level (mapping es at) = 1
 

@@ -20,7 +20,7 @@ refusal bs = fault_in (tree_of bs)
 
 abbrev pub item_classes : Nodes → List Class
 item_classes no_nodes = []
-item_classes (item (scalar s at) ns) = s.class ∷ item_classes ns
+item_classes (item (scalar s) ns) = s.class ∷ item_classes ns
 item_classes (item n ns) = item_classes ns
 
 abbrev pub list_classes : Node → List Class

@@ -7,4 +7,4 @@ returns-in-Ok-clause-inside c =
     let read = c.in-Ok.read in
     let within = rw c.in-Ok.is at c.in_ok-read.ensures.within in
     let placed = rw c.in-Ok.is at c.in_ok-read.ensures.placed in
-    record { start = within.0; from = within.1; end = within.2; inside = within.3; placed = placed-wider read.next (length c.args.bytes.now) read.scalar read.scalar.span within.3 placed }
+    record { start = within.0; from = within.1; end = within.2; inside = within.3; placed = placed-wider read.next (length c.args.bytes.now) read.scalar within.3 placed }
