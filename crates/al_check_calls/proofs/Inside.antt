@@ -52,7 +52,7 @@ module _ (size : ℕ) where
   CallLies c = LiesIn size c.at × IsInside size c.site.node
 
   node_lies : (n : Node) → IsInside size n → LiesIn size (span_of n)
-  node_lies (scalar s at) i = i
+  node_lies (scalar s) i = i
   node_lies (sequence ns at) i = i.0
   node_lies (mapping es at) i = i.0
 

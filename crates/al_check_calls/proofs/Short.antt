@@ -25,7 +25,7 @@ use Rattle.al_check_calls.specs.FileCalls.{AreShort, EntriesShort, IsShort, Item
 
 mutual
   short_all : (n : Node) → IsLaid 1048576 n → HasTexts n → AreShort n
-  short_all (scalar s at) w t = (t, (readable s at w.1 (w.0).inside).0)
+  short_all (scalar s) w t = (t, (readable s w.1 (w.0).inside).0)
   short_all (sequence ns at) w t = short_items ns w.1 t
   short_all (mapping es at) w t = short_entries es w.1 t
 
@@ -47,14 +47,14 @@ pairs_short : (es : Entries) → EntriesShort es → AllByRecursion (Pair AreSho
 pairs_short no_entries h = tt
 pairs_short (entry k v es) h = ((h.0, h.1), pairs_short es h.2)
 
-short_kept : AreKept AreShort (λ t. IsShort t.0)
-short_kept = record { items = λ ns at h. items_short ns h; pairs = λ es at h. pairs_short es h; scalars = λ s at h. h }
+short_kept : AreKept AreShort IsShort
+short_kept = record { items = λ ns at h. items_short ns h; pairs = λ es at h. pairs_short es h; scalars = λ s h. h }
 
 abbrev CallIsShort : Call → Type 0
 CallIsShort c = Unit {0} × AreShort c.site.node
 
 calls_short : (k : FileKind) (root : Node) → AreShort root → AllByRecursion CallIsShort (calls_in k root)
-calls_short k root h = calls_kept short_kept (λ at. Unit {0}) (λ t p. tt) k root h
+calls_short k root h = calls_kept short_kept (λ at. Unit {0}) (λ s p. tt) k root h
 
 abbrev AnsweredIsShort : Answered → Type 0
 AnsweredIsShort a = CallIsShort a.call

@@ -4,7 +4,6 @@ use Rattle.std.specs.Prelude.{codes, option_and_then, slice_index_or}
 use Rattle.std.specs.List.{AllByRecursion, cons_option, filter_map}
 use Rattle.std.specs.Option.{option_map_or}
 use Rattle.al_base.specs.declared.codes.Caller.{Caller}
-use Rattle.al_base.specs.declared.faults.Span.{Span}
 use Rattle.al_session_folder.specs.Meaning.{AreAnswers}
 use Rattle.al_session_folder.specs.declared.lint.Target.{Target}
 use Rattle.al_scalar.specs.Scalar.{Scalar}
@@ -22,7 +21,7 @@ use Rattle.al_check_calls.specs.Private.Comparing.{AreToldByUses}
 abbrev IsFormed : Call → Type 0
 IsFormed c = c.form ≡ form_by (site_caller c.site) c.text
 
-put_formed : (s : Site) (o : Option (Scalar × Span)) (cs : List Call) → AllByRecursion IsFormed cs → AllByRecursion IsFormed (cons_option (option_map (call_by s) o) cs)
+put_formed : (s : Site) (o : Option Scalar) (cs : List Call) → AllByRecursion IsFormed cs → AllByRecursion IsFormed (cons_option (option_map (call_by s) o) cs)
 put_formed s None cs h = h
 put_formed s (Some t) cs h = (refl, h)
 

@@ -101,7 +101,7 @@ names_against k c s =
     flat_map (undefined_name k c s) (given_by k c.site.node) ++ flat_map (missing_name k c s) (mandatory_of (parameters_of k s))
 
 abbrev pub is_inherit : Node → Bool
-is_inherit job = option_map_or (λ t. bytes_eq (text_of t.0) (codes "inherit")) (text_at_key (codes "secrets") job) false
+is_inherit job = option_map_or (λ s. bytes_eq (text_of s) (codes "inherit")) (text_at_key (codes "secrets") job) false
 
 -- whether names of a kind are compared: not the secrets of a step, nor those that a job passes on
 abbrev pub is_compared : ParameterKind → Caller → Node → Bool

@@ -59,7 +59,7 @@ IsShort s = IsUtf8 (text_of s) × (length (text_of s) ≤ longest_text)
 
 abbrev mutual
   pub AreShort : Node → Type 0
-  AreShort (scalar s at) = IsShort s
+  AreShort (scalar s) = IsShort s
   AreShort (sequence ns at) = ItemsShort ns
   AreShort (mapping es at) = EntriesShort es
 

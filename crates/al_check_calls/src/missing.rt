@@ -53,7 +53,7 @@ fn check_parameters<'a>(
         }
         let code = code_at(call.call, missing_code(call.kind));
         let called = called_name(call.call, call.signature);
-        faults.report_two(call.call.uses.span, code, name, called)?;
+        faults.report_two(call.call.uses.span(), code, name, called)?;
     }
     Ok(left)
 }
@@ -62,7 +62,7 @@ fn check_parameters<'a>(
 fn is_by_same_uses(one: Comparison<'_>, other: Comparison<'_>) -> bool
     ensures { result ≡ comparing.is_by_same_uses (compared_of one.entry) (compared_of other.entry) }
 {
-    call_alike(one, other) && one.call.uses.span == other.call.uses.span
+    call_alike(one, other) && one.call.uses.span() == other.call.uses.span()
 }
 
 /// Adds C3 and C6 of a call. After a call by the same `uses`, only the parameters that are left are looked up. Returns those that are
@@ -103,7 +103,7 @@ pub(crate) fn check_missing(
     // Calls by one `uses` are then adjacent.
     comparisons.sort_unstable_by_key(|one| {
         let Call { site, uses } = one.call;
-        (uses.span.start, caller_of(site), one.kind)
+        (uses.span().start, caller_of(site), one.kind)
     });
     let mut previous = None;
     let mut left = Vec::new(faults.alloc());

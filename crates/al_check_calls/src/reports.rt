@@ -12,7 +12,7 @@ use std::alloc::AllocError;
 pub(crate) fn uses_text<'a>(call: Call<'a>) -> &'a [u8]
     ensures { result.now ≡ (call_of call.entry).text }
 {
-    call.uses.scalar.text()
+    call.uses.text()
 }
 
 /// How faults name the called file.
@@ -38,5 +38,5 @@ pub(crate) fn report_uses(
 ) -> Result<(), AllocError>
     ensures { OnOk result (faults.new ≡ faults.old ++ that_uses code (call_of call.entry) ∷ []) }
 {
-    faults.report_text(call.uses.span, code_at(call, code), uses_text(call))
+    faults.report_text(call.uses.span(), code_at(call, code), uses_text(call))
 }

@@ -40,7 +40,7 @@ step_type outputs = strictly ((codes "conclusion", String) ∷ (codes "outcome",
 abbrev pub step_field : OutputNames → Option (List ℕ) → ℕ × Node → Option TypedName
 step_field known job s =
     let outputs = option_map_or named_strings (known job (Some s.0)) loose_strings in
-    option_map (λ id. (text_of id.0, step_type outputs)) (text_at_key (codes "id") s.1)
+    option_map (λ id. (text_of id, step_type outputs)) (text_at_key (codes "id") s.1)
 
 abbrev pub seen_of : Seen → List Node → List Node
 seen_of no_step steps = []
@@ -74,7 +74,7 @@ dependency known jobs name = option_map (job_field known) (find (λ j. same_name
 
 abbrev pub needs_type : OutputNames → List (Node × Node) → Node → Type'
 needs_type known jobs job =
-    strictly (firsts (filter_map (λ t. dependency known jobs (text_of t.0)) (texts_at (codes "needs") job)))
+    strictly (firsts (filter_map (λ s. dependency known jobs (text_of s)) (texts_at (codes "needs") job)))
 
 -- the job of a section, with its key, if there is one
 abbrev pub job_in : List (Node × Node) → Section → Option (Node × Node)

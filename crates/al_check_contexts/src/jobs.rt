@@ -193,7 +193,7 @@ impl JobTypes {
         let mut fields = FieldList::new(types.alloc());
         let names = texts_under(types.alloc(), job, "needs")?;
         for name in names.as_slice() {
-            let Some(needed) = basis.jobs.position_of(name.scalar.text())? else {
+            let Some(needed) = basis.jobs.position_of(name.text())? else {
                 continue;
             };
             let ty = self.get(types, basis, needed)?;

@@ -102,7 +102,7 @@ fn and_step<'a>(
     };
     let position = basis.outputs.position(step.job, Some(step.index));
     let ty = step_type(types, basis, made, position)?;
-    fields.and(id.scalar.text(), ty)
+    fields.and(id.text(), ty)
 }
 
 impl<'a> StepFields<'a> {

@@ -45,16 +45,15 @@ Lies size f = LiesIn size f.span
 
 -- ---- the faults of a scalar's text, by their positions in the file
 
-module _ (size : ℕ) (s : Scalar) (at : Span) (there : LiesIn size at) (p : IsPlaced 1048576 s at) (from : IsFrom size s) where
+module _ (size : ℕ) (s : Scalar) (there : LiesIn size s.span) (p : IsPlaced 1048576 s) (from : IsFrom size s) where
   inside_at : (i : ℕ) → offset_of s i ≤ size
   inside_at i = elim (cases_lt i (length (text_of s))) [
     | inl h ↦ let below = from i h in omega (arith, below)
     | inr h ↦
         let same = length-map s.cells (λ c. c.0) in
         let e : offset_of s i ≡ s.span.end = offset_or-end s.cells s.span.end i (omega (arith, h, same)) in
-        let last = p.end in
         let in_file = there.inside in
-        omega (arith, e, last, in_file)
+        omega (arith, e, in_file)
   ]
 
   located_at : (t : Bool) (i j : ℕ) → nat_eq i j ≡ t → i ≤ j → j ≤ length (text_of s)
@@ -66,7 +65,7 @@ module _ (size : ℕ) (s : Scalar) (at : Span) (there : LiesIn size at) (p : IsP
       let same = length-map s.cells (λ c. c.0) in
       let last : offset_of s (j - 1) < size = from (j - 1) (omega (arith, apart, h)) in
       let up : offset_of s i ≤ offset_of s (j - 1) =
-      offset-order at.start (reach 1048576 s.style s.span.end) s.span.end s.cells i (j - 1) p.rising (omega (arith, apart)) (omega (arith, apart, h, same)) in
+      offset-order s.span.start (reach 1048576 s.style s.span.end) s.span.end s.cells i (j - 1) p.rising (omega (arith, apart)) (omega (arith, apart, h, same)) in
       record { ordered = omega (arith, up); inside = omega (arith, last) }
 
   located_lies : (i j : ℕ) → i ≤ j → j ≤ length (text_of s) → LiesIn size (span_in_file s i j)
@@ -103,13 +102,13 @@ content_lies sc alone only content =
 
 -- ---- the faults at a place
 
-module _ (size : ℕ) (sc : Scope) (only : Bool) (s : Scalar) (at : Span) (there : LiesIn size at) (p : IsPlaced 1048576 s at) (from : IsFrom size s) where
+module _ (size : ℕ) (sc : Scope) (only : Bool) (s : Scalar) (there : LiesIn size s.span) (p : IsPlaced 1048576 s) (from : IsFrom size s) where
   chunk_lies : (c : Span) → LiesIn (length (text_of s)) c → AllLie size (chunk_faults sc only s c)
   chunk_lies c i =
       let ordered = i.ordered in
       let inside = i.inside in
       let cut = length-take (c.end - c.start) (drop c.start (text_of s)) in
-      moved_lie size s at there p from c.start (length (slice_range (text_of s) c.start c.end)) (content_faults sc (is_one_chunk (text_of s)) only (slice_range (text_of s) c.start c.end))
+      moved_lie size s there p from c.start (length (slice_range (text_of s) c.start c.end)) (content_faults sc (is_one_chunk (text_of s)) only (slice_range (text_of s) c.start c.end))
       (content_lies sc (is_one_chunk (text_of s)) only (slice_range (text_of s) c.start c.end)) (omega (arith, cut, ordered, inside))
 
   chunked_lies : AllLie size (chunked_faults sc only s (chunks_of (text_of s)))
@@ -118,16 +117,16 @@ module _ (size : ℕ) (sc : Scope) (only : Bool) (s : Scalar) (at : Span) (there
       each_both (Lies size) (flat_map (chunk_faults sc only s) (chunks_of (text_of s)).chunks)
       (map (fault_in_file s 0) (option_to_list (chunks_of (text_of s)).fault))
       (each_of (λ c. LiesIn (length (text_of s)) c) (Lies size) (chunk_faults sc only s) chunk_lies (chunks_of (text_of s)).chunks all.0)
-      (moved_lie size s at there p from 0 (length (text_of s)) (option_to_list (chunks_of (text_of s)).fault) all.1 (omega arith))
+      (moved_lie size s there p from 0 (length (text_of s)) (option_to_list (chunks_of (text_of s)).fault) all.1 (omega arith))
 
   whole_lies : AllLie size (map (fault_in_file s 0) (content_faults sc true only (text_of s)))
-  whole_lies = moved_lie size s at there p from 0 (length (text_of s)) (content_faults sc true only (text_of s)) (content_lies sc true only (text_of s)) (omega arith)
+  whole_lies = moved_lie size s there p from 0 (length (text_of s)) (content_faults sc true only (text_of s)) (content_lies sc true only (text_of s)) (omega arith)
 
 place_lies : (size : ℕ) (sc : Scope) (p : Place) → IsThere size p → AllLie size (place_faults sc p)
 place_lies size sc p is =
     each_either (Lies size) (is_whole p) (map (fault_in_file p.word 0) (content_faults sc true p.is_scalar_only (text_of p.word)))
     (chunked_faults sc p.is_scalar_only p.word (chunks_of (text_of p.word)))
-    (whole_lies size sc p.is_scalar_only p.word p.at is.span is.placed is.from) (chunked_lies size sc p.is_scalar_only p.word p.at is.span is.placed is.from)
+    (whole_lies size sc p.is_scalar_only p.word is.span is.placed is.from) (chunked_lies size sc p.is_scalar_only p.word is.span is.placed is.from)
 
 pub expression_faults_lie : (size : ℕ) (kind : FileKind) (known : OutputNames) (root : Node) → IsLaid size root → AreFrom size root → AllLie size (expression_faults kind known root)
 expression_faults_lie size kind known root w f =

@@ -3,7 +3,6 @@ use Rattle.std.proofs.Common.{◌≡◌, ◌≤◌, ℕ, zero, suc, List, [], �
 use Rattle.std.specs.Prelude.{All}
 use Rattle.std.proofs.lemmas.List.{length-map}
 use Rattle.std.proofs.lemmas.List.Elements.{All-same}
-use Rattle.al_base.specs.declared.faults.Span.{Span}
 use Rattle.al_scalar.specs.Line.{Cell}
 use Rattle.al_scalar.specs.Offsets.{AreRising, IsFrom, IsPlaced, is_block, reach}
 use Rattle.al_scalar.specs.Scalar.{Scalar, offset_or, text_of}
@@ -29,14 +28,13 @@ either_small : (t : Bool) (high end most : ℕ) → high ≤ most → end ≤ mo
 either_small true high end most h e = h
 either_small false high end most h e = e
 
-pub readable : (s : Scalar) (at : Span) → IsPlaced 1048576 s at → at.end ≤ 1048576 → (length (text_of s) ≤ 4194304) × HasRoom s
-readable s at p h =
-    let end : s.span.end ≤ 1048576 = omega (arith, h, p.end) in
-    let far : reach 1048576 s.style s.span.end ≤ 1048576 = either_small (is_block s.style) 1048576 s.span.end 1048576 (omega arith) end in
+pub readable : (s : Scalar) → IsPlaced 1048576 s → s.span.end ≤ 1048576 → (length (text_of s) ≤ 4194304) × HasRoom s
+readable s p h =
+    let far : reach 1048576 s.style s.span.end ≤ 1048576 = either_small (is_block s.style) 1048576 s.span.end 1048576 (omega arith) h in
     let many = p.small in
     let same = length-map s.cells (λ c. c.0) in (
       omega (arith, far, many, same),
-      (λ i. let there = below s.cells at.start (reach 1048576 s.style s.span.end) s.span.end 1048576 p.rising far end i in omega (arith, there)),
+      (λ i. let there = below s.cells s.span.start (reach 1048576 s.style s.span.end) s.span.end 1048576 p.rising far h i in omega (arith, there)),
     )
 
 -- ---- all places of a tree that was read
@@ -44,7 +42,7 @@ readable s at p h =
 places_readable : (kind : FileKind) (root : Node) → IsLaid 1048576 root → HasTexts root → All IsReadable (places_of kind root)
 places_readable kind root w t i d within =
     let lies = places_lie kind 1048576 root w i d within in
-    let r = readable _ _ lies.placed (lies.inside).inside in
+    let r = readable _ lies.placed (lies.inside).inside in
     record { utf8 = places_have_texts kind root t i d within; small = r.0; room = r.1 }
 
 -- each place that the code found is readable
@@ -58,5 +56,5 @@ places_there size kind root w f i d within =
     record {
       span = lies.inside;
       placed = lies.placed;
-      from = each_place (λ s at. IsFrom size s) (λ at X. X) (λ X at h. h) (λ p. IsFrom size p.word) (λ k way only s at h. h) kind root f i d within;
+      from = each_place (IsFrom size) (λ at X. X) (λ X at h. h) (λ p. IsFrom size p.word) (λ k way only s h. h) kind root f i d within;
     }

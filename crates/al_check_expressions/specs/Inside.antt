@@ -15,6 +15,6 @@ pub record IsReadable (p : Place) : Type 0 where
 
 -- the scalar of a place lies in a file with this many bytes, and each byte of its text comes from there
 pub record IsThere (size : ℕ) (p : Place) : Type 0 where
-  pub span : LiesIn size p.at
-  pub placed : IsPlaced largest_file p.word p.at
+  pub span : LiesIn size p.word.span
+  pub placed : IsPlaced largest_file p.word
   pub from : IsFrom size p.word

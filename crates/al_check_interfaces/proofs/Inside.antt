@@ -4,7 +4,6 @@ use Rattle.std.specs.List.{AllByRecursion, flat_map}
 use Rattle.al_base.proofs.Elements.{each_of}
 use Rattle.al_base.specs.Spans.{LiesIn}
 use Rattle.al_base.specs.declared.faults.Fault.{Fault}
-use Rattle.al_base.specs.declared.faults.Span.{Span}
 use Rattle.al_scalar.specs.Scalar.{Scalar}
 use Rattle.al_yaml_tree.specs.Spans.{IsInside, LiesAround}
 use Rattle.al_tree.proofs.Kept.{AreKept, each_kept}
@@ -14,11 +13,11 @@ use Rattle.al_check_interfaces.specs.declared.forms.Form.{Form}
 use Rattle.al_check_interfaces.specs.declared.forms.Form.TheVariants.{Local, Other, Wrong}
 use Rattle.al_check_interfaces.proofs.Parts.{calls_kept}
 
-abbrev pub AtLies : ℕ → Scalar × Span → Type 0
-AtLies size t = LiesIn size t.1
+abbrev pub AtLies : ℕ → Scalar → Type 0
+AtLies size s = LiesIn size s.span
 
 pub inside_kept : (size : ℕ) → AreKept (IsInside size) (AtLies size)
-inside_kept size = each_kept (λ s at. LiesIn size at) (LiesAround size) (AtLies size) (λ X at h. h.1) (λ s at h. h)
+inside_kept size = each_kept (AtLies size) (LiesAround size) (AtLies size) (λ X at h. h.1) (λ s h. h)
 
 pub calls_lie : CallsLie
 calls_lie size kind root i = calls_kept (inside_kept size) (LiesIn size) (λ t p. p) kind root i

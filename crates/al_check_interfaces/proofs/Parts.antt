@@ -14,7 +14,7 @@ use Rattle.al_tree.specs.declared.files.FileKind.TheVariants as kind
 use Rattle.al_tree.specs.Declarations.{action_steps, is_composite}
 use Rattle.al_check_interfaces.specs.Uses.{Call, Site, call_at, call_by, calls_in, job_sites, sites_in, step_sites}
 
-module _ {P : Node → Type 0} {Q : Scalar × Span → Type 0} (kept : AreKept P Q) where
+module _ {P : Node → Type 0} {Q : Scalar → Type 0} (kept : AreKept P Q) where
   abbrev IsSiteKept : Site → Type 0
   IsSiteKept s = P s.node
 
@@ -35,7 +35,7 @@ module _ {P : Node → Type 0} {Q : Scalar × Span → Type 0} (kept : AreKept P
   abbrev IsCallKept : (Span → Type 0) → Call → Type 0
   IsCallKept R c = R c.at × P c.site.node
 
-  pub calls_kept : (R : Span → Type 0) → ((t : Scalar × Span) → Q t → R t.1) → (k : FileKind) (root : Node) → P root → AllByRecursion (IsCallKept R) (calls_in k root)
+  pub calls_kept : (R : Span → Type 0) → ((s : Scalar) → Q s → R s.span) → (k : FileKind) (root : Node) → P root → AllByRecursion (IsCallKept R) (calls_in k root)
   calls_kept R h k root p =
       each_some IsSiteKept (IsCallKept R) call_at
       (λ s q. map_some Q (IsCallKept R) (call_by s) (λ t w. (h t w, q)) (text_at_key (codes "uses") s.node) (text_kept kept (codes "uses") s.node q))

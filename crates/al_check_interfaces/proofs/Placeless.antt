@@ -6,10 +6,8 @@ use Rattle.std.specs.List.{cons_option, filter_map, list_any}
 use Rattle.std.specs.Option.{option_map_or, option_to_list}
 use Rattle.std.specs.Str.{bytes_eq}
 use Rattle.al_base.specs.Names.{among, same_name}
-use Rattle.al_base.specs.declared.faults.Span.{Span}
 use Rattle.al_scalar.specs.Line.{Cell}
 use Rattle.al_scalar.specs.Scalar.{Scalar, text_of}
-use Rattle.al_base.specs.Spans.{span}
 use Rattle.al_yaml_tree.specs.Access.{entries, nodes, scalar_in}
 use Rattle.al_yaml_tree.specs.Node.{Node, Nodes, Entries, scalar, sequence, mapping, no_nodes, item, no_entries, entry}
 use Rattle.al_tree.specs.Faults.{is_key, is_null, value_in}
@@ -40,22 +38,21 @@ text_same s = bytes_same s.cells
 
 module _ {X : Type 0} (f : Option Scalar → X) (same : (s : Scalar) → f (Some (placeless_scalar s)) ≡ f (Some s)) where
   of_scalar : (n : Node) → f (scalar_in (placeless n)) ≡ f (scalar_in n)
-  of_scalar (scalar s at) = same s
+  of_scalar (scalar s) = same s
   of_scalar (sequence ns at) = refl
   of_scalar (mapping es at) = refl
 
-key_same : (key : Node) → key_text (placeless key) ≡ key_text key
-key_same = of_scalar (λ o. option_map_or text_of o []) text_same
-
-module _ {X : Type 0} (f : Option (Scalar × Span) → X) (same : (s : Scalar) (at : Span) → f (Some (placeless_scalar s, span 0 0)) ≡ f (Some (s, at))) where
-  of_text_unless : (null : Bool) (s : Scalar) (at : Span) → f (then_some (not null) (placeless_scalar s, span 0 0)) ≡ f (then_some (not null) (s, at))
-  of_text_unless true s at = refl
-  of_text_unless false s at = same s at
+  of_text_unless : (null : Bool) (s : Scalar) → f (then_some (not null) (placeless_scalar s)) ≡ f (then_some (not null) s)
+  of_text_unless true s = refl
+  of_text_unless false s = same s
 
   of_text : (n : Node) → f (text_in (placeless n)) ≡ f (text_in n)
-  of_text (scalar s at) = of_text_unless (is_null s) s at
+  of_text (scalar s) = of_text_unless (is_null s) s
   of_text (sequence ns at) = refl
   of_text (mapping es at) = refl
+
+key_same : (key : Node) → key_text (placeless key) ≡ key_text key
+key_same = of_scalar (λ o. option_map_or text_of o []) text_same
 
 module _ {X : Type 0} (f : Option Node → X) (same : (n : Node) → f (Some (placeless n)) ≡ f (Some n)) where
   of_first : (here : Bool) (key v : Node) (others rest : Option (Node × Node)) → f (option_map (λ e. e.1) others) ≡ f (option_map (λ e. e.1) rest) →
@@ -72,7 +69,7 @@ module _ {X : Type 0} (f : Option Node → X) (same : (n : Node) → f (Some (pl
 
   of_value : (k : List ℕ) (n : Node) → f (value_at k (placeless n)) ≡ f (value_at k n)
   of_value k (mapping es at) = of_found k es
-  of_value k (scalar s at) = refl
+  of_value k (scalar s) = refl
   of_value k (sequence ns at) = refl
 
 of_below : {X : Type 0} (f : Option Node → X) → ((n : Node) → f (Some (placeless n)) ≡ f (Some n)) → (ks : List (List ℕ)) (n : Node) →
@@ -80,7 +77,7 @@ of_below : {X : Type 0} (f : Option Node → X) → ((n : Node) → f (Some (pla
 of_below f same [] n = same n
 of_below f same (k ∷ ks) n = of_value (λ o. f (option_and_then (value_below ks) o)) (of_below f same ks) k n
 
-of_text_at : {X : Type 0} (f : Option (Scalar × Span) → X) → ((s : Scalar) (at : Span) → f (Some (placeless_scalar s, span 0 0)) ≡ f (Some (s, at))) →
+of_text_at : {X : Type 0} (f : Option Scalar → X) → ((s : Scalar) → f (Some (placeless_scalar s)) ≡ f (Some s)) →
     (k : List ℕ) (n : Node) → f (option_and_then text_in (value_at k (placeless n))) ≡ f (option_and_then text_in (value_at k n))
 of_text_at f same k n = of_value (λ o. f (option_and_then text_in o)) (of_text f same) k n
 
@@ -110,7 +107,7 @@ declared_same : (n : Node) → declared_in (placeless n) ≡ map placeless_entry
 declared_same (mapping es at) =
     ap (λ l. firsts_by named_among [] (firsts_by among [] l)) (entries_same es) ∙ ap (firsts_by named_among []) (firsts_same among [] (entries es))
     ∙ firsts_same named_among [] (firsts_by among [] (entries es))
-declared_same (scalar s at) = refl
+declared_same (scalar s) = refl
 declared_same (sequence ns at) = refl
 
 module _ {X : Type 0} (f : Node × Node → X) (same : (e : Node × Node) → f (placeless_entry e) ≡ f e) where
@@ -135,7 +132,7 @@ default_same declared.Secrets n = refl
 
 taken_same : (by : Declaring) (n : Node) → type_taken by (placeless n) ≡ type_taken by n
 taken_same declared.CallInputs n =
-    of_text_at (λ o. option_map_or (λ t. input_named (text_of t.0)) o input.String) (λ s at. ap input_named (text_same s)) (codes "type") n
+    of_text_at (λ o. option_map_or (λ s. input_named (text_of s)) o input.String) (λ s. ap input_named (text_same s)) (codes "type") n
 taken_same declared.ActionInputs n = refl
 taken_same declared.Secrets n = refl
 
@@ -148,9 +145,9 @@ parameter_same by e = λ d. record {
 }
 
 name_same : (n : Node) → name_of (placeless n) ≡ name_of n
-name_same = of_text_at (option_map (λ t. text_of t.0)) (λ s at. ap Some (text_same s)) (codes "name")
+name_same = of_text_at (option_map text_of) (λ s. ap Some (text_same s)) (codes "name")
 
-any_more : (o : Option (Scalar × Span)) (ts us : List (Scalar × Span)) → list_any says_call ts ≡ list_any says_call us →
+any_more : (o : Option Scalar) (ts us : List Scalar) → list_any says_call ts ≡ list_any says_call us →
     list_any says_call (cons_option o ts) ≡ list_any says_call (cons_option o us)
 any_more None ts us e = e
 any_more (Some t) ts us e = ap (λ b. says_call t || b) e
@@ -162,11 +159,11 @@ any_item : (ns : Nodes) → list_any says_call (filter_map text_in (nodes (place
 any_item no_nodes = refl
 any_item (item n ns) =
     let others = filter_map text_in (nodes (placeless_items ns)) in
-    of_text (λ o. list_any says_call (cons_option o others)) (λ s at. says_same s (list_any says_call others)) n
+    of_text (λ o. list_any says_call (cons_option o others)) (λ s. says_same s (list_any says_call others)) n
     ∙ any_more (text_in n) others (filter_map text_in (nodes ns)) (any_item ns)
 
 any_text : (n : Node) → list_any says_call (texts_in (placeless n)) ≡ list_any says_call (texts_in n)
-any_text (scalar s at) = of_text (λ o. list_any says_call (option_to_list o)) (λ t a. says_same t false) (scalar s at)
+any_text (scalar s) = of_text (λ o. list_any says_call (option_to_list o)) (λ t. says_same t false) (scalar s)
 any_text (sequence ns at) = any_item ns
 any_text (mapping es at) = refl
 
@@ -204,7 +201,7 @@ signature_same kind.Action n = λ d. record {
 
 pub no_places : ShowsNoPlaces
 no_places k (mapping es at) = ap Readable (signature_same k (mapping es at))
-no_places k (scalar s at) = refl
+no_places k (scalar s) = refl
 no_places k (sequence ns at) = refl
 
 -- ---- other keys of a declared name don't matter
@@ -216,7 +213,7 @@ default_by declared.Secrets m n e = refl
 
 taken_by : (by : Declaring) (m n : Node) → value_at (codes "type") m ≡ value_at (codes "type") n → type_taken by m ≡ type_taken by n
 taken_by declared.CallInputs m n e =
-    ap (λ o. option_map_or (λ t. input_named (text_of t.0)) (option_and_then text_in o) input.String) e
+    ap (λ o. option_map_or (λ s. input_named (text_of s)) (option_and_then text_in o) input.String) e
 taken_by declared.ActionInputs m n e = refl
 taken_by declared.Secrets m n e = refl
 

@@ -1,7 +1,6 @@
 -- The meaning of the program's sites and calls.
 use Rattle.std.specs.Prelude.{ℕ, List, Option, option_map}
 use Rattle.std.specs.Borrow.{Bor}
-use Rattle.al_tree.specs.Values.{scalar_node_of}
 use Rattle.al_yaml_tree.specs.View.{view}
 use Rattle.al_check_interfaces.specs.Uses.{Call, Site, call_by}
 use Rattle.al_check_interfaces.specs.declared.sites.Site as code_sites
@@ -14,4 +13,4 @@ abbrev pub site_of : code_sites.Site → Site
 site_of s = record { job = bytes_of s.job; step = s.step; node = view s.node.now }
 
 abbrev pub call_of : code_calls.Call → Call
-call_of c = call_by (site_of c.site) (scalar_node_of c.uses)
+call_of c = call_by (site_of c.site) c.uses.now

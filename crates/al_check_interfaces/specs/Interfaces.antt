@@ -6,7 +6,6 @@ use Rattle.std.specs.Option.{option_map_or}
 use Rattle.std.specs.Str.{bytes_eq}
 use Rattle.al_scalar.specs.Scalar.{Scalar, text_of}
 use Rattle.al_base.specs.Names.{same_name}
-use Rattle.al_base.specs.declared.faults.Span.{Span}
 use Rattle.al_yaml_tree.specs.Access.{scalar_in}
 use Rattle.al_yaml_tree.specs.Node.{Node, mapping}
 use Rattle.al_tree.specs.Keys.{key_of, keys_in}
@@ -49,10 +48,10 @@ abbrev pub parameters : Declaring → List (List ℕ) → Node → List Paramete
 parameters by ks n = map (parameter by) (declared_below ks n)
 
 abbrev pub name_of : Node → Option (List ℕ)
-name_of n = option_map (λ t. text_of t.0) (text_at_key (codes "name") n)
+name_of n = option_map text_of (text_at_key (codes "name") n)
 
-abbrev pub says_call : Scalar × Span → Bool
-says_call t = bytes_eq (text_of t.0) (codes "workflow_call")
+abbrev pub says_call : Scalar → Bool
+says_call s = bytes_eq (text_of s) (codes "workflow_call")
 
 -- `on` names `workflow_call` in any form
 abbrev pub names_call : Node → Bool

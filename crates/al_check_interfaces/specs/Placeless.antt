@@ -16,7 +16,7 @@ placeless_scalar s = record { style = s.style; class = s.class; cells = map (λ 
 -- a tree with all nodes and texts moved to the offset 0
 abbrev mutual
   pub placeless : Node → Node
-  placeless (scalar s at) = scalar (placeless_scalar s) (span 0 0)
+  placeless (scalar s) = scalar (placeless_scalar s)
   placeless (sequence ns at) = sequence (placeless_items ns) (span 0 0)
   placeless (mapping es at) = mapping (placeless_entries es) (span 0 0)
 

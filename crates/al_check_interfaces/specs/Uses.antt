@@ -52,8 +52,8 @@ pub record Call : Type 0 where
   pub text : List ℕ
   pub form : Form
 
-abbrev pub call_by : Site → Scalar × Span → Call
-call_by s t = record { site = s; at = t.1; text = text_of t.0; form = form_by (site_caller s) (text_of t.0) }
+abbrev pub call_by : Site → Scalar → Call
+call_by s uses = record { site = s; at = uses.span; text = text_of uses; form = form_by (site_caller s) (text_of uses) }
 
 abbrev pub call_at : Site → Option Call
 call_at s = option_map (call_by s) (text_at_key (codes "uses") s.node)

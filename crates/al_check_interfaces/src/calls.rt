@@ -37,8 +37,8 @@ fn add_call(
 {
     let alloc = faults.alloc();
     let caller = caller_of(call.site);
-    let span = call.uses.span;
-    let uses = call.uses.scalar.text();
+    let span = call.uses.span();
+    let uses = call.uses.text();
     match form_by(alloc, caller, uses)? {
         Form::Local(target) => {
             let fault = Fault {

@@ -7,9 +7,9 @@ ghost use Rattle.al_check_interfaces.specs.Uses as calling;
 ghost use Rattle.al_yaml_tree.specs.View.{view};
 
 use al_base::Caller;
+use al_scalar::Scalar;
 use al_tree::{
-    FileKind, Member, ScalarNode, action_steps, is_composite, items_under, key_text, members_under,
-    text_under,
+    FileKind, Member, action_steps, is_composite, items_under, key_text, members_under, text_under,
 };
 use al_yaml_tree::Node;
 use std::alloc::{AllocError, Global};
@@ -28,7 +28,7 @@ pub struct Site<'a> {
 #[derive(Clone, Copy)]
 pub struct Call<'a> {
     pub site: Site<'a>,
-    pub uses: ScalarNode<'a>,
+    pub uses: &'a Scalar,
 }
 
 /// Whether the site is a step or a job.

@@ -34,7 +34,7 @@ matrix_scalar_type s = if has_chunk (text_of s) then (if is_lone_chunk Nothing (
 -- counts.
 abbrev mutual
   pub node_type : Node → Type'
-  node_type (scalar s at) = matrix_scalar_type s
+  node_type (scalar s) = matrix_scalar_type s
   node_type (sequence ns at) = ArrayOf (or_any (option_of (items_type Absent ns)))
   node_type (mapping es at) = strictly (firsts (fields_of es))
 

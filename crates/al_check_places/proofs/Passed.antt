@@ -46,7 +46,7 @@ no_condition (a ∷ b ∷ c ∷ d ∷ ks) key h =
 
 pub no_place : (kind : FileKind) (st : Standing) (way : List WayStep) (key node : Node) → may_have_expression (key, node) ≡ false
     → entry_places st (λ s. places_of_node kind s false (way ++ under (key_text key) ∷ []) node) ≡ []
-no_place kind (expected shape clash) way key (scalar s at) h =
+no_place kind (expected shape clash) way key (scalar s) h =
     let parts = or_parts (ends_with nat_eq (key_text key) (codes "if")) (has_chunk (text_of s)) h in
     rw (filter_map-append step_key way (under (key_text key) ∷ []), no_condition (keys_of way) (key_text key) parts.0, parts.1) refl
 no_place kind (expected shape clash) way key node h = absurd cc

@@ -24,8 +24,8 @@ use Rattle.al_check_places.specs.Places.{rule_or_any, takes_scalars_only}
 use Rattle.al_check_places.specs.Ways.{WayStep, is_checked, nth, under}
 
 -- what holds of each scalar of a tree, as it is of the place of one
-module _ (S : Scalar → Span → Type 0) (around : Span → Type 0 → Type 0) (inner : (X : Type 0) (at : Span) → around at X → X) (P : Place → Type 0)
-    (of_scalar : (k : FileKind) (way : List WayStep) (only : Bool) (s : Scalar) (at : Span) → S s at → P (place_at k way only s at)) where
+module _ (S : Scalar → Type 0) (around : Span → Type 0 → Type 0) (inner : (X : Type 0) (at : Span) → around at X → X) (P : Place → Type 0)
+    (of_scalar : (k : FileKind) (way : List WayStep) (only : Bool) (s : Scalar) → S s → P (place_at k way only s)) where
   abbrev AllPlaces : List Place → Type 0
   AllPlaces = AllByRecursion P
 
@@ -39,9 +39,9 @@ module _ (S : Scalar → Span → Type 0) (around : Span → Type 0 → Type 0) 
 
   mutual
     pub node_places : (n : Node) → Each S around n → (k : FileKind) (shape : Shape) (is_item : Bool) (way : List WayStep) → AllPlaces (places_of_node k shape is_item way n)
-    node_places (scalar s at) h k shape is_item way =
+    node_places (scalar s) h k shape is_item way =
         let only = takes_scalars_only (rule_or_any (rule shape)) && not is_item in
-        each_either P (has_expression way s && fits (rule_or_any (rule shape)) s && is_checked k way) (place_at k way only s at ∷ []) [] (of_scalar k way only s at h, tt) tt
+        each_either P (has_expression way s && fits (rule_or_any (rule shape)) s && is_checked k way) (place_at k way only s ∷ []) [] (of_scalar k way only s h, tt) tt
     node_places (sequence ns at) h k shape is_item way =
         some_items (rule_or_any (rule shape)).items (λ s. places_of_items k s way 0 ns) (λ s. item_places ns (inner (EachItem S around ns) at h) k s way 0)
     node_places (mapping es at) h k shape is_item way =
@@ -68,8 +68,8 @@ module _ (S : Scalar → Span → Type 0) (around : Span → Type 0 → Type 0) 
 
 pub places_lie : PlacesLie
 places_lie kind size root w =
-    each_place (Laid 1048576 size) (LiesAround size) (λ X at h. h.1) (λ p. Lies size p.word p.at) (λ k way only s at h. record { inside = h.0; placed = h.1 }) kind root w
+    each_place (Laid 1048576 size) (LiesAround size) (λ X at h. h.1) (λ p. Lies size p.word) (λ k way only s h. record { inside = h.0; placed = h.1 }) kind root w
 
 pub places_have_texts : PlacesHaveTexts
 places_have_texts kind root h =
-    each_place (λ s at. IsUtf8 (text_of s)) (λ at X. X) (λ X at h. h) (λ p. IsUtf8 (text_of p.word)) (λ k way only s at h. h) kind root h
+    each_place (λ s. IsUtf8 (text_of s)) (λ at X. X) (λ X at h. h) (λ p. IsUtf8 (text_of p.word)) (λ k way only s h. h) kind root h

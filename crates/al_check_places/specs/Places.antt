@@ -3,7 +3,6 @@
 use Rattle.std.specs.Prelude.{ℕ, List, [], ◌∷◌, ◌++◌, ◌+◌, Bool, true, false, ◌&&◌, ◌||◌, not}
 use Rattle.std.specs.Prelude.{Option, Some, None, is_none, option_map, unwrap_or, if◌then◌else◌}
 use Rattle.std.specs.Option.{option_map_or}
-use Rattle.al_base.specs.declared.faults.Span.{Span}
 use Rattle.al_scalar.specs.Scalar.{Scalar, text_of}
 use Rattle.al_yaml_tree.specs.Access.{entries}
 use Rattle.al_yaml_tree.specs.Node.{Node, Nodes, Entries, scalar, sequence, mapping, no_nodes, item, no_entries, entry}
@@ -22,11 +21,10 @@ use Rattle.al_check_places.specs.Ways.{WayStep, under, nth, keys_of, is_checked,
 use Rattle.al_check_places.specs.Positions.{Position, position_of, position_view}
 use Rattle.al_check_places.specs.declared.walk.Place as rust
 
--- A scalar with the span of its written form; whether only a scalar is accepted there; which contexts and special functions are available
--- (None: all, or in an action); whether it is a condition, or a step's script; and its position.
+-- A scalar; whether only a scalar is accepted there; which contexts and special functions are available (None: all, or in an action);
+-- whether it is a condition, or a step's script; and its position.
 pub record Place : Type 0 where
   pub word : Scalar
-  pub at : Span
   pub is_scalar_only : Bool
   pub available : Option Row
   pub is_condition : Bool
@@ -45,10 +43,9 @@ abbrev pub row_of_way : FileKind → List WayStep → Option Row
 row_of_way kind.Workflow way = availability (keys_of way)
 row_of_way kind.Action way = None
 
-abbrev pub place_at : FileKind → List WayStep → Bool → Scalar → Span → Place
-place_at k way only s at = record {
+abbrev pub place_at : FileKind → List WayStep → Bool → Scalar → Place
+place_at k way only s = record {
   word = s;
-  at = at;
   is_scalar_only = only;
   available = row_of_way k way;
   is_condition = is_one conditions (keys_of way);
@@ -65,9 +62,9 @@ abbrev pub has_expression : List WayStep → Scalar → Bool
 has_expression way s = is_one conditions (keys_of way) || has_chunk (text_of s)
 
 -- the place of a scalar, if its way is checked
-abbrev pub scalar_places : FileKind → Rule → Bool → List WayStep → Scalar → Span → List Place
-scalar_places k r is_item way s at =
-    if has_expression way s && fits r s && is_checked k way then place_at k way (takes_scalars_only r && not is_item) s at ∷ [] else []
+abbrev pub scalar_places : FileKind → Rule → Bool → List WayStep → Scalar → List Place
+scalar_places k r is_item way s =
+    if has_expression way s && fits r s && is_checked k way then place_at k way (takes_scalars_only r && not is_item) s ∷ [] else []
 
 -- the places of an entry, given those of its value as a node of a shape
 abbrev pub entry_places : Standing → (Shape → List Place) → List Place
@@ -77,7 +74,7 @@ entry_places _ value = []
 abbrev mutual
   -- the places of a node at the end of a way, which should have a shape and may be an item of a sequence
   pub places_of_node : FileKind → Shape → Bool → List WayStep → Node → List Place
-  places_of_node k shape is_item way (scalar s at) = scalar_places k (rule_or_any (rule shape)) is_item way s at
+  places_of_node k shape is_item way (scalar s) = scalar_places k (rule_or_any (rule shape)) is_item way s
   places_of_node k shape is_item way (sequence ns at) =
       option_map_or (λ s. places_of_items k s way 0 ns) (rule_or_any (rule shape)).items []
   places_of_node k shape is_item way (mapping es at) =
@@ -103,7 +100,6 @@ places_of k root = places_of_node k (shape_of k) false [] root
 abbrev pub place_of : rust.Place → Place
 place_of p = record {
   word = p.scalar.now;
-  at = p.span;
   is_scalar_only = p.is_scalar_only;
   available = option_map (λ r. row_view r.now) p.available;
   is_condition = p.is_condition;

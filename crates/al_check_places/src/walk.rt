@@ -16,11 +16,10 @@ ghost use Rattle.al_yaml_tree.specs.View.{entries_of, entry_view, nodes_of, view
 use crate::positions::{Position, position_at};
 use crate::table::{Row, available};
 use crate::ways::{Way, is_checked, is_condition, is_script};
-use al_base::Span;
 use al_scalar::Scalar;
 use al_tree::{
-    FEW_KEYS, FileKind, KeyIndex, Keys, Rule, ScalarNode, ScalarSet, Shape, Standing,
-    contains_chunk, is_null_scalar, key_of, refine, root_shape, rule_of, scalar_fault, standing_of,
+    FEW_KEYS, FileKind, KeyIndex, Keys, Rule, ScalarSet, Shape, Standing, contains_chunk,
+    is_null_scalar, key_of, refine, root_shape, rule_of, scalar_fault, standing_of,
 };
 use al_yaml_tree::{Entry, Node};
 use std::alloc::{AllocError, Global};
@@ -29,7 +28,6 @@ use std::alloc::{AllocError, Global};
 #[derive(Clone, Copy)]
 pub struct Place<'a> {
     pub scalar: &'a Scalar,
-    pub span: Span,
     /// Whether only a scalar is accepted there.
     pub is_scalar_only: bool,
     /// Which contexts and special functions are available; `None` if all are, or in an action.
@@ -77,13 +75,12 @@ fn available_in(kind: FileKind, way: &Way<'_>) -> Option<&'static Row>
 }
 
 /// The place of a scalar at which a walk is.
-fn place_at<'a>(walk: &Walk<'a>, is_scalar_only: bool, scalar: ScalarNode<'a>) -> Place<'a>
+fn place_at<'a>(walk: &Walk<'a>, is_scalar_only: bool, scalar: &'a Scalar) -> Place<'a>
     ensures { place_of result ≡ places.place_at walk.now.kind (way_in walk.now)
-        is_scalar_only (scalar.entry).scalar.now (scalar.entry).span }
+        is_scalar_only scalar.now }
 {
     Place {
-        scalar: scalar.scalar,
-        span: scalar.span,
+        scalar,
         is_scalar_only,
         available: available_in(walk.kind, &walk.way),
         is_condition: is_condition(&walk.way),
@@ -96,21 +93,21 @@ fn place_at<'a>(walk: &Walk<'a>, is_scalar_only: bool, scalar: ScalarNode<'a>) -
 fn find_scalar<'a>(
     shape: Shape,
     is_item: bool,
-    scalar: ScalarNode<'a>,
+    scalar: &'a Scalar,
     walk: &mut Walk<'a>,
 ) -> Result<(), AllocError>
     ensures found { OnOk result (places_in walk.new ≡ places_in walk.old
         ++ scalar_places walk.old.kind (rule_or_any (table_rule shape)) is_item
-        (way_in walk.old) (scalar.entry).scalar.now (scalar.entry).span) }
+        (way_in walk.old) scalar.now) }
     ensures way { OnOk result (walk.new.way.steps.items ≡ walk.old.way.steps.items) }
     ensures kind { OnOk result (walk.new.kind ≡ walk.old.kind) }
 {
     // Most scalars have none, and need no further tests.
-    if !is_condition(&walk.way) && !contains_chunk(scalar.scalar.text()) {
+    if !is_condition(&walk.way) && !contains_chunk(scalar.text()) {
         return Ok(());
     }
     let rule = rule_at(shape);
-    if is_null_scalar(scalar.scalar) || scalar_fault(rule.scalars, scalar.scalar).is_some() {
+    if is_null_scalar(scalar) || scalar_fault(rule.scalars, scalar).is_some() {
         return Ok(());
     }
     if !is_checked(walk.kind, &walk.way) {
@@ -137,13 +134,7 @@ fn find<'a>(
     ensures kind { OnOk result (walk.new.kind ≡ walk.old.kind) }
 {
     match node {
-        Node::Scalar(scalar) => {
-            let scalar = ScalarNode {
-                scalar,
-                span: scalar.span(),
-            };
-            find_scalar(shape, is_item, scalar, walk)
-        }
+        Node::Scalar(scalar) => find_scalar(shape, is_item, scalar, walk),
         Node::Sequence { items, .. } => match rule_at(shape).items {
             None => Ok(()),
             Some(inner) => find_items(inner, items.as_slice(), walk),

@@ -26,7 +26,7 @@ module _ (size : ℕ) where
   types_of None event f = tt
   types_of (Some types) event f =
       each_of (Text size) (Lies size) (λ s. unless_among UnknownActivity types (of_scalar s))
-      (λ s t. unless_lies size (among types (text_of s.0)) UnknownActivity (of_scalar s) t.place) (texts_at (codes "types") event)
+      (λ s t. unless_lies size (among types (text_of s)) UnknownActivity (of_scalar s) t.place) (texts_at (codes "types") event)
       (texts_kept (laid size) (codes "types") event f)
 
   types_lie : (name : List ℕ) (event : Node) → Fine size event → Are size (activity_type_faults name event)
@@ -34,8 +34,8 @@ module _ (size : ℕ) where
 
   filter_lies : (filter : Filter) (event : Node) (key : List ℕ) → Fine size event → Are size (filter_faults filter event key)
   filter_lies filter event key f =
-      each_of (Text size) (Lies size) (λ s. unless (is_pattern filter (text_of s.0)) WrongPattern (of_scalar s))
-      (λ s t. unless_lies size (is_pattern filter (text_of s.0)) WrongPattern (of_scalar s) t.place) (texts_at key event) (texts_kept (laid size) key event f)
+      each_of (Text size) (Lies size) (λ s. unless (is_pattern filter (text_of s)) WrongPattern (of_scalar s))
+      (λ s t. unless_lies size (is_pattern filter (text_of s)) WrongPattern (of_scalar s) t.place) (texts_at key event) (texts_kept (laid size) key event f)
 
   keys_lie : (filter : Filter) (event : Node) → Fine size event → (keys : List (List ℕ)) → Are size (flat_map (filter_faults filter event) keys)
   keys_lie filter event f [] = tt
@@ -50,12 +50,12 @@ module _ (size : ℕ) where
 
   cron_lies : (entry : Node) → Fine size entry → Are size (cron_faults entry)
   cron_lies entry f =
-      map_or (Text size) (Lies size) (λ s. schedule_faults (schedule_of (of_scalar s).text) (of_scalar s)) (λ s t. schedule_lies (schedule_of (text_of s.0)) (of_scalar s) t.place)
+      map_or (Text size) (Lies size) (λ s. schedule_faults (schedule_of (of_scalar s).text) (of_scalar s)) (λ s t. schedule_lies (schedule_of (text_of s)) (of_scalar s) t.place)
       (text_at_key (codes "cron") entry) (text_kept (laid size) (codes "cron") entry f)
 
   input_lies : (types : List (List ℕ)) (m : Node × Node) → Pair (Fine size) m → Are size (input_faults types m)
   input_lies types m p =
-      map_or (Text size) (Lies size) (λ s. unless_among UnknownInputType types (of_scalar s)) (λ s t. unless_lies size (among types (text_of s.0)) UnknownInputType (of_scalar s) t.place)
+      map_or (Text size) (Lies size) (λ s. unless_among UnknownInputType types (of_scalar s)) (λ s t. unless_lies size (among types (text_of s)) UnknownInputType (of_scalar s) t.place)
       (text_at_key (codes "type") m.1) (text_kept (laid size) (codes "type") m.1 p.1)
 
   inputs_lie : (types : List (List ℕ)) (event : Node) → Fine size event → Are size (inputs_faults types event)
@@ -72,5 +72,5 @@ module _ (size : ℕ) where
   pub on_lies : (on : Node) → Fine size on → Are size (on_faults on)
   on_lies on f =
       let names = each_of (Text size) (Lies size) (λ s. event_name_faults (of_scalar s))
-      (λ s t. unless_lies size (is_event (text_of s.0)) UnknownEvent (of_scalar s) t.place) (texts_in on) (texts_in_kept (laid size) on f) in
+      (λ s t. unless_lies size (is_event (text_of s)) UnknownEvent (of_scalar s) t.place) (texts_in on) (texts_in_kept (laid size) on f) in
       search (both size, names, each_of (Pair (Fine size)) (Lies size) named_faults named_lies, entries_in_kept (laid size))

@@ -86,7 +86,7 @@ using_faults root runs using_name _ = about UnknownUsing using_name
 
 -- `using` as a scalar, null too
 abbrev pub scalar_of_value : Node → Option Named
-scalar_of_value n = option_map (λ s. of_scalar (s, span_of n)) (scalar_in n)
+scalar_of_value n = option_map of_scalar (scalar_in n)
 
 abbrev pub runs_faults : Node → Node → List Fault
 runs_faults root runs =

@@ -8,7 +8,7 @@ ghost use Rattle.std.specs.Prelude.{◌≡◌, ◌++◌, codes, option_and_then,
 
 use crate::sections::check_steps;
 use al_base::{Code, FaultSink, RuleCode};
-use al_rules_settings::{Named, check_condition, check_env, named_key, report};
+use al_rules_settings::{Named, check_condition, check_env, named_key, named_text, report};
 use al_tree::{Shape, items_under, key, members_under, runs_of, text_under, value};
 use al_yaml_tree::Node;
 use std::alloc::AllocError;
@@ -49,11 +49,7 @@ fn using_of(runs: &Node) -> Option<Named<'_>>
     ensures { option_map named_of result
         ≡ option_and_then scalar_of_value (value_at (codes "using") (view runs.now)) }
 {
-    let node = value(runs, "using")?;
-    Some(Named {
-        text: node.scalar()?.text(),
-        span: node.span(),
-    })
+    Some(named_text(value(runs, "using")?.scalar()?))
 }
 
 /// Adds the faults of an action, depending on `using`.

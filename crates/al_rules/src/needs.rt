@@ -27,7 +27,7 @@ fn lists_for(
     for job in jobs {
         let mut needed = Vec::new(alloc);
         for need in &texts_under(alloc, job.value, "needs")? {
-            if let Some(position) = positions.get(need.scalar.text())? {
+            if let Some(position) = positions.get(need.text())? {
                 needed.push(position)?;
             }
         }

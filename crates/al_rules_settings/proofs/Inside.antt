@@ -24,13 +24,13 @@ Lies size f = LiesIn size f.span
 abbrev pub Fine : ℕ → Node → Type 0
 Fine size n = IsLaid size n
 
--- a scalar with its span
-pub record Text (size : ℕ) (t : Scalar × Span) : Type 0 where
-  pub place : LiesIn size t.1
-  pub placed : IsPlaced 1048576 t.0 t.1
+-- a scalar that does
+pub record Text (size : ℕ) (s : Scalar) : Type 0 where
+  pub place : LiesIn size s.span
+  pub placed : IsPlaced 1048576 s
 
 pub laid : (size : ℕ) → AreKept (Fine size) (Text size)
-laid size = each_kept (Laid 1048576 size) (LiesAround size) (Text size) (λ X at h. h.1) (λ s at h. record { place = h.0; placed = h.1 })
+laid size = each_kept (Laid 1048576 size) (LiesAround size) (Text size) (λ X at h. h.1) (λ s h. record { place = h.0; placed = h.1 })
 
 module _ (size : ℕ) where
   abbrev pub NameLies : Named → Type 0

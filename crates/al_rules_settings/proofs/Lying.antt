@@ -64,14 +64,14 @@ module _ (size : ℕ) where
 
   -- ---- settings
 
-  pub shell_lies : (o : Option (Scalar × Span)) → IfSome o (Text size) → Are size (shell_faults o)
+  pub shell_lies : (o : Option Scalar) → IfSome o (Text size) → Are size (shell_faults o)
   shell_lies o h = map_or (Text size) (Lies size) (λ s. unless (is_shell (of_scalar s).text) UnknownShell (of_scalar s))
-      (λ s t. unless_lies size (is_shell (text_of s.0)) UnknownShell (of_scalar s) t.place) o h
+      (λ s t. unless_lies size (is_shell (text_of s)) UnknownShell (of_scalar s) t.place) o h
 
   value_lies : (values : List (List ℕ)) (n : Node) → Fine size n → Are size (permission_value_faults values n)
   value_lies values n f =
       map_or (Text size) (Lies size) (λ s. unless_among WrongPermission values (of_scalar s))
-      (λ s t. unless_lies size (among values (text_of s.0)) WrongPermission (of_scalar s) t.place) (text_in n) (text_in_kept (laid size) n f)
+      (λ s t. unless_lies size (among values (text_of s)) WrongPermission (of_scalar s) t.place) (text_in n) (text_in_kept (laid size) n f)
 
   permission_lies : (m : Node × Node) → Pair (Fine size) m → Are size (permission_faults m)
   permission_lies m p =
@@ -97,10 +97,10 @@ module _ (size : ℕ) where
       map_or (Fine size) (Lies size) password_faults password_lies (value_below (codes "credentials" ∷ codes "password" ∷ []) n)
       (below_kept (laid size) (codes "credentials" ∷ codes "password" ∷ []) n f)
 
-  pub script_lies : (o : Option (Scalar × Span)) → IfSome o (Text size) → Are size (script_faults o)
+  pub script_lies : (o : Option Scalar) → IfSome o (Text size) → Are size (script_faults o)
   script_lies None h = tt
   script_lies (Some s) h = commands_lie size s h
 
-  pub condition_lies : (o : Option (Scalar × Span)) → IfSome o (Text size) → Are size (condition_faults o)
+  pub condition_lies : (o : Option Scalar) → IfSome o (Text size) → Are size (condition_faults o)
   condition_lies None h = tt
-  condition_lies (Some s) h = or_lies size (is_always_true (text_of s.0)) _ [] (one_lies size AlwaysTrue s.1 [] h.place) tt
+  condition_lies (Some s) h = or_lies size (is_always_true (text_of s)) _ [] (one_lies size AlwaysTrue s.span [] h.place) tt

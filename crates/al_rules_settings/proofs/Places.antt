@@ -9,7 +9,6 @@ use Rattle.memchr.specs.Find.{IsFirstByte, Nowhere, OccursAt, Passes, is_byte, m
 use Rattle.memchr.proofs.lemmas.CallerLemmas.{All-matches}
 use Rattle.memchr.proofs.lemmas.MatchLemmas.{matches-none}
 use Rattle.al_base.specs.Spans.{LiesIn}
-use Rattle.al_base.specs.declared.faults.Span.{Span}
 use Rattle.al_scalar.proofs.PlacedLemmas.{offset-order}
 use Rattle.al_scalar.specs.Line.{Cell}
 use Rattle.al_scalar.specs.Offsets.{AreBefore, reach}
@@ -69,32 +68,31 @@ module _ (size : ℕ) where
   IsNeedle [] = ⊥
   IsNeedle (b ∷ bs) = get_or (b ∷ bs) (length bs) 0 ≡ 10 → ⊥
 
-  part_lies : (t : Scalar × Span) (needle : List ℕ) (i : ℕ) → Text size t → IsNeedle needle → OccursAt (text_of t.0) needle i → LiesIn size (part_span t.0 i (length needle))
-  part_lies t [] i p n o = absurd n
-  part_lies t (b ∷ bs) i p n o =
-      let cells = t.0.cells in
+  part_lies : (s : Scalar) (needle : List ℕ) (i : ℕ) → Text size s → IsNeedle needle → OccursAt (text_of s) needle i → LiesIn size (part_span s i (length needle))
+  part_lies s [] i p n o = absurd n
+  part_lies s (b ∷ bs) i p n o =
+      let cells = s.cells in
       let last : ℕ = i + length (b ∷ bs) - 1 in
       let is : last ≡ i + length bs = omega arith in
-      let len : length (text_of t.0) ≡ length cells = length-map cells _ in
-      let fits : i + length (b ∷ bs) ≤ length (text_of t.0) = o.fits in
+      let len : length (text_of s) ≡ length cells = length-map cells _ in
+      let fits : i + length (b ∷ bs) ≤ length (text_of s) = o.fits in
       let inside : last < length cells = omega (arith, len, fits) in
       let lower : i ≤ last = omega arith in
-      let rises : offset_of t.0 i ≤ offset_of t.0 last = offset-order t.1.start (reach 1048576 t.0.style t.0.span.end) t.0.span.end cells i last p.placed.rising lower inside in
-      let reads : get_or (text_of t.0) (i + length bs) 0 ≡ get_or (b ∷ bs) (length bs) 0 = o.reads (length bs) (omega arith) in
-      let at_last : get_or (text_of t.0) last 0 ≡ get_or (b ∷ bs) (length bs) 0 = ap (λ k. get_or (text_of t.0) k 0) is ∙ reads in
-      let ends : offset_of t.0 last < t.0.span.end = before_end t.0.span.end t.0.span.end cells last p.placed.before inside (λ e. n (sym at_last ∙ e)) in
-      let to : t.1.end ≤ size = p.place.inside in
-      let same : t.0.span.end ≡ t.1.end = p.placed.end in
-      after_at (nat_lt (offset_of t.0 last) (2 ^ 32 - 1)) (offset_of t.0 i) (offset_of t.0 last) rises (omega (arith, ends, to, same))
+      let rises : offset_of s i ≤ offset_of s last = offset-order s.span.start (reach 1048576 s.style s.span.end) s.span.end cells i last p.placed.rising lower inside in
+      let reads : get_or (text_of s) (i + length bs) 0 ≡ get_or (b ∷ bs) (length bs) 0 = o.reads (length bs) (omega arith) in
+      let at_last : get_or (text_of s) last 0 ≡ get_or (b ∷ bs) (length bs) 0 = ap (λ k. get_or (text_of s) k 0) is ∙ reads in
+      let ends : offset_of s last < s.span.end = before_end s.span.end s.span.end cells last p.placed.before inside (λ e. n (sym at_last ∙ e)) in
+      let to : s.span.end ≤ size = p.place.inside in
+      after_at (nat_lt (offset_of s last) (2 ^ 32 - 1)) (offset_of s i) (offset_of s last) rises (omega (arith, ends, to))
 
-  command_lies : (t : Scalar × Span) (c : List ℕ × List ℕ) → Text size t → IsNeedle c.0 → AllByRecursion (Lies size) (one_command t.0 c)
-  command_lies t c p n =
-      let hay = text_of t.0 in
-      each_as (OccursAt hay c.0) (Lies size) (command_fault t.0 c.0 c.1) (λ i o. part_lies t c.0 i p n o) (matches hay c.0 0)
+  command_lies : (s : Scalar) (c : List ℕ × List ℕ) → Text size s → IsNeedle c.0 → AllByRecursion (Lies size) (one_command s c)
+  command_lies s c p n =
+      let hay = text_of s in
+      each_as (OccursAt hay c.0) (Lies size) (command_fault s c.0 c.1) (λ i o. part_lies s c.0 i p n o) (matches hay c.0 0)
       (recursion_from_All (OccursAt hay c.0) (matches hay c.0 0) (places_occur hay c.0))
 
   needles : AllByRecursion (λ (c : List ℕ × List ℕ). IsNeedle c.0) commands
   needles = (λ e. omega (arith, e), (λ e. omega (arith, e), (λ e. omega (arith, e), (λ e. omega (arith, e), tt))))
 
-  pub commands_lie : (t : Scalar × Span) → Text size t → AllByRecursion (Lies size) (command_faults t.0)
-  commands_lie t p = each_of (λ (c : List ℕ × List ℕ). IsNeedle c.0) (Lies size) (one_command t.0) (λ c n. command_lies t c p n) commands needles
+  pub commands_lie : (s : Scalar) → Text size s → AllByRecursion (Lies size) (command_faults s)
+  commands_lie s p = each_of (λ (c : List ℕ × List ℕ). IsNeedle c.0) (Lies size) (one_command s) (λ c n. command_lies s c p n) commands needles

@@ -5,7 +5,6 @@ use Rattle.std.specs.Option.{option_map_or}
 use Rattle.al_base.specs.declared.codes.RuleCode.TheVariants.{AlwaysTrue, PasswordNotExpression, UnknownPermission, UnknownShell}
 use Rattle.al_base.specs.declared.codes.RuleCode.TheVariants.{WrongPermission, WrongVariable}
 use Rattle.al_base.specs.declared.faults.Fault.{Fault}
-use Rattle.al_base.specs.declared.faults.Span.{Span}
 use Rattle.al_scalar.specs.Scalar.{Scalar, text_of}
 use Rattle.al_yaml_tree.specs.Access.{scalar_in}
 use Rattle.al_yaml_tree.specs.Node.{Node, span_of}
@@ -24,7 +23,7 @@ use Rattle.al_rules_settings.specs.Words.{of_key, of_scalar, rule_fault, unless,
 abbrev pub is_shell : List ℕ → Bool
 is_shell text = has_chunk text || has_part (codes "{0}") text || among shells text
 
-abbrev pub shell_faults : Option (Scalar × Span) → List Fault
+abbrev pub shell_faults : Option Scalar → List Fault
 shell_faults shell = option_map_or (λ s. unless (is_shell (of_scalar s).text) UnknownShell (of_scalar s)) shell []
 
 -- an unknown permission, and a wrong value of a known one
@@ -59,13 +58,13 @@ abbrev pub credentials_faults : Node → List Fault
 credentials_faults container = option_map_or password_faults (value_below (codes "credentials" ∷ codes "password" ∷ []) container) []
 
 -- the deprecated commands of a script
-abbrev pub script_faults : Option (Scalar × Span) → List Fault
-script_faults run = option_map_or (λ s. command_faults s.0) run []
+abbrev pub script_faults : Option Scalar → List Fault
+script_faults run = option_map_or command_faults run []
 
 -- a condition that is always true: an expression with other text around it
 abbrev pub is_always_true : List ℕ → Bool
 is_always_true text = has_chunk text && not (is_lone_chunk Blanks text)
 
-abbrev pub condition_faults : Option (Scalar × Span) → List Fault
+abbrev pub condition_faults : Option Scalar → List Fault
 condition_faults condition =
-    option_map_or (λ s. if is_always_true (text_of s.0) then rule_fault AlwaysTrue s.1 [] ∷ [] else []) condition []
+    option_map_or (λ s. if is_always_true (text_of s) then rule_fault AlwaysTrue s.span [] ∷ [] else []) condition []

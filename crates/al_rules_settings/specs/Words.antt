@@ -18,8 +18,8 @@ pub record Named : Type 0 where
 abbrev pub of_key : Node → Named
 of_key n = record { text = key_text n; span = span_of n }
 
-abbrev pub of_scalar : Scalar × Span → Named
-of_scalar s = record { text = text_of s.0; span = s.1 }
+abbrev pub of_scalar : Scalar → Named
+of_scalar s = record { text = text_of s; span = s.span }
 
 -- A fault with these texts as arguments, which are UTF-8: bytes that aren't become U+FFFD, but no file that was read has any.
 abbrev pub rule_fault : RuleCode → Span → List (List ℕ) → Fault

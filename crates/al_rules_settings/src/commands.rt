@@ -2,12 +2,11 @@
 
 ghost use Rattle.al_rules_settings.specs.Commands.{one_command};
 ghost use Rattle.al_rules_settings.specs.Settings.{script_faults};
-ghost use Rattle.al_tree.specs.Values.{scalar_node_of};
-ghost use Rattle.std.specs.Prelude.{◌≡◌, ◌++◌, option_map, OnOk};
+ghost use Rattle.std.specs.Option.{option_copied};
+ghost use Rattle.std.specs.Prelude.{◌≡◌, ◌++◌, OnOk};
 
 use al_base::{Code, FaultSink, RuleCode, Span};
 use al_scalar::Scalar;
-use al_tree::ScalarNode;
 use memchr::{memchr, memmem};
 use std::alloc::AllocError;
 
@@ -36,19 +35,18 @@ fn check_command(
 /// Adds the faults of a script: each deprecated command in it.
 ///
 /// Fails with `AllocError` when out of memory.
-pub fn check_script(run: Option<ScalarNode<'_>>, faults: &mut FaultSink) -> Result<(), AllocError>
-    ensures { OnOk result (faults.new ≡ faults.old
-        ++ script_faults (option_map scalar_node_of run.entry)) }
+pub fn check_script(run: Option<&Scalar>, faults: &mut FaultSink) -> Result<(), AllocError>
+    ensures { OnOk result (faults.new ≡ faults.old ++ script_faults (option_copied run.entry)) }
 {
     let Some(script) = run else {
         return Ok(());
     };
     // Each command begins with a colon, which most scripts don't have.
-    if memchr(b':', script.scalar.text()).is_none() {
+    if memchr(b':', script.text()).is_none() {
         return Ok(());
     }
-    check_command(script.scalar, "::set-output name=", "set-output", faults)?;
-    check_command(script.scalar, "::save-state name=", "save-state", faults)?;
-    check_command(script.scalar, "::set-env name=", "set-env", faults)?;
-    check_command(script.scalar, "::add-path::", "add-path", faults)
+    check_command(script, "::set-output name=", "set-output", faults)?;
+    check_command(script, "::save-state name=", "save-state", faults)?;
+    check_command(script, "::set-env name=", "set-env", faults)?;
+    check_command(script, "::add-path::", "add-path", faults)
 }

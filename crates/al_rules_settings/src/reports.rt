@@ -1,12 +1,13 @@
 //! Faults that name a text of the file.
 
-ghost use Rattle.al_rules_settings.specs.Views.{named_of, named_scalar};
-ghost use Rattle.al_rules_settings.specs.Words.{about, of_key, unless, unless_among};
+ghost use Rattle.al_rules_settings.specs.Views.{named_of};
+ghost use Rattle.al_rules_settings.specs.Words.{about, of_key, of_scalar, unless, unless_among};
 ghost use Rattle.al_yaml_tree.specs.View.{view};
 ghost use Rattle.std.specs.Prelude.{◌≡◌, ◌++◌, map, OnOk};
 
 use al_base::{Code, FaultSink, RuleCode, Span, is_among};
-use al_tree::{ScalarNode, key_text};
+use al_scalar::Scalar;
+use al_tree::key_text;
 use al_yaml_tree::Node;
 use std::alloc::AllocError;
 
@@ -30,12 +31,12 @@ pub fn named_key(key: &Node) -> Named<'_>
 }
 
 /// The text and the span of a scalar.
-pub fn named_text(scalar: ScalarNode<'_>) -> Named<'_>
-    ensures { named_of result ≡ named_scalar scalar.entry }
+pub fn named_text(scalar: &Scalar) -> Named<'_>
+    ensures { named_of result ≡ of_scalar scalar.now }
 {
     Named {
-        text: scalar.scalar.text(),
-        span: scalar.span,
+        text: scalar.text(),
+        span: scalar.span(),
     }
 }
 

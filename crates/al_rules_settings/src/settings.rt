@@ -3,17 +3,16 @@
 ghost use Rattle.al_rules_settings.specs.Settings.{condition_faults, credentials_faults, env_faults};
 ghost use Rattle.al_rules_settings.specs.Settings.{is_password as password, is_shell as shell};
 ghost use Rattle.al_rules_settings.specs.Settings.{permission_value_faults, permissions_faults, shell_faults};
-ghost use Rattle.al_tree.specs.Values.{scalar_node_of};
 ghost use Rattle.al_yaml_tree.specs.View.{view};
-ghost use Rattle.std.specs.Prelude.{◌≡◌, ◌++◌, map, option_map, IfOk, OnOk};
+ghost use Rattle.std.specs.Option.{option_copied};
+ghost use Rattle.std.specs.Prelude.{◌≡◌, ◌++◌, map, IfOk, OnOk};
 
 use crate::names::{PERMISSIONS, SCOPE_VALUES, SHELLS, WHOLE_VALUES};
 use crate::reports::{named_key, named_text, report_unless, report_unless_among};
 use al_base::{Code, FaultSink, RuleCode, is_among};
 use al_rules_formats::{Around, has_part, is_lone_chunk, is_variable};
-use al_tree::{
-    ScalarNode, contains_chunk, is_null_scalar, key_of, members, text, value, value_below_two,
-};
+use al_scalar::Scalar;
+use al_tree::{contains_chunk, is_null_scalar, key_of, members, text, value, value_below_two};
 use al_yaml_tree::Node;
 use std::alloc::{AllocError, Global};
 
@@ -27,9 +26,8 @@ fn is_shell(text: &[u8]) -> bool
 /// Adds the fault of a shell that is unknown, and has neither an expression nor `{0}`.
 ///
 /// Fails with `AllocError` when out of memory.
-pub fn check_shell(shell: Option<ScalarNode<'_>>, faults: &mut FaultSink) -> Result<(), AllocError>
-    ensures { OnOk result (faults.new ≡ faults.old
-        ++ shell_faults (option_map scalar_node_of shell.entry)) }
+pub fn check_shell(shell: Option<&Scalar>, faults: &mut FaultSink) -> Result<(), AllocError>
+    ensures { OnOk result (faults.new ≡ faults.old ++ shell_faults (option_copied shell.entry)) }
 {
     let Some(shell) = shell else {
         return Ok(());
@@ -120,22 +118,19 @@ pub fn check_credentials(container: &Node, faults: &mut FaultSink) -> Result<(),
 /// Adds the fault of a condition that is always true: an expression with other text beside it.
 ///
 /// Fails with `AllocError` when out of memory.
-pub fn check_condition(
-    condition: Option<ScalarNode<'_>>,
-    faults: &mut FaultSink,
-) -> Result<(), AllocError>
-    ensures { OnOk result (faults.new ≡ faults.old
-        ++ condition_faults (option_map scalar_node_of condition.entry)) }
+pub fn check_condition(condition: Option<&Scalar>, faults: &mut FaultSink) -> Result<(), AllocError>
+    ensures { OnOk result (faults.new
+        ≡ faults.old ++ condition_faults (option_copied condition.entry)) }
 {
     let Some(condition) = condition else {
         return Ok(());
     };
-    let text = condition.scalar.text();
+    let text = condition.text();
     if !contains_chunk(text) {
         return Ok(());
     }
     if is_lone_chunk(faults.alloc(), Around::Blanks, text)? {
         return Ok(());
     }
-    faults.report_plain(condition.span, Code::Rule(RuleCode::AlwaysTrue))
+    faults.report_plain(condition.span(), Code::Rule(RuleCode::AlwaysTrue))
 }

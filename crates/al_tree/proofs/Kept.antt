@@ -11,7 +11,7 @@ use Rattle.al_base.specs.declared.faults.Span.{Span}
 use Rattle.al_scalar.specs.Scalar.{Scalar}
 use Rattle.al_yaml_tree.specs.Access.{entries, mapping_in, nodes, scalar_in, sequence_in}
 use Rattle.al_yaml_tree.specs.Node.{Each, EachEntry, EachItem}
-use Rattle.al_yaml_tree.specs.Node.{Node, Nodes, Entries, scalar, sequence, mapping, no_nodes, item, no_entries, entry, span_of}
+use Rattle.al_yaml_tree.specs.Node.{Node, Nodes, Entries, scalar, sequence, mapping, no_nodes, item, no_entries, entry}
 use Rattle.al_tree.specs.Faults.{is_key, is_null, value_in}
 use Rattle.al_tree.specs.Values.{entries_at, entries_in, firsts_by, items_at, items_in, key_at}
 use Rattle.al_tree.specs.Values.{text_at_key, text_below, text_in, texts_at, texts_in, value_at, value_below}
@@ -20,14 +20,14 @@ use Rattle.al_tree.proofs.Lists.{firsts_kept}
 abbrev pub Pair : (Node → Type 0) → Node × Node → Type 0
 Pair P e = P e.0 × P e.1
 
--- P passes from a node to the nodes directly in it, and gives Q for a scalar with its span
-pub record AreKept (P : Node → Type 0) (Q : Scalar × Span → Type 0) : Type 0 where
+-- P passes from a node to the nodes directly in it, and gives Q for a scalar
+pub record AreKept (P : Node → Type 0) (Q : Scalar → Type 0) : Type 0 where
   pub items : (ns : Nodes) (at : Span) → P (sequence ns at) → AllByRecursion P (nodes ns)
   pub pairs : (es : Entries) (at : Span) → P (mapping es at) → AllByRecursion (Pair P) (entries es)
-  pub scalars : (s : Scalar) (at : Span) → P (scalar s at) → Q (s, at)
+  pub scalars : (s : Scalar) → P (scalar s) → Q s
 
 -- `Each` is such a property.
-module _ (S : Scalar → Span → Type 0) (around : Span → Type 0 → Type 0) where
+module _ (S : Scalar → Type 0) (around : Span → Type 0 → Type 0) where
   items_each : (ns : Nodes) → EachItem S around ns → AllByRecursion (Each S around) (nodes ns)
   items_each no_nodes h = tt
   items_each (item n ns) h = (h.0, items_each ns h.1)
@@ -36,7 +36,7 @@ module _ (S : Scalar → Span → Type 0) (around : Span → Type 0 → Type 0) 
   entries_each no_entries h = tt
   entries_each (entry k v es) h = ((h.0, h.1), entries_each es h.2)
 
-  pub each_kept : (Q : Scalar × Span → Type 0) → ((X : Type 0) (at : Span) → around at X → X) → ((s : Scalar) (at : Span) → S s at → Q (s, at)) →
+  pub each_kept : (Q : Scalar → Type 0) → ((X : Type 0) (at : Span) → around at X → X) → ((s : Scalar) → S s → Q s) →
       AreKept (Each S around) Q
   each_kept Q inner of_scalar = record {
     items = λ ns at h. items_each ns (inner (EachItem S around ns) at h);
@@ -44,19 +44,19 @@ module _ (S : Scalar → Span → Type 0) (around : Span → Type 0 → Type 0) 
     scalars = of_scalar;
   }
 
-module _ {P : Node → Type 0} {Q : Scalar × Span → Type 0} (kept : AreKept P Q) where
-  pub scalar_kept : (n : Node) → P n → IfSome (scalar_in n) (λ s. Q (s, span_of n))
-  scalar_kept (scalar s at) p = kept.scalars s at p
+module _ {P : Node → Type 0} {Q : Scalar → Type 0} (kept : AreKept P Q) where
+  pub scalar_kept : (n : Node) → P n → IfSome (scalar_in n) Q
+  scalar_kept (scalar s) p = kept.scalars s p
   scalar_kept (sequence ns at) p = tt
   scalar_kept (mapping es at) p = tt
 
   sequence_kept : (n : Node) → P n → IfSome (sequence_in n) (AllByRecursion P)
-  sequence_kept (scalar s at) p = tt
+  sequence_kept (scalar s) p = tt
   sequence_kept (sequence ns at) p = kept.items ns at p
   sequence_kept (mapping es at) p = tt
 
   mapping_kept : (n : Node) → P n → IfSome (mapping_in n) (AllByRecursion (Pair P))
-  mapping_kept (scalar s at) p = tt
+  mapping_kept (scalar s) p = tt
   mapping_kept (sequence ns at) p = tt
   mapping_kept (mapping es at) p = kept.pairs es at p
 
@@ -78,14 +78,12 @@ module _ {P : Node → Type 0} {Q : Scalar × Span → Type 0} (kept : AreKept P
 
   -- ---- texts
 
-  unless_null : (null : Bool) (t : Scalar × Span) → Q t → IfSome (then_some (not null) t) Q
-  unless_null true t q = tt
-  unless_null false t q = q
+  unless_null : (null : Bool) (s : Scalar) → Q s → IfSome (then_some (not null) s) Q
+  unless_null true s q = tt
+  unless_null false s q = q
 
   pub text_in_kept : (n : Node) → P n → IfSome (text_in n) Q
-  text_in_kept n p =
-      and_some (λ s. Q (s, span_of n)) Q (λ s. then_some (not (is_null s)) (s, span_of n)) (λ s q. unless_null (is_null s) (s, span_of n) q)
-      (scalar_in n) (scalar_kept n p)
+  text_in_kept n p = and_some Q Q (λ s. then_some (not (is_null s)) s) (λ s q. unless_null (is_null s) s q) (scalar_in n) (scalar_kept n p)
 
   pub text_kept : (k : List ℕ) (n : Node) → P n → IfSome (text_at_key k n) Q
   text_kept k n p = and_some P Q text_in text_in_kept (value_at k n) (value_kept k n p)
@@ -93,7 +91,7 @@ module _ {P : Node → Type 0} {Q : Scalar × Span → Type 0} (kept : AreKept P
   pub text_below_kept : (ks : List (List ℕ)) (n : Node) → P n → IfSome (text_below ks n) Q
   text_below_kept ks n p = and_some P Q text_in text_in_kept (value_below ks n) (below_kept ks n p)
 
-  texts_or : (o : Option (List Node)) (other : List (Scalar × Span)) → IfSome o (AllByRecursion P) → AllByRecursion Q other →
+  texts_or : (o : Option (List Node)) (other : List Scalar) → IfSome o (AllByRecursion P) → AllByRecursion Q other →
       AllByRecursion Q (option_map_or (filter_map text_in) o other)
   texts_or None other p q = q
   texts_or (Some ns) other p q = each_some P Q text_in text_in_kept ns p

@@ -41,7 +41,7 @@ module _ (size : ℕ) where
   start_lies at i = let o : at.start ≤ at.end = i.ordered in let e : at.end ≤ size = i.inside in record { ordered = omega arith; inside = omega arith }
 
   span_lies : (n : Node) → IsInside size n → LiesIn size (span_of n)
-  span_lies (scalar s at) i = i
+  span_lies (scalar s) i = i
   span_lies (sequence ns at) i = i.0
   span_lies (mapping es at) i = i.0
 
@@ -84,7 +84,7 @@ module _ (size : ℕ) where
 
   mutual
     node_lies : (n : Node) → IsInside size n → (shape : Shape) (null : Bool) (above : List ℕ) → All (Lies size) (faults shape null above n)
-    node_lies (scalar s at) i shape null above = either (is_null s && null) _ _ none_lie (word_lies (option_and_then (λ r. scalar_fault r.scalars s) (rule shape)) above at i)
+    node_lies (scalar s) i shape null above = either (is_null s && null) _ _ none_lie (word_lies (option_and_then (λ r. scalar_fault r.scalars s) (rule shape)) above s.span i)
     node_lies (sequence ns at) i shape null above = sequence_lies (rule shape) _ _ (one_lies _ i.0) (λ s. items_lie ns i.1 s above)
     node_lies (mapping es at) i shape null above =
         mapping_lies (rule (mapping_shape shape (entries es))) above (among (keys_in (entries es))) at (λ ks. entries_faults ks [] (among (keys_in (entries es))) es) i.0

@@ -143,9 +143,9 @@ keyed_faults (keys others fs) above all at inside = flat_map (missing_fault at a
 abbrev mutual
   -- the faults of a node below a key, which should have a shape and may be null or not
   pub faults : Shape → Bool → List ℕ → Node → List Fault
-  faults shape null above (scalar s at) =
+  faults shape null above (scalar s) =
       if is_null s && null then []
-      else option_map_or (λ k. one_fault k at above) (option_and_then (λ r. scalar_fault r.scalars s) (rule shape)) []
+      else option_map_or (λ k. one_fault k s.span above) (option_and_then (λ r. scalar_fault r.scalars s) (rule shape)) []
   faults shape null above (sequence ns at) =
       option_map_or (λ r. option_map_or (λ s. items_faults s above ns) r.items (one_fault WrongKind at above)) (rule shape) []
   faults shape null above (mapping es at) =

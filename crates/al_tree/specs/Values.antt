@@ -3,16 +3,14 @@ use Rattle.std.specs.Prelude.{ℕ, List, [], ◌∷◌, ◌++◌, Bool, not, Opt
 use Rattle.std.specs.Bool.{then_some}
 use Rattle.std.specs.List.{filter_map}
 use Rattle.std.specs.Option.{option_map_or, option_to_list}
-use Rattle.al_base.specs.declared.faults.Span.{Span}
 use Rattle.al_scalar.specs.Scalar.{Scalar}
 use Rattle.al_yaml_tree.specs.Access.{mapping_in, scalar_in, sequence_in}
-use Rattle.al_yaml_tree.specs.Node.{Node, span_of}
+use Rattle.al_yaml_tree.specs.Node.{Node}
 use Rattle.al_yaml_tree.specs.View.{view}
 use Rattle.al_tree.specs.Faults.{is_key, is_null, value_in}
 use Rattle.al_tree.specs.Keys.{key_of}
 use Rattle.al_base.specs.Names.{among}
 use Rattle.al_tree.specs.declared.values.Member.{Member}
-use Rattle.al_tree.specs.declared.values.ScalarNode.{ScalarNode}
 
 -- the entries whose key no earlier entry has, after entries with the keys seen
 abbrev pub firsts_by : (List (List ℕ) → List ℕ → Bool) → List (List ℕ) → List (Node × Node) → List (Node × Node)
@@ -40,18 +38,18 @@ abbrev pub value_below : List (List ℕ) → Node → Option Node
 value_below [] n = Some n
 value_below (k ∷ ks) n = option_and_then (value_below ks) (value_at k n)
 
--- a scalar that isn't null, with the span of its written form
-abbrev pub text_in : Node → Option (Scalar × Span)
-text_in n = option_and_then (λ s. then_some (not (is_null s)) (s, span_of n)) (scalar_in n)
+-- a scalar that isn't null
+abbrev pub text_in : Node → Option Scalar
+text_in n = option_and_then (λ s. then_some (not (is_null s)) s) (scalar_in n)
 
-abbrev pub text_at_key : List ℕ → Node → Option (Scalar × Span)
+abbrev pub text_at_key : List ℕ → Node → Option Scalar
 text_at_key k n = option_and_then text_in (value_at k n)
 
-abbrev pub text_below : List (List ℕ) → Node → Option (Scalar × Span)
+abbrev pub text_below : List (List ℕ) → Node → Option Scalar
 text_below ks n = option_and_then text_in (value_below ks n)
 
 -- the texts of a scalar or a sequence of scalars
-abbrev pub texts_in : Node → List (Scalar × Span)
+abbrev pub texts_in : Node → List Scalar
 texts_in n = option_map_or (filter_map text_in) (sequence_in n) (option_to_list (text_in n))
 
 -- the entries, the items and the texts under a key
@@ -61,12 +59,9 @@ entries_at k n = option_map_or entries_in (value_at k n) []
 abbrev pub items_at : List ℕ → Node → List Node
 items_at k n = option_map_or items_in (value_at k n) []
 
-abbrev pub texts_at : List ℕ → Node → List (Scalar × Span)
+abbrev pub texts_at : List ℕ → Node → List Scalar
 texts_at k n = option_map_or texts_in (value_at k n) []
 
--- the meaning of the program's views of a scalar and of an entry
-abbrev pub scalar_node_of : ScalarNode → Scalar × Span
-scalar_node_of s = (s.scalar.now, s.span)
-
+-- the meaning of the program's view of an entry
 abbrev pub member_of : Member → Node × Node
 member_of m = (view m.key.now, view m.value.now)

@@ -79,19 +79,17 @@ fn check_beside(
 fn check_scalar(
     demand: Demand<'_>,
     scalar: &Scalar,
-    at: Span,
     faults: &mut FaultSink,
 ) -> Result<(), AllocError>
-    ensures { OnOk result (faults.new ≡ faults.old
-        ++ demanded_faults demand.entry
-        (scalar_node scalar.now at)) }
+    ensures { OnOk result (faults.new
+        ≡ faults.old ++ demanded_faults demand.entry (scalar_node scalar.now)) }
 {
     if demand.takes_null && is_null_scalar(scalar) {
         return Ok(());
     }
     match rule_of(demand.shape).and_then(|rule| scalar_fault(rule.scalars, scalar)) {
         None => Ok(()),
-        Some(key) => faults.report_text(at, Code::Key(key), demand.above),
+        Some(key) => faults.report_text(scalar.span(), Code::Key(key), demand.above),
     }
 }
 
@@ -121,7 +119,7 @@ fn check(demand: Demand<'_>, node: &Node, faults: &mut FaultSink) -> Result<(), 
         ≡ faults.old ++ demanded_faults demand.entry (view node.now)) }
 {
     match node {
-        Node::Scalar(scalar) => check_scalar(demand, scalar, scalar.span(), faults),
+        Node::Scalar(scalar) => check_scalar(demand, scalar, faults),
         Node::Sequence { items, span } => match rule_of(demand.shape).map(|rule| rule.items) {
             None => Ok(()),
             Some(None) => faults.report_text(*span, Code::Key(KeyCode::WrongKind), demand.above),

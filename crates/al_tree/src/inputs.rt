@@ -18,7 +18,7 @@ pub enum InputType {
 pub fn input_of(node: &Node) -> InputType
     ensures { result ≡ inputs.input_of (view node.now) }
 {
-    match text_under(node, "type").map(|name| name.scalar.text()) {
+    match text_under(node, "type").map(|name| name.text()) {
         Some(name) if name == b"boolean".as_slice() => InputType::Boolean,
         Some(name) if name == b"number".as_slice() => InputType::Number,
         // Any other text is a string's, as `choice` and `environment` are.

@@ -35,6 +35,6 @@ pub use scalars::{contains_chunk, is_null_scalar, scalar_fault};
 pub use standings::{Standing, refine, runs_of, standing_of};
 pub use table::{Clash, Keys, Need, Others, Row, Rule, ScalarSet, Shape, Trigger, rule_of};
 pub use values::{
-    Member, ScalarNode, items, items_under, key, key_texts, member_positions, members,
-    members_under, text, text_under, texts, texts_under, value,
+    Member, items, items_under, key, key_texts, member_positions, members, members_under, text,
+    text_under, texts, texts_under, value,
 };

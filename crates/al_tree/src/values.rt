@@ -3,13 +3,14 @@
 ghost use Rattle.al_base.specs.NamePlaces.{TellsFirsts, is_first_name, name_place, name_position};
 ghost use Rattle.al_tree.specs.Keys.{keys_in};
 ghost use Rattle.al_tree.specs.Values.{entries_at, entries_in, items_at, items_in, key_at, member_of, text_at_key, text_in};
-ghost use Rattle.al_tree.specs.Values.{texts_at, texts_in, value_at, scalar_node_of};
+ghost use Rattle.al_tree.specs.Values.{texts_at, texts_in, value_at};
 ghost use Rattle.al_yaml_tree.specs.View.{view};
+ghost use Rattle.std.specs.Option.{option_copied};
 ghost use Rattle.std.specs.Prelude.{◌≡◌, map, option_map, IfOk};
 
 use crate::keys::{KeyIndex, entry_among, key_text};
 use crate::scalars::is_null_scalar;
-use al_base::{NamePositions, Span};
+use al_base::NamePositions;
 use al_scalar::Scalar;
 use al_yaml_tree::Node;
 use std::alloc::{AllocError, Global};
@@ -38,25 +39,16 @@ pub fn key<'a>(node: &'a Node, key: &str) -> Option<&'a Node>
     Some(&entry_among(node.mapping()?, key)?.key)
 }
 
-/// A scalar, and the span of its written form in bytes of the file.
-#[derive(Clone, Copy)]
-pub struct ScalarNode<'a> {
-    pub scalar: &'a Scalar,
-    pub span: Span,
-}
-
 /// The scalar of a node; `None` if it is null or the node isn't a scalar.
-pub fn text(node: &Node) -> Option<ScalarNode<'_>>
-    ensures { option_map scalar_node_of result ≡ text_in (view node.now) }
+pub fn text(node: &Node) -> Option<&Scalar>
+    ensures { option_copied result ≡ text_in (view node.now) }
 {
-    let scalar = node.scalar().filter(|scalar| !is_null_scalar(scalar))?;
-    let span = node.span();
-    Some(ScalarNode { scalar, span })
+    node.scalar().filter(|scalar| !is_null_scalar(scalar))
 }
 
 /// The scalar under a key; `None` if it is null, if there is no such key, or if the value isn't a scalar.
-pub fn text_under<'a>(node: &'a Node, key: &str) -> Option<ScalarNode<'a>>
-    ensures { option_map scalar_node_of result ≡ text_at_key key.now (view node.now) }
+pub fn text_under<'a>(node: &'a Node, key: &str) -> Option<&'a Scalar>
+    ensures { option_copied result ≡ text_at_key key.now (view node.now) }
 {
     text(value(node, key)?)
 }
@@ -66,8 +58,8 @@ pub fn text_under<'a>(node: &'a Node, key: &str) -> Option<ScalarNode<'a>>
 /// # Errors
 ///
 /// `AllocError` if memory runs out.
-pub fn texts(alloc: Global, node: &Node) -> Result<Vec<ScalarNode<'_>>, AllocError>
-    ensures { IfOk result (λ v. map scalar_node_of v.items ≡ texts_in (view node.now)) }
+pub fn texts(alloc: Global, node: &Node) -> Result<Vec<&Scalar>, AllocError>
+    ensures { IfOk result (λ v. map (λ s. s.now) v.items ≡ texts_in (view node.now)) }
 {
     let nodes = node.sequence().unwrap_or(slice::from_ref(node));
     let mut found = Vec::new(alloc);
@@ -85,8 +77,8 @@ pub fn texts_under<'a>(
     alloc: Global,
     node: &'a Node,
     key: &str,
-) -> Result<Vec<ScalarNode<'a>>, AllocError>
-    ensures { IfOk result (λ v. map scalar_node_of v.items ≡ texts_at key.now (view node.now)) }
+) -> Result<Vec<&'a Scalar>, AllocError>
+    ensures { IfOk result (λ v. map (λ s. s.now) v.items ≡ texts_at key.now (view node.now)) }
 {
     match value(node, key) {
         Some(node) => texts(alloc, node),

@@ -2,9 +2,10 @@
 
 use crate::documents::document;
 use al_base::{Code, Fault, KeyCode, position};
+use al_scalar::Scalar;
 use al_tree::{
-    FileKind, ScalarNode, Tree, document_faults, items_under, key, key_text, members_under,
-    read_action, read_workflow, text_under, texts_under, value,
+    FileKind, Tree, document_faults, items_under, key, key_text, members_under, read_action,
+    read_workflow, text_under, texts_under, value,
 };
 use al_yaml_tree::Node;
 use std::alloc::{AllocError, Global};
@@ -144,9 +145,9 @@ fn action(alloc: Global) -> Result<Option<(Tree, usize)>, AllocError> {
 }
 
 // Whether a text is this one; a missing text counts as empty.
-fn says(word: Option<ScalarNode<'_>>, text: &str) -> bool {
+fn says(word: Option<&Scalar>, text: &str) -> bool {
     match word {
-        Some(word) => word.scalar.text() == text.as_bytes(),
+        Some(word) => word.text() == text.as_bytes(),
         None => text.is_empty(),
     }
 }

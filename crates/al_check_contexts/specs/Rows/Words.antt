@@ -34,7 +34,7 @@ mutual
 -- all texts of a node: what is read of a file has no names but these and those of rows
 abbrev mutual
   pub texts_of : Node → List (List ℕ)
-  texts_of (scalar s at) = text_of s ∷ []
+  texts_of (scalar s) = text_of s ∷ []
   texts_of (sequence ns at) = texts_of_items ns
   texts_of (mapping es at) = texts_of_entries es
 
@@ -132,7 +132,7 @@ Row = ℕ × List ℕ × Written
 abbrev pub is_row : List (List ℕ) → FileKind → Node → Row → Bool
 is_row ns k n r =
     option_map_or (λ p. option_map_or (λ c. is_type ns r.2 (context_type_at k nothing_known n p.position c)) (context_of r.1) false)
-    (find (λ p. p.at.start == r.0) (places_of k n)) false
+    (find (λ p. p.word.span.start == r.0) (places_of k n)) false
 
 abbrev pub names_in_rows : List Row → List (List ℕ)
 names_in_rows [] = []

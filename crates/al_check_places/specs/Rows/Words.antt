@@ -18,7 +18,7 @@ run [] i = []
 run (b ∷ bs) i = (b, i) ∷ run bs (i + 1)
 
 abbrev pub text : Style → Class → List Cell → ℕ → ℕ → Node
-text s c cs i j = scalar (record { style = s; class = c; cells = cs; span = at i j }) (at i j)
+text s c cs i j = scalar (record { style = s; class = c; cells = cs; span = at i j })
 
 -- a plain scalar on one line, from an offset on
 abbrev pub plain : Class → List ℕ → ℕ → Node
@@ -38,7 +38,7 @@ same false b = not b
 
 abbrev pub row_at : Place → Row
 row_at p = (
-  p.at.start,
+  p.word.span.start,
   p.is_scalar_only,
   p.is_condition,
   p.is_script,

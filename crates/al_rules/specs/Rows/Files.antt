@@ -23,8 +23,7 @@ cells_from i (b ∷ bs) = (b, i) ∷ cells_from (i + 1) bs
 
 abbrev pub plain : Class → List ℕ → ℕ → Node
 plain c text i =
-    let span = at i (i + length text) in
-    scalar (record { style = Plain; class = c; cells = cells_from i text; span = span }) span
+    scalar (record { style = Plain; class = c; cells = cells_from i text; span = at i (i + length text) })
 
 abbrev pub word : List ℕ → ℕ → Node
 word = plain Str
@@ -32,8 +31,7 @@ word = plain Str
 -- a text in single quotes, from the first of them on
 abbrev pub quoted : List ℕ → ℕ → Node
 quoted text i =
-    let end = i + length text + 2 in
-    scalar (record { style = SingleQuoted; class = Str; cells = cells_from (i + 1) text; span = at i end }) (at i end)
+    scalar (record { style = SingleQuoted; class = Str; cells = cells_from (i + 1) text; span = at i (i + length text + 2) })
 
 -- the faults of needs, by walks of at most as many steps as there are jobs
 abbrev pub needs_by_steps : Node → List Fault

@@ -11,8 +11,7 @@ at i j = record { start = i; end = j }
 
 -- a plain scalar on one line, from an offset on
 abbrev pub plain : Class → List ℕ → ℕ → Node
-plain c text i =
-    scalar (record { style = Plain; class = c; cells = map (λ b. (b, i)) text; span = at i (i + length text) }) (at i (i + length text))
+plain c text i = scalar (record { style = Plain; class = c; cells = map (λ b. (b, i)) text; span = at i (i + length text) })
 
 abbrev pub word : List ℕ → ℕ → Node
 word = plain Str

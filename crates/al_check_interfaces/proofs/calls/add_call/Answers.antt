@@ -15,11 +15,11 @@ returns-in_ok-push-in-Local-clause-calls c = λ all there.
     let call = call_of c.args.call in
     let target = c.in-Local.target in
     let form : call.form ≡ Local target = sym (λ i. form_by (c.caller_of-caller.ensures i) (c.text-uses.ensures i)) ∙ sym c.in_ok-target.ensures ∙ c.in-Local.is in
-    let fault : Fault = record { span = call.at; code = code.Call CallCycle c.caller_of-caller.result; args = c.in_ok-one_lossy-in-Local.field-0 } in
-    let said : fault ≡ that_uses CallCycle call = rw (c.in_ok-one_lossy-in-Local.ensures, c.caller_of-caller.ensures, c.text-uses.ensures) refl in
+    let fault : Fault = record { span = c.span-span.result; code = code.Call CallCycle c.caller_of-caller.result; args = c.in_ok-one_lossy-in-Local.field-0 } in
+    let said : fault ≡ that_uses CallCycle call = rw (c.span-span.ensures, c.in_ok-one_lossy-in-Local.ensures, c.caller_of-caller.ensures, c.text-uses.ensures) refl in
     local_added call target c.args.number fault all c.args.kept.now.items c.push.new.self.items form there said c.in_ok-push-in-Local.ensures.items
 
 pub returns-in-Wrong-clause-faults : goal.returns-in-Wrong-clause-faults
 returns-in-Wrong-clause-faults c =
     let form : (call_of c.args.call).form ≡ Wrong = sym (λ i. form_by (c.caller_of-caller.ensures i) (c.text-uses.ensures i)) ∙ sym c.in_ok-target.ensures ∙ c.in-Wrong.is in
-    on_ok_weaker c.report_text.result (λ made. rw (form, ← c.caller_of-caller.ensures, ← c.text-uses.ensures) made) c.report_text.ensures
+    on_ok_weaker c.report_text.result (λ made. rw (form, ← c.span-span.ensures, ← c.caller_of-caller.ensures, ← c.text-uses.ensures) made) c.report_text.ensures

@@ -1,9 +1,8 @@
 use Rattle.std.proofs.Common.{◌≡◌, drop, map}
 use Rattle.std.specs.List.{list_any}
-use Rattle.al_tree.specs.Values.{scalar_node_of}
 use Rattle.al_check_interfaces.specs.Interfaces.{says_call}
 use Rattle.al_check_interfaces.proofs.signatures.names_call.Given as goal
 
 abbrev pub invariant-loop-text : goal.invariant-loop-text
 invariant-loop-text l =
-    list_any says_call (map scalar_node_of (drop l.text-index l.text-items)) ≡ list_any says_call (map scalar_node_of l.text-items)
+    list_any says_call (map (λ s. s.now) (drop l.text-index l.text-items)) ≡ list_any says_call (map (λ s. s.now) l.text-items)

@@ -4,14 +4,13 @@ use Rattle.al_base.specs.declared.codes.RuleCode.TheVariants.{ScheduleTooOften}
 use Rattle.al_rules_formats.specs.Schedules.{is_too_often, schedule_of}
 use Rattle.al_rules_settings.specs.Views.{named_of}
 use Rattle.al_rules_settings.specs.Words.{of_scalar, unless}
-use Rattle.al_tree.specs.Values.{scalar_node_of}
 use Rattle.al_yaml_tree.specs.View.{view}
 use Rattle.al_rules.specs.Events.{cron_faults, schedule_faults}
 use Rattle.al_rules.proofs.events.check_cron.Goals as goal
 
 pub returns : goal.returns
 returns c =
-    let scalar = of_scalar (scalar_node_of c.in-Some.cron) in
+    let scalar = of_scalar c.in-Some.cron.now in
     let items = c.in-Some-2.minutes.items in
     let parsed : schedule_of scalar.text ≡ Some items =
     ap (λ n. schedule_of n.text) (sym c.named_text-name.ensures) ∙ sym c.in_ok-minutes.ensures ∙ ap (option_map (λ v. v.items)) c.in-Some-2.is in

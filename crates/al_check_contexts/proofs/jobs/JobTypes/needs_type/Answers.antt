@@ -3,12 +3,11 @@ use Rattle.std.proofs.lemmas.List.{take_all}
 use Rattle.std.proofs.lemmas.Result.{IfOk-weaker, on_ok_weaker}
 use Rattle.al_base.proofs.Growing.{begins_trans}
 use Rattle.al_expr_types.proofs.Returned.{begins_ok}
-use Rattle.al_base.specs.declared.faults.Span.{Span}
 use Rattle.al_scalar.specs.Scalar.{Scalar, text_of}
 use Rattle.al_base.specs.Names.{same_name}
 use Rattle.al_base.proofs.NamePlaces.{found_within}
 use Rattle.al_tree.specs.Keys.{key_of}
-use Rattle.al_tree.specs.Values.{member_of, scalar_node_of}
+use Rattle.al_tree.specs.Values.{member_of}
 use Rattle.al_check_contexts.specs.Contexts.{dependency}
 use Rattle.al_expr_types.specs.Tables.{objects_of}
 use Rattle.al_check_contexts.specs.Made.{jobs_from, known_from}
@@ -29,10 +28,10 @@ pub loop-name-preserved-in_default : goal.loop-name-preserved-in_default
 loop-name-preserved-in_default c =
     let known = known_from c.args.basis.now in
     let js = jobs_from c.args.basis.now in
-    let field = λ (t : Scalar × Span). dependency known js (text_of t.0) in
+    let field = λ (s : Scalar). dependency known js (text_of s) in
     let was = c.loop-name.invariant in
     record {
-      fields = rw (put_if_next scalar_node_of field [] c.as_slice-name-items.result.now c.loop-name.name-index c.name-item.result c.loop-name-test.true c.name-item.is)
+      fields = rw (put_if_next (λ s. s.now) field [] c.as_slice-name-items.result.now c.loop-name.name-index c.name-item.result c.loop-name-test.true c.name-item.is)
           (rw (← c.text.ensures, no_dependency known js c.text.result.now (sym c.in_ok-needed.ensures ∙ c.in_default.is)) was.fields);
       keeps = was.keeps;
       kept = was.kept;
@@ -42,7 +41,7 @@ pub loop-name-preserved : goal.loop-name-preserved
 loop-name-preserved c =
     let known = known_from c.args.basis.now in
     let js = jobs_from c.args.basis.now in
-    let field = λ (t : Scalar × Span). dependency known js (text_of t.0) in
+    let field = λ (s : Scalar). dependency known js (text_of s) in
     let now = c.get.new.types in
     let before = c.loop-name.types in
     let was = c.loop-name.invariant in
@@ -52,7 +51,7 @@ loop-name-preserved c =
     let lists = lists_stay now before c.loop-name.fields _ made.kept was.fields in
     let found = dependency_at known js c.text.result.now c.in-Some.needed j (sym c.in_ok-needed.ensures ∙ c.in-Some.is) c.job_at.ensures in
     record {
-      fields = rw (put_if_next scalar_node_of field [] c.as_slice-name-items.result.now c.loop-name.name-index c.name-item.result c.loop-name-test.true c.name-item.is)
+      fields = rw (put_if_next (λ s. s.now) field [] c.as_slice-name-items.result.now c.loop-name.name-index c.name-item.result c.loop-name-test.true c.name-item.is)
           (rw (← c.text.ensures, found) (rw c.key_text.ensures at (c.in_ok-fields.ensures now _ _ lists means)));
       keeps = c.in_ok-ty.ensures.keeps;
       kept = begins_trans (objects_of c.args.types.now) (objects_of before) (objects_of now) was.kept made.kept;
