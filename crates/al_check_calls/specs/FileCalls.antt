@@ -5,7 +5,7 @@ use Rattle.al_base.specs.declared.faults.Fault.{Fault}
 use Rattle.al_base.specs.Limits.{longest_text}
 use Rattle.al_scalar.specs.Scalar.{Scalar, text_of}
 use Rattle.al_types.specs.Types.{Type'}
-use Rattle.al_yaml_tree.specs.Node.{Node, Nodes, Entries, scalar, sequence, mapping, no_nodes, item, no_entries, entry, span_of}
+use Rattle.al_yaml_tree.specs.Node.{Node, Nodes, Entries, scalar, sequence, mapping, no_nodes, item, no_entries, entry}
 use Rattle.al_tree.specs.Keys.{key_text}
 use Rattle.al_tree.specs.declared.files.FileKind.{FileKind}
 use Rattle.al_tree.specs.declared.files.FileKind.TheVariants as kind
@@ -32,7 +32,7 @@ known_from_calls found = known_in (map known_of_call found)
 abbrev pub place_of_value : List ℕ → Node → Scalar → Place
 place_of_value job key s =
     let way = under (codes "jobs") ∷ under job ∷ under (codes "with") ∷ under (key_text key) ∷ [] in
-    place_at kind.Workflow way true s (span_of key)
+    place_at kind.Workflow way true s
 
 -- its type, given what expressions can refer to there
 abbrev pub value_type_in_job : FileKind → OutputNames → Node → List ℕ → Node → Scalar → Type'

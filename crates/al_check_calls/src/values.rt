@@ -34,7 +34,6 @@ fn place_of_value<'a>(job: &'a [u8], key: &'a Node, scalar: &'a Scalar) -> Place
 {
     Place {
         scalar,
-        span: key.span(),
         is_scalar_only: true,
         available: available(&[b"jobs".as_slice(), job, b"with".as_slice(), key_text(key)]),
         is_condition: false,
