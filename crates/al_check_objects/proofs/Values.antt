@@ -1,9 +1,8 @@
 -- The types of nodes that the code has as sequences or mappings, and the matrix with its combinations.
-use Rattle.std.proofs.Common.{◌≡◌, ◌<◌, ◌+◌, ℕ, List, [], ◌∷◌, ◌++◌, ◌||◌, Bool, Some, None, true, ap, refl, sym, drop, get_or, length, map, take, ◌∙◌}
+use Rattle.std.proofs.Common.{◌≡◌, ◌<◌, ◌+◌, ℕ, List, [], ◌∷◌, ◌++◌, Bool, Some, None, true, ap, refl, sym, drop, get_or, length, map, take, ◌∙◌}
 use Rattle.std.proofs.lemmas.List.{drop_more}
-use Rattle.std.specs.List.{list_any}
 use Rattle.std.specs.Option.{option_map_or}
-use Rattle.std.specs.Prelude.{Option, is_some, option_map, if◌then◌else◌, unwrap_or}
+use Rattle.std.specs.Prelude.{Option, option_map, if◌then◌else◌, unwrap_or}
 use Rattle.std.specs.Borrow.{Bor}
 use Rattle.al_tree.specs.Keys.{key_of, key_text}
 use Rattle.al_tree.specs.Names.{is_combination_key}
@@ -11,11 +10,10 @@ use Rattle.al_types.specs.FusedFields.{are_distinct}
 use Rattle.al_types.specs.Puts.{TypedName, firsts, put_or_fuse, put_all, put_new}
 use Rattle.al_types.specs.Types.{Optional, Present, fuse_optional}
 use Rattle.al_types.proofs.GatheredFields.{firsts_distinct}
-use Rattle.al_yaml_tree.specs.Access.{mapping_in, scalar_in}
+use Rattle.al_yaml_tree.specs.Access.{mapping_in}
 use Rattle.al_yaml_tree.specs.Node.{Node}
 use Rattle.al_yaml_tree.specs.View.{entries_of, entry_view, nodes_of, view}
 use Rattle.al_yaml_tree.specs.declared.node.Entry as code_entry
-use Rattle.al_yaml_tree.specs.declared.node.Node as code_node
 use Rattle.al_yaml_tree.proofs.ViewLemmas.{entry_parts}
 use Rattle.al_check_objects.specs.Matrix.{combination, fields_of, include_all, items_type, node_type, row_field, row_type}
 use Rattle.al_check_objects.specs.Objects.{strictly}
@@ -72,12 +70,6 @@ entries_next es i x ts us lt e is =
     ap (λ vs. put_all put_new vs (fields_of (entries_of rest))) is
     ∙ ap (λ p. put_all put_new ts (fields_of (entries_of (p ∷ rest)))) (sym (entry_parts x))
     ∙ ap (λ ys. put_all put_new ts (fields_of (entries_of (map entry_view ys)))) (ap (λ y. y ∷ drop (i + 1) es) e ∙ sym (drop_more es i x lt))
-
--- ---- whether a node is a scalar
-
-pub any_viewed : (ns : List code_node.Node) → list_any (λ n. is_some (scalar_in n)) (map view ns) ≡ list_any (λ n. is_some (scalar_in (view n))) ns
-any_viewed [] = refl
-any_viewed (n ∷ ns) = ap (λ b. is_some (scalar_in (view n)) || b) (any_viewed ns)
 
 -- ---- whether an entry is a row
 

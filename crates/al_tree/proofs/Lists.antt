@@ -1,8 +1,8 @@
 -- What loops over lists have done after one more item, and properties of the first entries of each key.
-use Rattle.std.specs.Prelude.{ℕ, Bool, true, false, List, [], ◌∷◌, ◌++◌, ◌+◌, ◌<◌, ◌||◌, length, find, Option, Some, None, option_map, if◌then◌else◌}
+use Rattle.std.specs.Prelude.{ℕ, Bool, true, false, List, [], ◌∷◌, ◌++◌, ◌+◌, ◌<◌, length, find, Option, Some, None, option_map, if◌then◌else◌}
 use Rattle.std.proofs.Common.{◌≡◌, Bor, refl, ap, append_assoc, map, cond, add-one, drop, drop-cons, get_or, subst, sym, take, ◌∙◌}
 use Rattle.std.proofs.lemmas.List.{get_or-map, length-map, map-append, map_more}
-use Rattle.std.specs.List.{AllByRecursion, list_any}
+use Rattle.std.specs.List.{AllByRecursion}
 use Rattle.al_base.proofs.Elements.{each_both, each_either}
 use Rattle.al_yaml_tree.specs.Node.{Node}
 use Rattle.al_tree.specs.Keys.{key_of, keys_in}
@@ -50,12 +50,8 @@ module _ (is_in : List (List ℕ) → List ℕ → Bool) {X : Type 0} (f : X →
       ∙ append_assoc found new (firsts_by is_in (before ++ key_of (f x) ∷ []) left)
       ∙ ap (λ es. found ++ firsts_by is_in before es) (sym (left_next f xs i x within is))
 
--- whether a view of an item passes a test, and the first item of a slice whose view does
+-- the first item of a slice whose view passes a test
 module _ {X Y : Type 0} (f : X → Y) (p : Y → Bool) where
-  pub any_view : (xs : List X) → list_any (λ x. p (f x)) xs ≡ list_any p (map f xs)
-  any_view [] = refl
-  any_view (x ∷ xs) = ap (λ b. p (f x) || b) (any_view xs)
-
   first_or : (here : Bool) (x : X) (after : Option X) (r : Option Y) → option_map f after ≡ r →
       option_map f (if here then Some x else after) ≡ (if here then Some (f x) else r)
   first_or true x after r e = refl
