@@ -43,7 +43,7 @@ pub(crate) fn given_by<'a>(
 fn is_inherit(job: &Node) -> bool
     ensures { result ≡ faults.is_inherit (view job.now) }
 {
-    text_under(job, "secrets").is_some_and(|text| text.text() == b"inherit".as_slice())
+    text_under(job, "secrets").is_some_and(|secrets| secrets.text() == b"inherit".as_slice())
 }
 
 /// Whether names of a kind are compared: not the secrets of a step, nor those that a job passes on.

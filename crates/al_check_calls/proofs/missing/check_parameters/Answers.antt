@@ -36,7 +36,7 @@ loop-parameter-preserved c =
     let place = c.in_ok-names.ensures.position ∙ ap (λ ms. name_place (keys_in ms)) (ap (map member_of) c.as_slice.ensures.value ∙ c.in_ok-given.ensures) in
     let is : gives q x.now ≡ false = sym (has_place keys x.now.name) ∙ sym (c.is_some.ensures
     ∙ ap is_some (c.in_ok-get.ensures ∙ ap (name_position c.in_ok-names.names) c.as_bytes-name.ensures ∙ ap (λ f. f x.now.name) place)) ∙ c.if-is_some.false in
-    let reported = rw (c.code_at-code.ensures, c.missing_code.ensures, c.as_bytes-name.ensures, c.called_name-called.ensures) at c.in_ok-report_two.ensures in
+    let reported = rw (c.span.ensures, c.code_at-code.ensures, c.missing_code.ensures, c.as_bytes-name.ensures, c.called_name-called.ensures) at c.in_ok-report_two.ensures in
     let was = c.loop-parameter.invariant in
     let left = c.loop-parameter.left.items in
     record {
