@@ -98,7 +98,7 @@ fn name_of(alloc: Global, root: &Node) -> Result<Option<Name>, AllocError>
     ensures { IfOk result (λ n. n ≡ interfaces.name_of (view root.now)) }
 {
     text_under(root, "name")
-        .map(|text| Name::new(alloc, text.text()))
+        .map(|name| Name::new(alloc, name.text()))
         .transpose()
 }
 
@@ -106,8 +106,8 @@ fn name_of(alloc: Global, root: &Node) -> Result<Option<Name>, AllocError>
 fn names_call(alloc: Global, on: &Node) -> Result<bool, AllocError>
     ensures { IfOk result (λ b. b ≡ interfaces.names_call (view on.now)) }
 {
-    for text in &texts(alloc, on)? {
-        if text.text() == b"workflow_call".as_slice() {
+    for event in &texts(alloc, on)? {
+        if event.text() == b"workflow_call".as_slice() {
             return Ok(true);
         }
     }
