@@ -298,6 +298,7 @@ fn row_of(keys: &[&[u8]]) -> Option<&'static Row>
 const LONGEST: usize = 6;
 
 /// The row of a place, by the keys on the way to it; `None` if everything is available.
+// Not inlined: the walk is slower for each node with this in it, and asks it only at expressions.
 #[inline(never)]
 pub fn available(keys: &[&[u8]]) -> Option<&'static Row>
     ensures { option_map (λ r. row_view r.now) result ≡ availability (map (λ k. k.now) keys.now) }
