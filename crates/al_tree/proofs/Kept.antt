@@ -17,8 +17,8 @@ use Rattle.al_tree.specs.Values.{entries_at, entries_in, firsts_by, items_at, it
 use Rattle.al_tree.specs.Values.{text_at_key, text_below, text_in, texts_at, texts_in, value_at, value_below}
 use Rattle.al_tree.proofs.Lists.{firsts_kept}
 
-abbrev pub Pair : (Node → Type 0) → Node × Node → Type 0
-Pair P e = P e.0 × P e.1
+abbrev pub Pair : (Node → Type 0) → Scalar × Node → Type 0
+Pair P e = P (scalar e.0) × P e.1
 
 -- P passes from a node to the nodes directly in it, and gives Q for a scalar
 pub record AreKept (P : Node → Type 0) (Q : Scalar → Type 0) : Type 0 where
@@ -60,12 +60,12 @@ module _ {P : Node → Type 0} {Q : Scalar → Type 0} (kept : AreKept P Q) wher
   mapping_kept (sequence ns at) p = tt
   mapping_kept (mapping es at) p = kept.pairs es at p
 
-  -- ---- nodes
+  -- ---- keys and values
 
-  pub key_kept : (k : List ℕ) (n : Node) → P n → IfSome (key_at k n) P
+  pub key_kept : (k : List ℕ) (n : Node) → P n → IfSome (key_at k n) (λ s. P (scalar s))
   key_kept k n p =
-      and_some (AllByRecursion (Pair P)) P (λ es. option_map (λ e. e.0) (find (is_key k) es))
-      (λ es q. map_some (Pair P) P (λ e. e.0) (λ e r. r.0) (find (is_key k) es) (found_one (Pair P) (is_key k) es q)) (mapping_in n) (mapping_kept n p)
+      and_some (AllByRecursion (Pair P)) (λ s. P (scalar s)) (λ es. option_map (λ e. e.0) (find (is_key k) es))
+      (λ es q. map_some (Pair P) (λ s. P (scalar s)) (λ e. e.0) (λ e r. r.0) (find (is_key k) es) (found_one (Pair P) (is_key k) es q)) (mapping_in n) (mapping_kept n p)
 
   pub value_kept : (k : List ℕ) (n : Node) → P n → IfSome (value_at k n) P
   value_kept k n p =

@@ -4,11 +4,12 @@ use Rattle.std.proofs.Common.{◌≡◌, Bor, refl, ap, append_assoc, map, cond,
 use Rattle.std.proofs.lemmas.List.{get_or-map, length-map, map-append, map_more}
 use Rattle.std.specs.List.{AllByRecursion}
 use Rattle.al_base.proofs.Elements.{each_both, each_either}
+use Rattle.al_scalar.specs.Scalar.{Scalar}
 use Rattle.al_yaml_tree.specs.Node.{Node}
 use Rattle.al_tree.specs.Keys.{key_of, keys_in}
 use Rattle.al_tree.specs.Values.{firsts_by}
 
-pub firsts_kept : (is_in : List (List ℕ) → List ℕ → Bool) (P : Node × Node → Type 0) (seen : List (List ℕ)) (es : List (Node × Node)) → AllByRecursion P es
+pub firsts_kept : (is_in : List (List ℕ) → List ℕ → Bool) (P : Scalar × Node → Type 0) (seen : List (List ℕ)) (es : List (Scalar × Node)) → AllByRecursion P es
     → AllByRecursion P (firsts_by is_in seen es)
 firsts_kept is_in P seen [] p = tt
 firsts_kept is_in P seen (e ∷ es) p =
@@ -36,8 +37,8 @@ text_there g f ys xs i x same within is =
     ∙ ap g (get_or-map f xs i x (f x) within ∙ ap f (sym is))
 
 -- the first entries so far, and those of the remaining items, after one more item
-module _ (is_in : List (List ℕ) → List ℕ → Bool) {X : Type 0} (f : X → Node × Node) (xs : List X) (i : ℕ) (x : X) where
-  pub firsts_next : (found more : List (Node × Node)) (repeats : Bool) → i < length xs → x ≡ get_or xs i x
+module _ (is_in : List (List ℕ) → List ℕ → Bool) {X : Type 0} (f : X → Scalar × Node) (xs : List X) (i : ℕ) (x : X) where
+  pub firsts_next : (found more : List (Scalar × Node)) (repeats : Bool) → i < length xs → x ≡ get_or xs i x
       → repeats ≡ is_in (keys_in (map f (take i xs))) (key_of (f x)) → more ≡ found ++ (if repeats then [] else f x ∷ [])
       → more ++ firsts_by is_in (keys_in (map f (take (i + 1) xs))) (map f (drop (i + 1) xs))
       ≡ found ++ firsts_by is_in (keys_in (map f (take i xs))) (map f (drop i xs))

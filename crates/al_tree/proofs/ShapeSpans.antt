@@ -10,12 +10,13 @@ use Rattle.al_base.specs.declared.codes.KeyCode.TheVariants.{Unexpected}
 use Rattle.al_base.specs.declared.faults.Fault.{Fault}
 use Rattle.al_base.specs.declared.faults.Span.{Span}
 use Rattle.al_yaml_tree.specs.Access.{entries}
-use Rattle.al_yaml_tree.specs.Node.{Node, Nodes, Entries, scalar, sequence, mapping, no_nodes, item, no_entries, entry, span_of}
+use Rattle.al_scalar.specs.Scalar.{Scalar, text_of}
+use Rattle.al_yaml_tree.specs.Node.{Node, Nodes, Entries, scalar, sequence, mapping, no_nodes, item, no_entries, entry}
 use Rattle.al_yaml_tree.specs.Spans.{IsInside, AreInside, EntriesInside}
 use Rattle.al_tree.specs.Faults.{Standing, repeated, unexpected, ignored, expected, beside_faults, entries_faults, entry_faults, key_fault}
 use Rattle.al_tree.specs.Faults.{faults, is_empty_node, is_needed, is_null, items_faults, keyed_faults, mapping_shape, missing_fault}
 use Rattle.al_tree.specs.Faults.{one_fault, root_faults, scalar_fault, standing, takes_null}
-use Rattle.al_tree.specs.Keys.{key_text, keys_in}
+use Rattle.al_tree.specs.Keys.{keys_in}
 use Rattle.al_base.specs.Names.{among}
 use Rattle.al_tree.specs.Table.{Field, Keys, no_keys, free, keys, Rule, rule}
 use Rattle.al_tree.specs.declared.table.Shape.{Shape}
@@ -39,11 +40,6 @@ module _ (size : ℕ) where
 
   start_lies : (at : Span) → LiesIn size at → LiesIn size (record { start = at.start; end = at.start })
   start_lies at i = let o : at.start ≤ at.end = i.ordered in let e : at.end ≤ size = i.inside in record { ordered = omega arith; inside = omega arith }
-
-  span_lies : (n : Node) → IsInside size n → LiesIn size (span_of n)
-  span_lies (scalar s) i = i
-  span_lies (sequence ns at) i = i.0
-  span_lies (mapping es at) i = i.0
 
   word_lies : (key : Option codes_key.KeyCode) (above : List ℕ) (at : Span) → LiesIn size at → All (Lies size) (option_map_or (λ k. one_fault k at above) key [])
   word_lies None above at i = none_lie
@@ -71,14 +67,14 @@ module _ (size : ℕ) where
   mapping_lies None above all at inside i f = none_lie
   mapping_lies (Some r) above all at inside i f = keyed_lies r.keys_of above all at inside i f
 
-  beside_lies : (other : Option (List ℕ)) (key : Node) → LiesIn size (span_of key) → All (Lies size) (beside_faults other key)
+  beside_lies : (other : Option (List ℕ)) (key : Scalar) → LiesIn size key.span → All (Lies size) (beside_faults other key)
   beside_lies None key i = none_lie
   beside_lies (Some other) key i = one_lies _ i
 
-  entry_lies : (st : Standing) (key : Node) (value : Shape → List Fault) → LiesIn size (span_of key) → ((s : Shape) → All (Lies size) (value s)) → All (Lies size) (entry_faults st key value)
+  entry_lies : (st : Standing) (key : Scalar) (value : Shape → List Fault) → LiesIn size key.span → ((s : Shape) → All (Lies size) (value s)) → All (Lies size) (entry_faults st key value)
   entry_lies repeated key value i f = one_lies _ i
   entry_lies (unexpected other) key value i f =
-      both (one_fault Unexpected (span_of key) (key_text key)) (beside_faults other key) (one_lies (key_fault Unexpected (span_of key) (key_text key ∷ [])) i) (beside_lies other key i)
+      both (one_fault Unexpected key.span (text_of key)) (beside_faults other key) (one_lies (key_fault Unexpected key.span (text_of key ∷ [])) i) (beside_lies other key i)
   entry_lies ignored key value i f = none_lie
   entry_lies (expected s other) key value i f = both (beside_faults other key) (value s) (beside_lies other key i) (f s)
 
@@ -97,9 +93,9 @@ module _ (size : ℕ) where
     entries_lie : (es : Entries) → EntriesInside size es → (ks : Keys) (seen : List (List ℕ)) (all : List ℕ → Bool) → All (Lies size) (entries_faults ks seen all es)
     entries_lie no_entries i ks seen all = none_lie
     entries_lie (entry k v es) i ks seen all =
-        both (entry_faults (standing ks (among seen) all (key_text k)) k (λ s. faults s (takes_null s) (key_text k) v)) (entries_faults ks (seen ++ key_text k ∷ []) all es)
-        (entry_lies (standing ks (among seen) all (key_text k)) k (λ s. faults s (takes_null s) (key_text k) v) (span_lies k i.0) (λ s. node_lies v i.1 s (takes_null s) (key_text k)))
-        (entries_lie es i.2 ks (seen ++ key_text k ∷ []) all)
+        both (entry_faults (standing ks (among seen) all (text_of k)) k (λ s. faults s (takes_null s) (text_of k) v)) (entries_faults ks (seen ++ text_of k ∷ []) all es)
+        (entry_lies (standing ks (among seen) all (text_of k)) k (λ s. faults s (takes_null s) (text_of k) v) i.0 (λ s. node_lies v i.1 s (takes_null s) (text_of k)))
+        (entries_lie es i.2 ks (seen ++ text_of k ∷ []) all)
 
   pub root_lies : (shape : Shape) (n : Node) → IsInside size n → All (λ (f : Fault). LiesIn size f.span) (root_faults shape n)
   root_lies shape n i =

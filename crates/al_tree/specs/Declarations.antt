@@ -3,7 +3,7 @@ use Rattle.std.specs.Prelude.{ℕ, List, [], ◌∷◌, Bool, false, codes, is_s
 use Rattle.std.specs.List.{list_any}
 use Rattle.std.specs.Option.{option_map_or}
 use Rattle.std.specs.Str.{bytes_eq}
-use Rattle.al_scalar.specs.Scalar.{text_of}
+use Rattle.al_scalar.specs.Scalar.{Scalar, text_of}
 use Rattle.al_base.specs.Names.{same_name}
 use Rattle.al_yaml_tree.specs.Access.{scalar_in}
 use Rattle.al_yaml_tree.specs.Node.{Node}
@@ -14,10 +14,10 @@ abbrev pub named_among : List (List ℕ) → List ℕ → Bool
 named_among ns n = list_any (λ m. same_name m n) ns
 
 -- what a mapping declares: the first of the entries with equal names
-abbrev pub declared_in : Node → List (Node × Node)
+abbrev pub declared_in : Node → List (Scalar × Node)
 declared_in n = firsts_by named_among [] (entries_in n)
 
-abbrev pub declared_below : List (List ℕ) → Node → List (Node × Node)
+abbrev pub declared_below : List (List ℕ) → Node → List (Scalar × Node)
 declared_below ks n = option_map_or declared_in (value_below ks n) []
 
 abbrev pub has_value : List ℕ → Node → Bool

@@ -18,8 +18,8 @@ use Rattle.al_base.specs.declared.codes.KeyCode.TheVariants.{Unexpected, Missing
 use Rattle.al_base.specs.declared.faults.Fault.{Fault}
 use Rattle.al_base.specs.declared.faults.Span.{Span}
 use Rattle.al_yaml_tree.specs.Access.{entries, scalar_in}
-use Rattle.al_yaml_tree.specs.Node.{Node, Nodes, Entries, scalar, sequence, mapping, no_nodes, item, no_entries, entry, span_of}
-use Rattle.al_tree.specs.Keys.{key_of, key_text, keys_in}
+use Rattle.al_yaml_tree.specs.Node.{Node, Nodes, Entries, scalar, sequence, mapping, no_nodes, item, no_entries, entry}
+use Rattle.al_tree.specs.Keys.{key_of, keys_in}
 use Rattle.al_tree.specs.Names.{is_event}
 use Rattle.al_base.specs.Names.{among}
 use Rattle.al_tree.specs.Table.{Field, Keys, no_keys, free, keys, rule, Need, optional, required, unless, Clash, never, after}
@@ -49,11 +49,11 @@ has_class k s = classes.ghosts.eq s.class k
 abbrev pub is_null : Scalar → Bool
 is_null = has_class class.Null
 
-abbrev pub is_key : List ℕ → Node × Node → Bool
+abbrev pub is_key : List ℕ → Scalar × Node → Bool
 is_key k e = bytes_eq (key_of e) k
 
 -- the value of the first entry with a key
-abbrev pub value_in : List ℕ → List (Node × Node) → Option Node
+abbrev pub value_in : List ℕ → List (Scalar × Node) → Option Node
 value_in k es = option_map (λ e. e.1) (find (is_key k) es)
 
 -- A scalar that isn't accepted: of the wrong type if some scalars are accepted, otherwise of the wrong kind.
@@ -73,7 +73,7 @@ runs_of using =
     else (if bytes_eq using (codes "docker") then DockerRuns
     else Runs))
 
-abbrev pub mapping_shape : Shape → List (Node × Node) → Shape
+abbrev pub mapping_shape : Shape → List (Scalar × Node) → Shape
 mapping_shape Runs es = option_map_or (λ s. runs_of (text_of s)) (option_and_then scalar_in (value_in (codes "using") es)) Runs
 mapping_shape s es = s
 
@@ -124,13 +124,13 @@ standing (keys others fs) seen all k =
     option_map_or (λ f. if seen k then repeated else expected f.shape (clash_with f.clash seen all)) (find (λ f. bytes_eq f.key k) fs)
     (other_standing others seen all k)
 
-abbrev pub beside_faults : Option (List ℕ) → Node → List Fault
-beside_faults other key = option_map_or (λ k. key_fault NotBeside (span_of key) (key_text key ∷ k ∷ []) ∷ []) other []
+abbrev pub beside_faults : Option (List ℕ) → Scalar → List Fault
+beside_faults other key = option_map_or (λ k. key_fault NotBeside key.span (text_of key ∷ k ∷ []) ∷ []) other []
 
 -- the faults of an entry, given those of its value as a node of a shape
-abbrev pub entry_faults : Standing → Node → (Shape → List Fault) → List Fault
-entry_faults repeated key value = one_fault Repeated (span_of key) (key_text key)
-entry_faults (unexpected other) key value = one_fault Unexpected (span_of key) (key_text key) ++ beside_faults other key
+abbrev pub entry_faults : Standing → Scalar → (Shape → List Fault) → List Fault
+entry_faults repeated key value = one_fault Repeated key.span (text_of key)
+entry_faults (unexpected other) key value = one_fault Unexpected key.span (text_of key) ++ beside_faults other key
 entry_faults ignored key value = []
 entry_faults (expected s other) key value = beside_faults other key ++ value s
 
@@ -162,8 +162,8 @@ abbrev mutual
   pub entries_faults : Keys → List (List ℕ) → (List ℕ → Bool) → Entries → List Fault
   entries_faults ks seen all no_entries = []
   entries_faults ks seen all (entry k v es) =
-      entry_faults (standing ks (among seen) all (key_text k)) k (λ s. faults s (takes_null s) (key_text k) v)
-      ++ entries_faults ks (seen ++ key_text k ∷ []) all es
+      entry_faults (standing ks (among seen) all (text_of k)) k (λ s. faults s (takes_null s) (text_of k) v)
+      ++ entries_faults ks (seen ++ text_of k ∷ []) all es
 
 -- an empty node: nothing was written
 abbrev pub is_empty_node : Node → Bool

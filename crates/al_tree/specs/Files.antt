@@ -2,6 +2,7 @@
 use Rattle.std.specs.Prelude.{List, codes}
 use Rattle.al_base.specs.FaultLists.{fault_list}
 use Rattle.al_base.specs.declared.faults.Fault.{Fault}
+use Rattle.al_scalar.specs.Scalar.{Scalar}
 use Rattle.al_yaml_tree.specs.Node.{Node}
 use Rattle.al_yaml_tree.specs.View.{view}
 use Rattle.al_tree.specs.Faults.{root_faults}
@@ -27,7 +28,7 @@ shape_of kind.Workflow = shape.Workflow
 shape_of kind.Action = shape.Action
 
 -- the jobs of a workflow, by its root
-abbrev pub jobs_of : Node → List (Node × Node)
+abbrev pub jobs_of : Node → List (Scalar × Node)
 jobs_of = entries_at (codes "jobs")
 
 -- the faults of keys and values as a report lists them

@@ -2,8 +2,7 @@
 use Rattle.std.specs.Prelude.{◌≡◌, ◌<◌, ℕ, List, [], length, map, slice_index_or, take, Bool, false, nat_lt, not, Option}
 use Rattle.std.specs.Option.{option_map_or}
 use Rattle.al_base.specs.NamePlaces.{is_first_text, text_position}
-use Rattle.al_scalar.specs.Scalar.{text_of}
-use Rattle.al_yaml_tree.specs.Access.{scalar_in}
+use Rattle.al_scalar.specs.Scalar.{Scalar, text_of}
 use Rattle.al_yaml_tree.specs.Node.{Node}
 use Rattle.al_yaml_tree.specs.View.{entry_view}
 use Rattle.al_yaml_tree.specs.declared.node.Entry.{Entry}
@@ -11,14 +10,11 @@ use Rattle.al_base.specs.Names.{among}
 use Rattle.al_tree.specs.declared.keys.KeyIndex.{KeyIndex}
 use Rattle.al_tree.specs.declared.keys.KeySet.{KeySet}
 
--- the text of a key; empty for a key that isn't a scalar, which no file that was read has
-abbrev pub key_text : Node → List ℕ
-key_text key = option_map_or text_of (scalar_in key) []
+-- the text of an entry's key
+abbrev pub key_of : Scalar × Node → List ℕ
+key_of e = text_of e.0
 
-abbrev pub key_of : Node × Node → List ℕ
-key_of e = key_text e.0
-
-abbrev pub keys_in : List (Node × Node) → List (List ℕ)
+abbrev pub keys_in : List (Scalar × Node) → List (List ℕ)
 keys_in es = map key_of es
 
 -- a position before another

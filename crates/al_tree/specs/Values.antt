@@ -13,20 +13,20 @@ use Rattle.al_base.specs.Names.{among}
 use Rattle.al_tree.specs.declared.values.Member.{Member}
 
 -- the entries whose key no earlier entry has, after entries with the keys seen
-abbrev pub firsts_by : (List (List ℕ) → List ℕ → Bool) → List (List ℕ) → List (Node × Node) → List (Node × Node)
+abbrev pub firsts_by : (List (List ℕ) → List ℕ → Bool) → List (List ℕ) → List (Scalar × Node) → List (Scalar × Node)
 firsts_by is_in seen [] = []
 firsts_by is_in seen (e ∷ es) = (if is_in seen (key_of e) then [] else e ∷ []) ++ firsts_by is_in (seen ++ key_of e ∷ []) es
 
 -- the entries of a mapping, the first of those with equal keys; otherwise none
-abbrev pub entries_in : Node → List (Node × Node)
+abbrev pub entries_in : Node → List (Scalar × Node)
 entries_in n = option_map_or (firsts_by among []) (mapping_in n) []
 
 -- the items of a sequence; otherwise none
 abbrev pub items_in : Node → List Node
 items_in n = option_map_or (λ ns. ns) (sequence_in n) []
 
--- the node of the first occurrence of a key
-abbrev pub key_at : List ℕ → Node → Option Node
+-- the first occurrence of a key
+abbrev pub key_at : List ℕ → Node → Option Scalar
 key_at k n = option_and_then (λ es. option_map (λ e. e.0) (find (is_key k) es)) (mapping_in n)
 
 -- the value of the first entry with a key
@@ -53,7 +53,7 @@ abbrev pub texts_in : Node → List Scalar
 texts_in n = option_map_or (filter_map text_in) (sequence_in n) (option_to_list (text_in n))
 
 -- the entries, the items and the texts under a key
-abbrev pub entries_at : List ℕ → Node → List (Node × Node)
+abbrev pub entries_at : List ℕ → Node → List (Scalar × Node)
 entries_at k n = option_map_or entries_in (value_at k n) []
 
 abbrev pub items_at : List ℕ → Node → List Node
@@ -63,5 +63,5 @@ abbrev pub texts_at : List ℕ → Node → List Scalar
 texts_at k n = option_map_or texts_in (value_at k n) []
 
 -- the meaning of the program's view of an entry
-abbrev pub member_of : Member → Node × Node
-member_of m = (view m.key.now, view m.value.now)
+abbrev pub member_of : Member → Scalar × Node
+member_of m = (m.key.now, view m.value.now)

@@ -14,7 +14,7 @@ ghost use Rattle.al_yaml_tree.specs.View.{entries_of, entry_view, nodes_of, view
 ghost use Rattle.std.specs.List.{flat_map};
 ghost use Rattle.std.specs.Prelude.{◌≡◌, [], ◌++◌, map, option_map, IfOk, OnOk};
 
-use crate::keys::{KeyIndex, KeySet, key_of, key_text};
+use crate::keys::{KeyIndex, KeySet, key_of};
 use crate::scalars::{is_null_scalar, scalar_fault};
 use crate::standings::{Standing, is_needed, refine, standing_of, takes_null};
 use crate::table::{Keys, Row, Shape, rule_of};
@@ -58,18 +58,18 @@ fn check_missing(
 #[inline(always)]
 fn check_beside(
     other: Option<&'static str>,
-    key: &Node,
+    key: &Scalar,
     faults: &mut FaultSink,
 ) -> Result<(), AllocError>
     ensures { OnOk result (faults.new
-        ≡ faults.old ++ beside_faults (option_map (λ k. k.now) other.entry) (view key.now)) }
+        ≡ faults.old ++ beside_faults (option_map (λ k. k.now) other.entry) key.now) }
 {
     match other {
         None => Ok(()),
         Some(other) => faults.report_two(
             key.span(),
             Code::Key(KeyCode::NotBeside),
-            key_text(key),
+            key.text(),
             other.as_bytes(),
         ),
     }
@@ -94,16 +94,16 @@ fn check_scalar(
 }
 
 /// Adds the faults of a key with this standing in its mapping.
-fn check_key(standing: Standing, key: &Node, faults: &mut FaultSink) -> Result<(), AllocError>
+fn check_key(standing: Standing, key: &Scalar, faults: &mut FaultSink) -> Result<(), AllocError>
     ensures { OnOk result (faults.new
-        ≡ faults.old ++ entry_faults (standing_view standing) (view key.now) (λ s. [])) }
+        ≡ faults.old ++ entry_faults (standing_view standing) key.now (λ s. [])) }
 {
     match standing {
         Standing::Repeated => {
-            faults.report_text(key.span(), Code::Key(KeyCode::Repeated), key_text(key))
+            faults.report_text(key.span(), Code::Key(KeyCode::Repeated), key.text())
         }
         Standing::Unexpected(other) => {
-            faults.report_text(key.span(), Code::Key(KeyCode::Unexpected), key_text(key))?;
+            faults.report_text(key.span(), Code::Key(KeyCode::Unexpected), key.text())?;
             check_beside(other, key, faults)
         }
         Standing::Ignored => Ok(()),

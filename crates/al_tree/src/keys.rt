@@ -1,28 +1,21 @@
-//! The text of a key, and the keys of a mapping.
+//! The keys of a mapping.
 
 ghost use Rattle.al_base.specs.NamePlaces.{TellsFirsts, is_first_text, text_place, text_position};
-ghost use Rattle.al_tree.specs.Keys.{IsIndexOf, has_first, holds, key_of as key_in, key_text as text_in, keys_in, repeats};
+ghost use Rattle.al_tree.specs.Keys.{IsIndexOf, has_first, holds, key_of as key_in, keys_in, repeats};
 ghost use Rattle.al_tree.specs.Faults.{is_key};
-ghost use Rattle.al_yaml_tree.specs.View.{entry_view, view};
+ghost use Rattle.al_yaml_tree.specs.View.{entry_view};
 ghost use Rattle.std.specs.Prelude.{◌≡◌, ◌<◌, find, length, map, option_map, slice_index_or, take, IfOk, []};
 
 use al_base::TextPositions;
-use al_yaml_tree::{Entry, Node};
+use al_yaml_tree::Entry;
 use std::alloc::{AllocError, Global};
-
-/// The text of a key, or the empty text if the key isn't a scalar.
-pub fn key_text(key: &Node) -> &[u8]
-    ensures { result.now ≡ text_in (view key.now) }
-{
-    key.scalar().map_or(&[], |scalar| scalar.text())
-}
 
 /// The text of an entry's key.
 #[tactic(auto, using(al_yaml_tree::proofs::ViewLemmas::entry_parts))]
 pub fn key_of(entry: &Entry) -> &[u8]
     ensures { result.now ≡ key_in (entry_view entry.now) }
 {
-    key_text(&entry.key)
+    entry.key.text()
 }
 
 /// Up to this many keys of a mapping are compared one by one; most mappings have no more.

@@ -28,7 +28,7 @@ pub use files::{
     Action, FileKind, Tree, Workflow, document_faults, read_action, read_workflow, root_shape,
 };
 pub use inputs::{InputType, input_of};
-pub use keys::{EntryKey, FEW_KEYS, KeyIndex, KeySet, key_of, key_text};
+pub use keys::{EntryKey, FEW_KEYS, KeyIndex, KeySet, key_of};
 pub use kinds::{file_kind, is_action, is_workflow, is_workflow_name};
 pub use names::{is_combination_key, is_event};
 pub use scalars::{contains_chunk, is_null_scalar, scalar_fault};

@@ -8,7 +8,7 @@ ghost use Rattle.al_yaml_tree.specs.View.{view};
 ghost use Rattle.std.specs.Option.{option_copied};
 ghost use Rattle.std.specs.Prelude.{◌≡◌, map, option_map, IfOk};
 
-use crate::keys::{KeyIndex, entry_among, key_text};
+use crate::keys::{KeyIndex, entry_among};
 use crate::scalars::is_null_scalar;
 use al_base::NamePositions;
 use al_scalar::Scalar;
@@ -31,10 +31,10 @@ pub fn value<'a>(node: &'a Node, key: &str) -> Option<&'a Node>
     Some(&entry_among(node.mapping()?, key)?.value)
 }
 
-/// The node of the first occurrence of a key; `None` if there is none or the node isn't a mapping.
+/// The first occurrence of a key; `None` if there is none or the node isn't a mapping.
 #[tactic(auto, using(al_yaml_tree::proofs::ViewLemmas::entry_parts))]
-pub fn key<'a>(node: &'a Node, key: &str) -> Option<&'a Node>
-    ensures { option_map (λ n. view n.now) result ≡ key_at key.now (view node.now) }
+pub fn key<'a>(node: &'a Node, key: &str) -> Option<&'a Scalar>
+    ensures { option_copied result ≡ key_at key.now (view node.now) }
 {
     Some(&entry_among(node.mapping()?, key)?.key)
 }
@@ -96,7 +96,7 @@ pub fn items_under<'a>(node: &'a Node, key: &str) -> &'a [Node]
 /// A key of a mapping and its value.
 #[derive(Clone, Copy)]
 pub struct Member<'a> {
-    pub key: &'a Node,
+    pub key: &'a Scalar,
     pub value: &'a Node,
 }
 
@@ -148,7 +148,7 @@ pub fn key_texts<'a>(alloc: Global, members: &[Member<'a>]) -> Result<Vec<&'a [u
 {
     let mut keys = Vec::with_capacity(alloc, members.len())?;
     for member in members {
-        keys.push(key_text(member.key))?;
+        keys.push(member.key.text())?;
     }
     Ok(keys)
 }

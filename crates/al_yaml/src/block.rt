@@ -27,7 +27,7 @@ use al_yaml_parts::lines::{characters, next_line};
 use al_yaml_parts::part::{Part, mapping_part, sequence_part};
 use al_yaml_parts::scalars::empty_part;
 use al_yaml_parts::slots::{Cursor, Slot, Spot, is_deeper, spot_after};
-use al_yaml_tree::{Entry, Node, entry_of, scalar_node};
+use al_yaml_tree::{Entry, Node, entry_of};
 
 /// The part of an open block collection read so far: for a sequence, the items before a dash, and whether it is the
 /// value of a mapping entry; for a mapping, the entries before a key, and the key.
@@ -236,7 +236,7 @@ fn resume_block(
             }
         }
         BlockWaiting::Value(mut entries, key) => {
-            entries.push(entry_of(scalar_node(key.scalar), part.node))?;
+            entries.push(entry_of(key.scalar, part.node))?;
             let Some(at) = entry_on(file.bytes, begun.start.column, next)? else {
                 let part = mapping_part(entries, begun.start.at, part.end, part.next);
                 let part = complete(file, &mut progress.state, begun.anchor, part)?;

@@ -27,7 +27,7 @@ use al_yaml_parts::frames::{Open, OpenMapping};
 use al_yaml_parts::limits::State;
 use al_yaml_parts::lines::is_text_end;
 use al_yaml_parts::part::Part;
-use al_yaml_tree::{Entry, Node, entry_of, scalar_node};
+use al_yaml_tree::{Entry, Node, entry_of};
 
 /// What follows an item: a comma, with the offset of what comes next, or the closing bracket, with the offset after it.
 #[derive(Clone, Copy)]
@@ -114,7 +114,7 @@ fn put_entry(
         (frames.entries (entries_of (map entry_view entries.new.items))) result }
     ensures within { IfOk result (IsPut (size file.now) part.next) }
 {
-    entries.push(entry_of(scalar_node(key.scalar), part.node))?;
+    entries.push(entry_of(key.scalar, part.node))?;
     Ok(after_item(file.bytes, opening, b'}', gap_end(file.bytes, part.next))?)
 }
 

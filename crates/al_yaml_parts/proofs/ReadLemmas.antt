@@ -61,10 +61,10 @@ pub nodes_of-more : (xs : List Node) (x : Node) → nodes_of (map view (xs ++ x 
 nodes_of-more [] x = refl
 nodes_of-more (y ∷ ys) x = ap (tree.item (view y)) (nodes_of-more ys x)
 
-pub entries_of-more : (xs : List Entry) (x : Entry) (key value : tree.Node) → ◌≡◌ {A = tree.Node × tree.Node} (entry_view x) (key, value)
-    → entries_of (map entry_view (xs ++ x ∷ [])) ≡ tree.with_entry (entries_of (map entry_view xs)) key value
-entries_of-more [] x key value h = ap (λ e. tree.entry e.0 e.1 tree.no_entries) h
-entries_of-more (y ∷ ys) x key value h = ap (tree.entry (entry_view y).0 (entry_view y).1) (entries_of-more ys x key value h)
+pub entries_of-more : (xs : List Entry) (x : Entry) (key : value.Scalar) (v : tree.Node) → ◌≡◌ {A = value.Scalar × tree.Node} (entry_view x) (key, v)
+    → entries_of (map entry_view (xs ++ x ∷ [])) ≡ tree.with_entry (entries_of (map entry_view xs)) key v
+entries_of-more [] x key v h = ap (λ e. tree.entry e.0 e.1 tree.no_entries) h
+entries_of-more (y ∷ ys) x key v h = ap (tree.entry (entry_view y).0 (entry_view y).1) (entries_of-more ys x key v h)
 
 -- ---- results
 

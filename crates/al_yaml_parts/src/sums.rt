@@ -1,11 +1,13 @@
 //! What an alias counts of its node (YAML 1.2.2, 7.1): a loop over the nodes in it, with its own stack.
 
 ghost use Rattle.al_yaml_tree.specs.Limits.{most_counted};
+ghost use Rattle.al_yaml_tree.specs.Node as tree;
 ghost use Rattle.al_yaml_tree.specs.Reading as reading;
-ghost use Rattle.al_yaml_parts.specs.Private.Sums.{IsOwn, IsSums, inside, members, uncounted_view, within};
+ghost use Rattle.al_yaml_parts.specs.Private.Sums.{IsOwn, IsSums, inside, members, node_view, uncounted_view, within};
 ghost use Rattle.al_yaml_tree.specs.View.{entry_view, view};
 ghost use Rattle.std.specs.Prelude.{IfOk, map, ◌++◌, ◌+◌, ◌≡◌};
 
+use al_scalar::Scalar;
 use al_yaml_tree::{Entry, Node};
 use std::alloc::{AllocError, Global};
 
@@ -18,6 +20,17 @@ pub struct Sums {
 }
 
 impl Sums {
+    /// The counts of a scalar, which is inside this many collections.
+    fn of_scalar(scalar: &Scalar, levels: u32) -> Sums
+        ensures { IsOwn (tree.scalar scalar.now, levels) result }
+    {
+        Sums {
+            nodes: 1,
+            text: scalar.text().len().min(u32::MAX as usize) as u32,
+            levels,
+        }
+    }
+
     /// The counts of a collection itself, which is inside this many others.
     fn of_collection(levels: u32) -> Sums
         ensures nodes { result.nodes ≡ 1 }
@@ -32,10 +45,17 @@ impl Sums {
     }
 }
 
-/// A node that is still to be counted, and how many of the counted collections it is inside.
+/// The key of an entry, or any other node.
 #[derive(Clone, Copy)]
-pub struct UncountedNode<'a> {
-    pub node: &'a Node,
+pub enum KeyOrNode<'a> {
+    Key(&'a Scalar),
+    Node(&'a Node),
+}
+
+/// What is still to be counted, and how many of the counted collections it is inside.
+#[derive(Clone, Copy)]
+pub struct Uncounted<'a> {
+    pub node: KeyOrNode<'a>,
     pub levels: u32,
 }
 
@@ -51,9 +71,12 @@ pub fn sums_of(alloc: Global, node: &Node) -> Result<Sums, AllocError>
         levels: 0,
     };
     let mut left = Vec::new(alloc);
-    left.push(UncountedNode { node, levels: 0 })?;
+    left.push(Uncounted {
+        node: KeyOrNode::Node(node),
+        levels: 0,
+    })?;
     'nodes: while let Some(next) = left.pop() {
-        let own = count(next.node, next.levels, &mut left)?;
+        let own = count(next, &mut left)?;
         sums = Sums {
             nodes: sums.nodes.saturating_add(own.nodes),
             text: sums.text.saturating_add(own.text),
@@ -63,23 +86,31 @@ pub fn sums_of(alloc: Global, node: &Node) -> Result<Sums, AllocError>
     Ok(sums)
 }
 
+/// Counts a key or a node itself, and leaves those in it to be counted.
+fn count<'a>(next: Uncounted<'a>, left: &mut Vec<Uncounted<'a>>) -> Result<Sums, AllocError>
+    ensures own { IfOk result (IsOwn (uncounted_view next.entry)) }
+    ensures left { IfOk result (λ sums. map uncounted_view left.new.items
+        ≡ map uncounted_view left.old.items ++ within sums.levels (inside (node_view (next.entry).node))) }
+{
+    match next.node {
+        KeyOrNode::Key(scalar) => Ok(Sums::of_scalar(scalar, next.levels)),
+        KeyOrNode::Node(node) => count_node(node, next.levels, left),
+    }
+}
+
 /// Counts a node itself, which is inside this many collections, and leaves those in it to be counted. A node is
 /// shared at most once, as an alias has no anchor of its own (7.1), so this recurs at most once.
-fn count<'a>(
+fn count_node<'a>(
     node: &'a Node,
     levels: u32,
-    left: &mut Vec<UncountedNode<'a>>,
+    left: &mut Vec<Uncounted<'a>>,
 ) -> Result<Sums, AllocError>
     ensures own { IfOk result (IsOwn (view node.now, levels)) }
     ensures left { IfOk result (λ sums. map uncounted_view left.new.items
         ≡ map uncounted_view left.old.items ++ within sums.levels (inside (view node.now))) }
 {
     match node {
-        Node::Scalar(scalar) => Ok(Sums {
-            nodes: 1,
-            text: scalar.text().len().min(u32::MAX as usize) as u32,
-            levels,
-        }),
+        Node::Scalar(scalar) => Ok(Sums::of_scalar(scalar, levels)),
         Node::Sequence { items, .. } => {
             let own = Sums::of_collection(levels);
             leave_items(items.as_slice(), own.levels, left)?;
@@ -90,7 +121,7 @@ fn count<'a>(
             leave_entries(entries.as_slice(), own.levels, left)?;
             Ok(own)
         }
-        Node::Shared(shared) => count(shared, levels, left),
+        Node::Shared(shared) => count_node(shared, levels, left),
     }
 }
 
@@ -98,13 +129,16 @@ fn count<'a>(
 fn leave_items<'a>(
     items: &'a [Node],
     levels: u32,
-    left: &mut Vec<UncountedNode<'a>>,
+    left: &mut Vec<Uncounted<'a>>,
 ) -> Result<(), AllocError>
     ensures { IfOk result (λ _. map uncounted_view left.new.items
         ≡ map uncounted_view left.old.items ++ within levels (map view items.now)) }
 {
     'items: for node in items {
-        left.push(UncountedNode { node, levels })?;
+        left.push(Uncounted {
+            node: KeyOrNode::Node(node),
+            levels,
+        })?;
     }
     Ok(())
 }
@@ -113,7 +147,7 @@ fn leave_items<'a>(
 fn leave_entries<'a>(
     entries: &'a [Entry],
     levels: u32,
-    left: &mut Vec<UncountedNode<'a>>,
+    left: &mut Vec<Uncounted<'a>>,
 ) -> Result<(), AllocError>
     ensures { IfOk result (λ _. map uncounted_view left.new.items
         ≡ map uncounted_view left.old.items
@@ -121,9 +155,12 @@ fn leave_entries<'a>(
 {
     'entries: for entry in entries {
         let Entry { key, value } = entry;
-        left.push(UncountedNode { node: key, levels })?;
-        left.push(UncountedNode {
-            node: value,
+        left.push(Uncounted {
+            node: KeyOrNode::Key(key),
+            levels,
+        })?;
+        left.push(Uncounted {
+            node: KeyOrNode::Node(value),
             levels,
         })?;
     }

@@ -205,10 +205,10 @@ module _ {f : File} where
     entries-in (suc turns) column depth from low done key d h =
         reads-then (rest-lies node n (value_slot column (start key.after)) depth 0 key.scalar.scalar.span.end key.after key.after tt refl h.1)
         (λ x k. let i = entry-done d h.0 k in
-        rest_below-in from (part (with_entry done (scalar_node key.scalar) x.value) x.end x.left) (whole-part i k.left) column
+        rest_below-in from (part (with_entry done key.scalar.scalar x.value) x.end x.left) (whole-part i k.left) column
         (more_entries turns column depth)
         (λ left v. reads-then (entry_key-in collection c depth x.end left v)
-        (λ next w. entries-in turns column depth from x.end (with_entry done (scalar_node key.scalar) x.value) next i w)))
+        (λ next w. entries-in turns column depth from x.end (with_entry done key.scalar.scalar x.value) next i w)))
 
     -- ---- nodes without properties
 

@@ -174,10 +174,10 @@ module _ {f : File} where
           (λ _. reads-then (flow_key-in collection c depth low ls h)
           (λ key k. reads-then (entry_value-in opening depth low key o k)
           (λ x v. let i = entry-done d k.0 v in
-          rest-reads entries-grow from x.end (with_entry done (scalar_node key.scalar) x.value) i
-          (λ left. flow_entries node collection turns opening depth (with_entry done (scalar_node key.scalar) x.value) left)
+          rest-reads entries-grow from x.end (with_entry done key.scalar.scalar x.value) i
+          (λ left. flow_entries node collection turns opening depth (with_entry done key.scalar.scalar x.value) left)
           opening (ascii "}") x.left o (omega arith)
-          (λ left w. entries-in turns opening depth from x.end (with_entry done (scalar_node key.scalar) x.value) left o i w) v.left))))
+          (λ left w. entries-in turns opening depth from x.end (with_entry done key.scalar.scalar x.value) left o i w) v.left))))
 
   -- ---- nodes and collections
 

@@ -17,7 +17,7 @@ module _ (P : Scalar → Type 0) (around : Span → Type 0 → Type 0) where
   each-item no_nodes n h x = (x, tt)
   each-item (item m ms) n h x = (h.0, each-item ms n h.1 x)
 
-  pub each-entry : (es : Entries) (k v : Node) → EachEntry P around es → Each P around k → Each P around v
+  pub each-entry : (es : Entries) (k : Scalar) (v : Node) → EachEntry P around es → P k → Each P around v
       → EachEntry P around (with_entry es k v)
   each-entry no_entries k v h x y = (x, y, tt)
   each-entry (entry l w es) k v h x y = (h.0, h.1, each-entry es k v h.2 x y)
@@ -38,7 +38,7 @@ module _ (P Q : Scalar → Type 0) (outer inner : Span → Type 0 → Type 0) (o
 
     entries-follow : (es : Entries) → EachEntry P outer es → EachEntry Q inner es
     entries-follow no_entries h = tt
-    entries-follow (entry k v es) h = (each-follows k h.0, each-follows v h.1, entries-follow es h.2)
+    entries-follow (entry k v es) h = (of_scalar k h.0, each-follows v h.1, entries-follow es h.2)
 
 -- ---- nodes within a file
 

@@ -171,16 +171,16 @@ module _ {f : File} where
       (λ u. past-item f.size from low p.end ns p.value d.ordered a (d.lies.placed u).1 (n.placed u))
 
   pub entry-done : {from low : ℕ} {es : Entries} {r : ScalarRead} {p : Part Node} → IsDone f mapping from low es → IsRead f low r
-      → IsNode f r.scalar.span.end p → IsDone f mapping from p.end (with_entry es (scalar_node r) p.value)
+      → IsNode f r.scalar.span.end p → IsDone f mapping from p.end (with_entry es r.scalar p.value)
   entry-done {from} {low} {es} {r} {p} d k h =
       let a = h.done.ordered in
       let b : low ≤ p.end = omega (arith, a, read-ends k) in
       let key = scalar-lies k in
       let v = h.done.lies in
-      entries-done from p.end (with_entry es (scalar_node r) p.value) (omega (arith, b, d.ordered)) h.inside
-      (each-entry (Laid f.size f.size) (LiesAround f.size) es (scalar_node r) p.value d.lies.laid.1 key.laid v.laid)
-      (λ u. each-entry Text Inner es (scalar_node r) p.value (d.lies.texts u) (key.texts u) (v.texts u))
-      (λ u. past-entry f.size from low p.end es (scalar_node r) p.value d.ordered b (d.lies.placed u).1
+      entries-done from p.end (with_entry es r.scalar p.value) (omega (arith, b, d.ordered)) h.inside
+      (each-entry (Laid f.size f.size) (LiesAround f.size) es r.scalar p.value d.lies.laid.1 key.laid v.laid)
+      (λ u. each-entry Text Inner es r.scalar p.value (d.lies.texts u) (key.texts u) (v.texts u))
+      (λ u. past-entry f.size from low p.end es r.scalar p.value d.ordered b (d.lies.placed u).1
       (wider_in f.size low r.scalar.span.end low p.end (scalar_node r) (omega arith) a k.placed) (v.placed u))
 
 -- ---- outcomes

@@ -8,7 +8,7 @@ nodes no_nodes = []
 nodes (item n ns) = n ∷ nodes ns
 
 -- the entries, each a key and a value
-abbrev pub entries : Entries → List (Node × Node)
+abbrev pub entries : Entries → List (Scalar × Node)
 entries no_entries = []
 entries (entry k v es) = (k, v) ∷ entries es
 
@@ -20,6 +20,6 @@ abbrev pub sequence_in : Node → Option (List Node)
 sequence_in (sequence ns at) = Some (nodes ns)
 sequence_in _ = None
 
-abbrev pub mapping_in : Node → Option (List (Node × Node))
+abbrev pub mapping_in : Node → Option (List (Scalar × Node))
 mapping_in (mapping es at) = Some (entries es)
 mapping_in _ = None

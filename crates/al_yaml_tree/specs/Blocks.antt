@@ -110,7 +110,7 @@ unfoldable pub mapping_entries : BlockReader → CollectionReader → ℕ → �
 mapping_entries node collection zero column depth done key = fails yaml.UnexpectedCharacter 0
 mapping_entries node collection (suc turns) column depth done key = do
   x ← rest_node node (value_slot column (start key.after)) depth 0 key.after key.after
-  rest_below column (part (with_entry done (scalar_node key.scalar) x.value) x.end x.left) (λ now left.
+  rest_below column (part (with_entry done key.scalar.scalar x.value) x.end x.left) (λ now left.
       entry_key collection depth left >>= (λ k. mapping_entries node collection turns column depth now.value k))
 
 -- a node with nothing after it on its line, and the whole lines left

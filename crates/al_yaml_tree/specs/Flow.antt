@@ -131,8 +131,8 @@ flow_entries node collection (suc turns) opening depth done ls =
       key ← flow_key collection depth ls
       x ← flow_entry_value node opening depth key
       rest_after (ascii "}") (λ left. flow_entries node collection turns opening depth
-          (with_entry done (scalar_node key.scalar) x.value) left) opening
-          (with_entry done (scalar_node key.scalar) x.value) x.left))
+          (with_entry done key.scalar.scalar x.value) left) opening
+          (with_entry done key.scalar.scalar x.value) x.left))
 
 -- a node without properties
 unfoldable pub flow_content : CollectionReader → FlowSlot → ℕ → List Line → Reading (Part Node)

@@ -1,6 +1,7 @@
 -- The spans of nodes: each in the node around it and after the node before it, and all of them in the file.
 use Rattle.std.specs.Prelude.{ℕ, ◌≤◌}
 use Rattle.al_scalar.specs.Offsets.{IsFrom, IsPlaced}
+use Rattle.al_scalar.specs.Scalar.{Scalar}
 use Rattle.al_base.specs.Spans.{LiesIn}
 use Rattle.al_base.specs.declared.faults.Span.{Span}
 use Rattle.al_base.specs.Limits.{largest_file}
@@ -13,11 +14,15 @@ pub record IsBetween (low high : ℕ) (at : Span) : Type 0 where
   pub ordered : at.start ≤ at.end
   pub to : at.end ≤ high
 
--- A node lies between two offsets of a file of so many bytes, and what is in it lies in its own span, in order; so does each
--- scalar's text, but the line feeds at a block scalar's end may come from after its span.
+-- A scalar lies between two offsets of a file of so many bytes, and its text in its own span, but the line feeds at a block scalar's end may
+-- come from after it.
+abbrev pub ScalarPlacedIn : ℕ → ℕ → ℕ → Scalar → Type 0
+ScalarPlacedIn size low high s = IsBetween low high s.span × IsPlaced size s
+
+-- A node lies between two offsets of a file of so many bytes, and what is in it lies in its own span, in order.
 abbrev mutual
   pub IsPlacedIn : ℕ → ℕ → ℕ → Node → Type 0
-  IsPlacedIn size low high (scalar s) = IsBetween low high s.span × IsPlaced size s
+  IsPlacedIn size low high (scalar s) = ScalarPlacedIn size low high s
   IsPlacedIn size low high (sequence ns at) = IsBetween low high at × ArePlacedIn size at.start at.end ns
   IsPlacedIn size low high (mapping es at) = IsBetween low high at × EntriesPlacedIn size at.start at.end es
 
@@ -29,7 +34,7 @@ abbrev mutual
   -- likewise each value after its key, and each key after the value before it
   pub EntriesPlacedIn : ℕ → ℕ → ℕ → Entries → Type 0
   EntriesPlacedIn size low high no_entries = Unit {0}
-  EntriesPlacedIn size low high (entry k v es) = IsPlacedIn size low high k × IsPlacedIn size (span_of k).end high v
+  EntriesPlacedIn size low high (entry k v es) = ScalarPlacedIn size low high k × IsPlacedIn size k.span.end high v
       × EntriesPlacedIn size (span_of v).end high es
 
 -- each span of a node lies in a file of this many bytes

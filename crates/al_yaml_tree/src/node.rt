@@ -20,11 +20,11 @@ pub enum Node {
     Shared(Rc<Node>),
 }
 
-/// A key of a mapping, and its value.
+/// A key of a mapping, and its value. A key is a scalar: any other is a fault of the file.
 #[cycle(node)]
 #[derive(Drop)]
 pub struct Entry {
-    pub key: Node,
+    pub key: Scalar,
     pub value: Node,
 }
 
@@ -70,8 +70,8 @@ pub fn sharable(alloc: Global, node: Node) -> Result<Rc<Node>, AllocError>
 }
 
 /// An entry with this key and this value.
-pub fn entry_of(key: Node, value: Node) -> Entry
-    ensures { entry_view result ≡ (view key, view value) }
+pub fn entry_of(key: Scalar, value: Node) -> Entry
+    ensures { entry_view result ≡ (key, view value) }
 {
     Entry { key, value }
 }

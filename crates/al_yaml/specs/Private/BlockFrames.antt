@@ -4,7 +4,7 @@ use Rattle.al_scalar.specs.Line.{Line}
 use Rattle.al_scalar.specs.Places.{first_text, lines_at, text_at}
 use Rattle.al_scalar.specs.Scalar.{ScalarRead}
 use Rattle.al_scalar.specs.ReadScalar.{read_of}
-use Rattle.al_yaml_tree.specs.Node.{Node, Nodes, Entries, sequence, mapping, with_item, with_entry, scalar_node}
+use Rattle.al_yaml_tree.specs.Node.{Node, Nodes, Entries, sequence, mapping, with_item, with_entry}
 use Rattle.al_yaml_tree.specs.Reading.{Reading, gives, Part, part, with_span, ◌>>=◌}
 use Rattle.al_yaml_tree.specs.Content as content
 use Rattle.al_yaml_tree.specs.Flow.{CollectionReader, flow_collection}
@@ -64,7 +64,7 @@ block_waits turns bound depth start column (item in_mapping done) x =
     with_span sequence start (rest_below column (part (with_item done x.value) x.end x.left)
     (more_items (block_node bound) (flow_collection (suc bound)) turns in_mapping column depth))
 block_waits turns bound depth start column (value done k) x =
-    with_span mapping start (rest_below column (part (with_entry done (scalar_node k) x.value) x.end x.left)
+    with_span mapping start (rest_below column (part (with_entry done k.scalar x.value) x.end x.left)
     (more_entries (block_node bound) (flow_collection (suc bound)) turns column depth))
 
 -- ---- as the code has them

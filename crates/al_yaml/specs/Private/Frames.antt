@@ -8,7 +8,7 @@ use Rattle.al_scalar.specs.Scalar.{ScalarRead}
 use Rattle.al_scalar.specs.Taken.{fault}
 use Rattle.al_scalar.specs.declared.faults.FaultAt.{FaultAt}
 use Rattle.al_yaml_tree.specs.Content.{past, is_file_end}
-use Rattle.al_yaml_tree.specs.Node.{Node, Nodes, Entries, sequence, mapping, with_item, with_entry, scalar_node}
+use Rattle.al_yaml_tree.specs.Node.{Node, Nodes, Entries, sequence, mapping, with_item, with_entry}
 use Rattle.al_yaml_tree.specs.Reading.{Reading, fails, Part, with_span}
 use Rattle.al_yaml_tree.specs.Flow.{CollectionReader, gap, flow_items, flow_entries, flow_node_over, rest_after}
 use Rattle.al_yaml_parts.specs.Answers.{Mark}
@@ -60,8 +60,8 @@ waiting_rest collection turns depth opening (item done) x =
 waiting_rest collection turns depth opening (value done k) x =
     with_span mapping opening
     (rest_after (ascii "}") (λ left. flow_entries (flow_node_over collection) collection turns opening depth
-    (with_entry done (scalar_node k) x.value) left) opening
-    (with_entry done (scalar_node k) x.value) x.left)
+    (with_entry done k.scalar x.value) left) opening
+    (with_entry done k.scalar x.value) x.left)
 waiting_rest collection turns depth opening (key at) x = fails yaml.WrongKey at
 
 abbrev pub frame_rest : CollectionReader → ℕ → ℕ → Frame → Part Node → Reading (Part Node)

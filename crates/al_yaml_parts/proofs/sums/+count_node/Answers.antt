@@ -2,7 +2,7 @@ use Rattle.std.proofs.Common.{◌++◌, ◌∙◌, ap, map, sym}
 use Rattle.al_yaml_parts.specs.Private.Sums.{inside, members, uncounted_view, within}
 use Rattle.al_yaml_tree.specs.View.{entry_view, view}
 use Rattle.al_yaml_tree.proofs.ViewLemmas.{entries_again, nodes_again, view_mapping, view_sequence}
-use Rattle.al_yaml_parts.proofs.sums.+count.Goals as goal
+use Rattle.al_yaml_parts.proofs.sums.+count_node.Goals as goal
 
 pub returns-in_ok-leave_items-in-Sequence-clause-left : goal.returns-in_ok-leave_items-in-Sequence-clause-left
 returns-in_ok-leave_items-in-Sequence-clause-left t c =
