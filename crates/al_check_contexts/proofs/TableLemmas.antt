@@ -5,6 +5,7 @@ use Rattle.al_base.proofs.Growing.{begins_same}
 use Rattle.al_types.specs.Types.{Type'}
 use Rattle.al_types.specs.declared.names.Context.{Context}
 use Rattle.al_types.specs.declared.names.Context.TheVariants as context
+use Rattle.al_scalar.specs.Scalar.{Scalar}
 use Rattle.al_yaml_tree.specs.Node.{Node}
 use Rattle.al_tree.specs.Files.{jobs_of}
 use Rattle.al_tree.specs.declared.files.FileKind.{FileKind}
@@ -106,7 +107,7 @@ shows_first types github strings runner job inputs steps k known root g t r j i 
     each context.Inputs = i
     each _ = any_means types
 
-pub section_stays : (new old : Types) (known : OutputNames) (js : List (Node × Node)) (s : Section) (job : Option (Node × Node)) (st : SectionTypes) →
+pub section_stays : (new old : Types) (known : OutputNames) (js : List (Scalar × Node)) (s : Section) (job : Option (Scalar × Node)) (st : SectionTypes) →
     BeginsWith (objects_of new) (objects_of old) → AreOfSection old known js s job st → AreOfSection new known js s job st
 section_stays new old known js s job st b h = record {
   strategy = means_stays new old st.strategy _ b h.strategy;

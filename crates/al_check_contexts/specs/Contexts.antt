@@ -3,7 +3,7 @@ use Rattle.std.specs.Prelude.{ℕ, List, [], ◌∷◌, codes, map, take, Option
 use Rattle.std.specs.List.{filter_map, enumerate_from}
 use Rattle.std.specs.Option.{option_map_or}
 use Rattle.std.specs.Str.{bytes_eq}
-use Rattle.al_scalar.specs.Scalar.{text_of}
+use Rattle.al_scalar.specs.Scalar.{Scalar, text_of}
 use Rattle.al_base.specs.Names.{same_name}
 use Rattle.al_types.specs.Types.{Type', Any, String}
 use Rattle.al_types.specs.declared.names.Context.{Context}
@@ -56,38 +56,38 @@ steps_type known owner seen =
     option_map_or (λ o. strictly (firsts (filter_map (step_field known o.0) (enumerate_from 0 (seen_of seen o.1))))) owner Any
 
 -- a job as others see it: its result, and its outputs, which are those of the called workflow if it calls one
-abbrev pub job_outputs : OutputNames → Node × Node → Type'
+abbrev pub job_outputs : OutputNames → Scalar × Node → Type'
 job_outputs known j =
     if has_value (codes "uses") j.1 then option_map_or named_strings (known (Some (key_of j)) None) loose_any
     else named_strings (keys_in (entries_at (codes "outputs") j.1))
 
-abbrev pub job_field : OutputNames → Node × Node → TypedName
+abbrev pub job_field : OutputNames → Scalar × Node → TypedName
 job_field known j =
     (key_of j, strictly ((codes "result", String) ∷ (codes "outputs", job_outputs known j) ∷ []))
 
-abbrev pub jobs_type : OutputNames → List (Node × Node) → Type'
+abbrev pub jobs_type : OutputNames → List (Scalar × Node) → Type'
 jobs_type known jobs = strictly (firsts (map (job_field known) jobs))
 
 -- `needs`: the direct dependencies that exist; a name refers to the first job with it, ignoring ASCII case
-abbrev pub dependency : OutputNames → List (Node × Node) → List ℕ → Option TypedName
+abbrev pub dependency : OutputNames → List (Scalar × Node) → List ℕ → Option TypedName
 dependency known jobs name = option_map (job_field known) (find (λ j. same_name (key_of j) name) jobs)
 
-abbrev pub needs_type : OutputNames → List (Node × Node) → Node → Type'
+abbrev pub needs_type : OutputNames → List (Scalar × Node) → Node → Type'
 needs_type known jobs job =
     strictly (firsts (filter_map (λ s. dependency known jobs (text_of s)) (texts_at (codes "needs") job)))
 
 -- the job of a section, with its key, if there is one
-abbrev pub job_in : List (Node × Node) → Section → Option (Node × Node)
+abbrev pub job_in : List (Scalar × Node) → Section → Option (Scalar × Node)
 job_in jobs (in_job k) = find (λ j. bytes_eq (key_of j) k) jobs
 job_in jobs _ = None
 
 -- the steps of a job, or of a composite action
-abbrev pub owner_of : FileKind → Node → Option (Node × Node) → Option Owner
+abbrev pub owner_of : FileKind → Node → Option (Scalar × Node) → Option Owner
 owner_of kind.Workflow root job =
     option_map (λ j. (Some (key_of j), items_at (codes "steps") j.1)) job
 owner_of kind.Action root job = if is_composite root then Some (None, action_steps root) else None
 
-abbrev pub jobs_in : OutputNames → List (Node × Node) → Section → Type'
+abbrev pub jobs_in : OutputNames → List (Scalar × Node) → Section → Type'
 jobs_in known jobs apart = Any
 jobs_in known jobs _ = jobs_type known jobs
 

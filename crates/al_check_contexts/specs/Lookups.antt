@@ -6,6 +6,7 @@ use Rattle.std.specs.Option.{option_cmp, option_copied, option_map_or}
 use Rattle.std.specs.Ordering.{nat_cmp, ordering_then}
 use Rattle.al_types.specs.Strings.{named_strings}
 use Rattle.al_types.specs.Types.{Type', Any, String}
+use Rattle.al_scalar.specs.Scalar.{Scalar}
 use Rattle.al_yaml_tree.specs.Node.{Node}
 use Rattle.al_check_contexts.specs.Answered.{OutputsOfCall, is_at}
 use Rattle.al_check_contexts.specs.Contexts.{OutputNames, job_field, step_type}
@@ -48,5 +49,5 @@ abbrev pub called_at : Outputs → ℕ → Type'
 called_at o i = shown_with (option_map_or named_strings (list_at o i) loose_any)
 
 -- the type of the job at a position
-abbrev pub shown_at : Outputs → List (Node × Node) → ℕ → Type'
+abbrev pub shown_at : Outputs → List (Scalar × Node) → ℕ → Type'
 shown_at o js i = option_map_or (λ j. (job_field (known_by o) j).1) (slice_get js i) Any

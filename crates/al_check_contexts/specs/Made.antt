@@ -1,5 +1,6 @@
 -- The types that are made once per file.
 use Rattle.std.specs.Prelude.{◌≡◌, List, [], Option, Some, map}
+use Rattle.al_scalar.specs.Scalar.{Scalar}
 use Rattle.al_yaml_tree.specs.Node.{Node}
 use Rattle.al_tree.specs.Values.{member_of}
 use Rattle.al_check_contexts.specs.Contexts.{OutputNames, jobs_type}
@@ -18,14 +19,14 @@ pub record KeepsBare (types : Types) (made : Option Ty) : Type 0 where
   pub each : (t : Ty) → made ≡ Some t → Means types t (shown_with (named_strings []))
 
 -- each kept type of a job is that of its position
-pub record KeepsJobs (types : Types) (known : Outputs) (js : List (Node × Node)) (m : JobTypes) : Type 0 where
+pub record KeepsJobs (types : Types) (known : Outputs) (js : List (Scalar × Node)) (m : JobTypes) : Type 0 where
   pub calls : Keeps types (called_at known) m.calls
   pub shown : Keeps types (shown_at known js) m.shown
   pub bare : KeepsBare types m.bare
   pub all : (t : Ty) → m.all ≡ Some t → Means types t (jobs_type (known_by known) js)
 
 -- the jobs of a basis, and what is known in it
-abbrev pub jobs_from : Basis → List (Node × Node)
+abbrev pub jobs_from : Basis → List (Scalar × Node)
 jobs_from b = map member_of b.jobs.members.items
 
 abbrev pub known_from : Basis → OutputNames

@@ -3,6 +3,7 @@ use Rattle.std.specs.Prelude.{List, Option}
 use Rattle.std.specs.Option.{option_map_or}
 use Rattle.al_types.specs.Types.{Any, Type'}
 use Rattle.al_types.specs.declared.names.Context.{Context}
+use Rattle.al_scalar.specs.Scalar.{Scalar}
 use Rattle.al_yaml_tree.specs.Node.{Node}
 use Rattle.al_check_places.specs.Positions.{Position, Section}
 use Rattle.al_check_places.specs.declared.positions.Seen.{Seen}
@@ -23,8 +24,8 @@ pub record Shows (types : Types) (ts : ContextTypes) (m : Context → Type') : T
   pub each : (c : Context) → Means types (context_number ts c) (m c)
 
 -- the types of a section of a workflow with these jobs, one of which is the section's
-pub record AreOfSection (types : Types) (known : OutputNames) (js : List (Node × Node)) (s : Section)
-    (job : Option (Node × Node)) (st : SectionTypes) : Type 0 where
+pub record AreOfSection (types : Types) (known : OutputNames) (js : List (Scalar × Node)) (s : Section)
+    (job : Option (Scalar × Node)) (st : SectionTypes) : Type 0 where
   pub strategy : Means types st.strategy (option_map_or (λ j. strategy_type) job Any)
   pub needs : Means types st.needs (option_map_or (λ j. needs_type known js j.1) job Any)
   pub jobs : Means types st.jobs (jobs_in known js s)

@@ -8,6 +8,7 @@ ghost use Rattle.al_check_objects.specs.Numbers.{Makes};
 ghost use Rattle.al_expr_types.specs.Tables.{is_known, type_at};
 ghost use Rattle.al_expr_types.specs.declared.types.Types as declared;
 ghost use Rattle.al_check_contexts.specs.declared.known.Outputs as outputs;
+ghost use Rattle.al_scalar.specs.Scalar.{Scalar};
 ghost use Rattle.al_tree.specs.Values.{member_of};
 ghost use Rattle.al_types.specs.Strings.{named_strings};
 ghost use Rattle.al_yaml_tree.specs.Node as tree;
@@ -18,7 +19,7 @@ use crate::caches::TypeCache;
 use crate::steps::outputs_type;
 use al_check_objects::{FieldList, declared_strings, object_of};
 use al_expr_types::{Ty, Types};
-use al_tree::{Member, has_value, key_text, members_under, texts_under};
+use al_tree::{Member, has_value, members_under, texts_under};
 use al_yaml_tree::Node;
 use std::alloc::{AllocError, Global};
 
@@ -88,9 +89,8 @@ impl JobTypes {
     /// No types yet, for this many lists of outputs and jobs.
     pub(crate) fn new(alloc: Global, calls: usize, jobs: usize) -> Result<JobTypes, AllocError>
         ensures { IfOk result
-            (λ m. (types : declared.Types) (known : outputs.Outputs) (js : List (tree.Node
-            × tree.Node))
-            → KeepsJobs types known js m) }
+            (λ m. (types : declared.Types) (known : outputs.Outputs)
+            (js : List (Scalar × tree.Node)) → KeepsJobs types known js m) }
     {
         let calls = TypeCache::new(alloc, calls)?;
         let shown = TypeCache::new(alloc, jobs)?;
@@ -121,7 +121,7 @@ impl JobTypes {
         ensures all { (self.new).all ≡ (self.old).all }
     {
         if has_value(job.value, "uses") {
-            let position = basis.outputs.position(Some(key_text(job.key)), None);
+            let position = basis.outputs.position(Some(job.key.text()), None);
             return called_type(types, basis, &mut self.calls, position);
         }
         let entries = members_under(types.alloc(), job.value, "outputs")?;
@@ -171,7 +171,7 @@ impl JobTypes {
         let members = basis.jobs.as_slice();
         for (i, job) in members.iter().enumerate() {
             let ty = self.get(types, basis, i)?;
-            fields = fields.and(key_text(job.key), ty)?;
+            fields = fields.and(job.key.text(), ty)?;
         }
         let ty = fields.into_type(types, None)?;
         self.all = Some(ty);
@@ -197,7 +197,7 @@ impl JobTypes {
                 continue;
             };
             let ty = self.get(types, basis, needed)?;
-            fields = fields.and(key_text(basis.jobs.job_at(needed).key), ty)?;
+            fields = fields.and(basis.jobs.job_at(needed).key.text(), ty)?;
         }
         fields.into_type(types, None)
     }

@@ -18,7 +18,7 @@ use crate::owners::Owner;
 use al_check_objects::matrix_type;
 use al_check_places::Section;
 use al_expr_types::{Ty, Types};
-use al_tree::{FileKind, Member, action_steps, is_composite, items_under, key_text};
+use al_tree::{FileKind, Member, action_steps, is_composite, items_under};
 use al_yaml_tree::Node;
 use std::alloc::AllocError;
 
@@ -96,7 +96,7 @@ pub(crate) fn owner_at<'a>(
 {
     match (kind, job) {
         (FileKind::Workflow, Some(job)) => Some(Owner {
-            job: Some(key_text(job.key)),
+            job: Some(job.key.text()),
             steps: items_under(job.value, "steps"),
         }),
         (FileKind::Action, _) if is_composite(root) => Some(Owner {

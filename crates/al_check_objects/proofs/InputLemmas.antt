@@ -7,6 +7,7 @@ use Rattle.std.specs.List.{list_any}
 use Rattle.std.specs.Option.{option_map_or}
 use Rattle.std.specs.Prelude.{codes, if◌then◌else◌, option_and_then}
 use Rattle.al_base.specs.Names.{same_name}
+use Rattle.al_scalar.specs.Scalar.{Scalar}
 use Rattle.al_tree.specs.Keys.{key_of}
 use Rattle.al_tree.specs.Values.{entries_in, firsts_by, value_at, value_below}
 use Rattle.al_tree.specs.Declarations.{declared_in, named_among}
@@ -57,11 +58,11 @@ none_among : (a b : Bool) → (a ≡ true → b ≡ true) → b ≡ false → a 
 none_among true b h e = absurd (cc (h refl))
 none_among false b h e = refl
 
-module _ (ty : Node × Node → Type') where
-  abbrev field : Node × Node → TypedName
+module _ (ty : Scalar × Node → Type') where
+  abbrev field : Scalar × Node → TypedName
   field e = (key_of e, ty e)
 
-  named_step : (seen : List (List ℕ)) (ts : List TypedName) (e : Node × Node) (rest : List (Node × Node)) (b : Bool) → named_among seen (key_of e) ≡ b →
+  named_step : (seen : List (List ℕ)) (ts : List TypedName) (e : Scalar × Node) (rest : List (Scalar × Node)) (b : Bool) → named_among seen (key_of e) ≡ b →
       AreAmong ts seen → ((us : List TypedName) → AreAmong us (seen ++ key_of e ∷ []) → put_all put_new us (map field rest) ≡ us ++ map field rest) →
       put_all put_new ts (map field ((if b then [] else e ∷ []) ++ rest)) ≡ ts ++ map field ((if b then [] else e ∷ []) ++ rest)
   named_step seen ts e rest true is h more = more ts (among_wider ts seen (key_of e) h)
@@ -71,7 +72,7 @@ module _ (ty : Node × Node → Type') where
       ∙ more (ts ++ field e ∷ []) (among_more ts seen (field e) h)
       ∙ append_assoc ts (field e ∷ []) (map field rest)
 
-  put_named : (seen : List (List ℕ)) (ts : List TypedName) (es : List (Node × Node)) → AreAmong ts seen →
+  put_named : (seen : List (List ℕ)) (ts : List TypedName) (es : List (Scalar × Node)) → AreAmong ts seen →
       put_all put_new ts (map field (firsts_by named_among seen es)) ≡ ts ++ map field (firsts_by named_among seen es)
   put_named seen ts [] h = sym (append-nil ts)
   put_named seen ts (e ∷ es) h =

@@ -4,7 +4,8 @@ use Rattle.std.proofs.lemmas.List.{drop_more}
 use Rattle.std.specs.Option.{option_map_or}
 use Rattle.std.specs.Prelude.{Option, option_map, if◌then◌else◌, unwrap_or}
 use Rattle.std.specs.Borrow.{Bor}
-use Rattle.al_tree.specs.Keys.{key_of, key_text}
+use Rattle.al_scalar.specs.Scalar.{Scalar, text_of}
+use Rattle.al_tree.specs.Keys.{key_of}
 use Rattle.al_tree.specs.Names.{is_combination_key}
 use Rattle.al_types.specs.FusedFields.{are_distinct}
 use Rattle.al_types.specs.Puts.{TypedName, firsts, put_or_fuse, put_all, put_new}
@@ -29,7 +30,7 @@ combination_by n None empty none is =
     ap (λ es. firsts (fields_of (entries_of (map entry_view es)))) none ∙ ap (λ m. option_map_or (λ es. firsts (fields_of (entries_of es))) m []) is
 combination_by n (Some es) empty none is = ap (λ m. option_map_or (λ es. firsts (fields_of (entries_of es))) m []) is
 
-distinct_fields : (o : Option (List (Node × Node))) → are_distinct (option_map_or (λ es. firsts (fields_of (entries_of es))) o []) ≡ true
+distinct_fields : (o : Option (List (Scalar × Node))) → are_distinct (option_map_or (λ es. firsts (fields_of (entries_of es))) o []) ≡ true
 distinct_fields None = refl
 distinct_fields (Some es) = firsts_distinct (fields_of (entries_of es))
 
@@ -63,7 +64,7 @@ items_next g xs i x sofar new lt e step =
 -- ---- the fields of entries, with one more entry
 
 pub entries_next : (es : List code_entry.Entry) (i : ℕ) (x : code_entry.Entry) (ts us : List TypedName) → i < length es → x ≡ get_or es i x →
-    us ≡ put_new ts (key_text (view x.key), node_type (view x.value)) →
+    us ≡ put_new ts (text_of x.key, node_type (view x.value)) →
     put_all put_new us (fields_of (entries_of (map entry_view (drop (i + 1) es)))) ≡ put_all put_new ts (fields_of (entries_of (map entry_view (drop i es))))
 entries_next es i x ts us lt e is =
     let rest = map entry_view (drop (i + 1) es) in
@@ -73,5 +74,5 @@ entries_next es i x ts us lt e is =
 
 -- ---- whether an entry is a row
 
-pub row_by : (e : Node × Node) (b : Bool) → is_combination_key (key_of e) ≡ b → row_field e ≡ (if b then None else Some (key_of e, row_type e.1))
+pub row_by : (e : Scalar × Node) (b : Bool) → is_combination_key (key_of e) ≡ b → row_field e ≡ (if b then None else Some (key_of e, row_type e.1))
 row_by e b is = ap (λ b. if b then None else Some (key_of e, row_type e.1)) is

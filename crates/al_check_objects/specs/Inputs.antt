@@ -1,5 +1,6 @@
 -- The types of `inputs` (GitHub, "Contexts reference", `inputs`).
 use Rattle.std.specs.Prelude.{ℕ, List, [], ◌∷◌, codes, map}
+use Rattle.al_scalar.specs.Scalar.{Scalar}
 use Rattle.al_types.specs.Types.{Type', Number, Bool', String}
 use Rattle.al_yaml_tree.specs.Node.{Node}
 use Rattle.al_tree.specs.Keys.{key_of, keys_in}
@@ -19,7 +20,7 @@ input_type input.Boolean = Bool'
 input_type input.Number = Number
 input_type input.String = String
 
-abbrev pub input_field : Node × Node → TypedName
+abbrev pub input_field : Scalar × Node → TypedName
 input_field e = (key_of e, input_type (input_of e.1))
 
 -- the inputs that an event declares

@@ -13,7 +13,7 @@ use Rattle.al_yaml_tree.specs.Access.{mapping_in, scalar_in}
 use Rattle.al_yaml_tree.specs.Node.{Node, Nodes, Entries, scalar, sequence, mapping, no_nodes, item, no_entries, entry}
 use Rattle.al_yaml_tree.specs.View.{entries_of, nodes_of}
 use Rattle.al_tree.specs.Faults.{has_chunk}
-use Rattle.al_tree.specs.Keys.{key_of, key_text}
+use Rattle.al_tree.specs.Keys.{key_of}
 use Rattle.al_tree.specs.Names.{is_combination_key}
 use Rattle.al_tree.specs.Values.{entries_in, items_in, value_at, value_below}
 use Rattle.al_check_objects.specs.Objects.{loose_any, strictly}
@@ -45,14 +45,14 @@ abbrev mutual
 
   pub fields_of : Entries → List TypedName
   fields_of no_entries = []
-  fields_of (entry k v es) = (key_text k, node_type v) ∷ fields_of es
+  fields_of (entry k v es) = (text_of k, node_type v) ∷ fields_of es
 
 -- the type of a row: what its items have in common, or any if it has none
 abbrev pub row_type : Node → Type'
 row_type n = or_any (option_of (items_type Absent (nodes_of (items_in n))))
 
 -- the rows of a matrix, each of which has a name
-abbrev pub row_field : Node × Node → Option TypedName
+abbrev pub row_field : Scalar × Node → Option TypedName
 row_field e = if is_combination_key (key_of e) then None else Some (key_of e, row_type e.1)
 
 abbrev pub rows_of : Node → List TypedName

@@ -11,7 +11,7 @@ use crate::field_lists::FieldList;
 use crate::objects::declared_strings;
 use crate::scalars::type_of_input;
 use al_expr_types::{Ty, Types};
-use al_tree::{FileKind, declared_at, input_of, key_text, value, value_below_three};
+use al_tree::{FileKind, declared_at, input_of, value, value_below_three};
 use al_yaml_tree::Node;
 use std::alloc::AllocError;
 
@@ -27,7 +27,7 @@ fn event_inputs<'a>(types: &mut Types<'a>, root: &'a Node, event: &str) -> Resul
     let mut fields = FieldList::new(types.alloc());
     for input in declared.as_slice() {
         let ty = Ty::scalar(type_of_input(input_of(input.value)));
-        fields = fields.and(key_text(input.key), ty)?;
+        fields = fields.and(input.key.text(), ty)?;
     }
     fields.into_type(types, None)
 }

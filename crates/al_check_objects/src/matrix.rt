@@ -18,9 +18,7 @@ use crate::scalars::class_type_of;
 use al_expr_types::{Join, Ty, Types};
 use al_rules_formats::{Around, is_lone_chunk};
 use al_scalar::Scalar;
-use al_tree::{
-    contains_chunk, is_combination_key, items, key_of, key_text, members, value, value_below_two,
-};
+use al_tree::{contains_chunk, is_combination_key, items, key_of, members, value, value_below_two};
 use al_yaml_tree::{Entry, Node};
 use std::alloc::{AllocError, Global};
 
@@ -87,11 +85,11 @@ fn rows_type<'a>(types: &mut Types<'a>, node: &'a Node) -> Result<Ty, AllocError
     let mut rows = FieldList::new(types.alloc());
     let entries = members(types.alloc(), node)?;
     for entry in entries.as_slice() {
-        if is_combination_key(key_text(entry.key)) {
+        if is_combination_key(entry.key.text()) {
             continue;
         }
         let ty = items_type(types, items(entry.value))?;
-        rows = rows.and(key_text(entry.key), ty)?;
+        rows = rows.and(entry.key.text(), ty)?;
     }
     rows.into_type(types, None)
 }

@@ -13,7 +13,7 @@ ghost use Rattle.al_types.specs.Types.{object_with};
 
 use crate::field_lists::FieldList;
 use al_expr_types::{FieldMap, Ty, Types};
-use al_tree::{Member, key_text};
+use al_tree::Member;
 use std::alloc::AllocError;
 
 /// The object with these fields, which must have different names, and with others of the type `rest`, if given. Fails with `AllocError`
@@ -40,7 +40,7 @@ pub fn declared_strings<'a>(types: &mut Types<'a>, entries: &[Member<'a>]) -> Re
 {
     let mut fields = FieldList::new(types.alloc());
     for entry in entries {
-        fields = fields.and(key_text(entry.key), Ty::STRING)?;
+        fields = fields.and(entry.key.text(), Ty::STRING)?;
     }
     fields.into_type(types, None)
 }

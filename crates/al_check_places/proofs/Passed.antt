@@ -8,12 +8,12 @@ use Rattle.std.proofs.lemmas.List.Elements.{filter_map-append}
 use Rattle.std.proofs.lemmas.Slice.Eq.{bytes_eq-Decides}
 use Rattle.std.specs.List.{ends_with, list_any}
 use Rattle.std.specs.Str.{bytes_eq}
-use Rattle.al_scalar.specs.Scalar.{text_of}
+use Rattle.al_scalar.specs.Scalar.{Scalar, text_of}
 use Rattle.al_yaml_tree.specs.Node.{Node, scalar}
 use Rattle.al_yaml_tree.specs.View.{entries_of, entry_view}
 use Rattle.al_yaml_tree.specs.declared.node.Entry.{Entry}
 use Rattle.al_tree.specs.Faults.{Standing, expected, has_chunk, standing}
-use Rattle.al_tree.specs.Keys.{key_of, key_text}
+use Rattle.al_tree.specs.Keys.{key_of}
 use Rattle.al_base.specs.Names.{among}
 use Rattle.al_tree.specs.Table.{Keys}
 use Rattle.al_tree.specs.declared.files.FileKind.{FileKind}
@@ -44,11 +44,11 @@ no_condition (a ∷ b ∷ c ∷ d ∷ ks) key h =
     let four : (4 == n) ≡ false = grind (arith, nat_tests, length-append ks (key ∷ [])) in
     rw (two, three, four) refl
 
-pub no_place : (kind : FileKind) (st : Standing) (way : List WayStep) (key node : Node) → may_have_expression (key, node) ≡ false
-    → entry_places st (λ s. places_of_node kind s false (way ++ under (key_text key) ∷ []) node) ≡ []
+pub no_place : (kind : FileKind) (st : Standing) (way : List WayStep) (key : Scalar) (node : Node) → may_have_expression (key, node) ≡ false
+    → entry_places st (λ s. places_of_node kind s false (way ++ under (text_of key) ∷ []) node) ≡ []
 no_place kind (expected shape clash) way key (scalar s) h =
-    let parts = or_parts (ends_with nat_eq (key_text key) (codes "if")) (has_chunk (text_of s)) h in
-    rw (filter_map-append step_key way (under (key_text key) ∷ []), no_condition (keys_of way) (key_text key) parts.0, parts.1) refl
+    let parts = or_parts (ends_with nat_eq (text_of key) (codes "if")) (has_chunk (text_of s)) h in
+    rw (filter_map-append step_key way (under (text_of key) ∷ []), no_condition (keys_of way) (text_of key) parts.0, parts.1) refl
 no_place kind (expected shape clash) way key node h = absurd cc
 no_place kind st way key node h = refl
 

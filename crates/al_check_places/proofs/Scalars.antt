@@ -12,7 +12,7 @@ use Rattle.al_yaml_tree.specs.Node.{Each, EachEntry, EachItem}
 use Rattle.al_yaml_tree.specs.Node.{Node, Nodes, Entries, scalar, sequence, mapping, no_nodes, item, no_entries, entry}
 use Rattle.al_yaml_tree.specs.Spans.{LiesAround}
 use Rattle.al_tree.specs.Faults.{Standing, expected, mapping_shape, standing}
-use Rattle.al_tree.specs.Keys.{key_text, keys_in}
+use Rattle.al_tree.specs.Keys.{keys_in}
 use Rattle.al_base.specs.Names.{among}
 use Rattle.al_tree.specs.Table.{Keys, rule}
 use Rattle.al_tree.specs.declared.table.Shape.{Shape}
@@ -57,11 +57,11 @@ module _ (S : Scalar → Type 0) (around : Span → Type 0 → Type 0) (inner : 
         → AllPlaces (places_of_entries k ks seen all way es)
     entry_places_hold no_entries h k ks seen all way = tt
     entry_places_hold (entry key v es) h k ks seen all way =
-        each_both P (entry_places (standing ks (among seen) all (key_text key)) (λ s. places_of_node k s false (way ++ under (key_text key) ∷ []) v))
-        (places_of_entries k ks (seen ++ key_text key ∷ []) all way es)
-        (some_entry (standing ks (among seen) all (key_text key)) (λ s. places_of_node k s false (way ++ under (key_text key) ∷ []) v)
-        (λ s. node_places v h.1 k s false (way ++ under (key_text key) ∷ [])))
-        (entry_places_hold es h.2 k ks (seen ++ key_text key ∷ []) all way)
+        each_both P (entry_places (standing ks (among seen) all (text_of key)) (λ s. places_of_node k s false (way ++ under (text_of key) ∷ []) v))
+        (places_of_entries k ks (seen ++ text_of key ∷ []) all way es)
+        (some_entry (standing ks (among seen) all (text_of key)) (λ s. places_of_node k s false (way ++ under (text_of key) ∷ []) v)
+        (λ s. node_places v h.1 k s false (way ++ under (text_of key) ∷ [])))
+        (entry_places_hold es h.2 k ks (seen ++ text_of key ∷ []) all way)
 
   pub each_place : (kind : FileKind) (root : Node) → Each S around root → All P (places_of kind root)
   each_place kind root h = All-from_recursion P (places_of kind root) (node_places root h kind (shape_of kind) false [])

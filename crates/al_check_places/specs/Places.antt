@@ -7,7 +7,7 @@ use Rattle.al_scalar.specs.Scalar.{Scalar, text_of}
 use Rattle.al_yaml_tree.specs.Access.{entries}
 use Rattle.al_yaml_tree.specs.Node.{Node, Nodes, Entries, scalar, sequence, mapping, no_nodes, item, no_entries, entry}
 use Rattle.al_tree.specs.Faults.{Standing, expected, standing, mapping_shape, scalar_fault, has_chunk, is_null}
-use Rattle.al_tree.specs.Keys.{key_text, keys_in}
+use Rattle.al_tree.specs.Keys.{keys_in}
 use Rattle.al_base.specs.Names.{among}
 use Rattle.al_tree.specs.Table.{Rule, Keys, no_keys, free, rule}
 use Rattle.al_tree.specs.declared.table.Shape.{Shape}
@@ -89,8 +89,8 @@ abbrev mutual
   pub places_of_entries : FileKind → Keys → List (List ℕ) → (List ℕ → Bool) → List WayStep → Entries → List Place
   places_of_entries k ks seen all way no_entries = []
   places_of_entries k ks seen all way (entry key v es) =
-      entry_places (standing ks (among seen) all (key_text key)) (λ s. places_of_node k s false (way ++ under (key_text key) ∷ []) v)
-      ++ places_of_entries k ks (seen ++ key_text key ∷ []) all way es
+      entry_places (standing ks (among seen) all (text_of key)) (λ s. places_of_node k s false (way ++ under (text_of key) ∷ []) v)
+      ++ places_of_entries k ks (seen ++ text_of key ∷ []) all way es
 
 -- the places of a file with this root
 abbrev pub places_of : FileKind → Node → List Place

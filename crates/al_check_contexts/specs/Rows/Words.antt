@@ -44,7 +44,7 @@ abbrev mutual
 
   pub texts_of_entries : Entries → List (List ℕ)
   texts_of_entries no_entries = []
-  texts_of_entries (entry k v es) = texts_of k ++ texts_of v ++ texts_of_entries es
+  texts_of_entries (entry k v es) = text_of k ∷ texts_of v ++ texts_of_entries es
 
 abbrev pub is_any : Type' → Bool
 is_any types.Any = true

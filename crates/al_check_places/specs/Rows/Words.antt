@@ -5,6 +5,7 @@ use Rattle.std.specs.Option.{option_map_or}
 use Rattle.al_check_places.specs.Places.{Place, places_of}
 use Rattle.al_tree.specs.Rows.Files.{at}
 use Rattle.al_scalar.specs.Line.{Cell}
+use Rattle.al_scalar.specs.Scalar.{Scalar}
 use Rattle.al_scalar.specs.declared.styles.Class.{Class}
 use Rattle.al_scalar.specs.declared.styles.Class.TheVariants.{Str}
 use Rattle.al_scalar.specs.declared.styles.Style.{Style}
@@ -17,15 +18,25 @@ abbrev pub run : List ℕ → ℕ → List Cell
 run [] i = []
 run (b ∷ bs) i = (b, i) ∷ run bs (i + 1)
 
+abbrev pub written : Style → Class → List Cell → ℕ → ℕ → Scalar
+written s c cs i j = record { style = s; class = c; cells = cs; span = at i j }
+
+-- a key in quotes, and a plain one on one line, from an offset on
+abbrev pub quoted : Style → List Cell → ℕ → ℕ → Scalar
+quoted s = written s Str
+
+abbrev pub key : List ℕ → ℕ → Scalar
+key bs i = written Plain Str (run bs i) i (i + length bs)
+
 abbrev pub text : Style → Class → List Cell → ℕ → ℕ → Node
-text s c cs i j = scalar (record { style = s; class = c; cells = cs; span = at i j })
+text s c cs i j = scalar (written s c cs i j)
 
 -- a plain scalar on one line, from an offset on
 abbrev pub plain : Class → List ℕ → ℕ → Node
 plain c bs i = text Plain c (run bs i) i (i + length bs)
 
 abbrev pub word : List ℕ → ℕ → Node
-word = plain Str
+word bs i = scalar (key bs i)
 
 -- where a place starts, whether it takes only a scalar, is a condition, is a script, and how many contexts (99: all) and special
 -- functions are available there

@@ -18,7 +18,7 @@ loop-input-preserved c = λ types.
       is = c.scalar-ty.ensures.ty (objects_of types) ∙ c.type_of_input.ensures ∙ ap input_type c.input_of.ensures;
     } in
     rw (put_next member_of input_field [] c.as_slice-input-items.result.now c.loop-input.input-index x c.loop-input-test.true c.input-item.is)
-    (rw c.key_text.ensures at (c.in_ok-fields.ensures types _ _ (c.loop-input.invariant types) means))
+    (rw c.text.ensures at (c.in_ok-fields.ensures types _ _ (c.loop-input.invariant types) means))
 
 pub into_type-requires-clause-fields : goal.into_type-requires-clause-fields
 into_type-requires-clause-fields c = (c.loop-input.invariant c.args.types.now).known

@@ -16,7 +16,7 @@ pub loop-entry-preserved-then-is_combination_key : goal.loop-entry-preserved-the
 loop-entry-preserved-then-is_combination_key c =
     let x = c.entry-item.result in
     let was = c.loop-entry.invariant in
-    let row = row_by (member_of x) _ (ap is_combination_key (sym c.key_text.ensures) ∙ sym c.is_combination_key.ensures ∙ c.if-is_combination_key.true) in
+    let row = row_by (member_of x) _ (ap is_combination_key (sym c.text.ensures) ∙ sym c.is_combination_key.ensures ∙ c.if-is_combination_key.true) in
     record {
       rows = rw (put_if_next member_of row_field [] c.as_slice-entry-items.result.now c.loop-entry.entry-index x c.loop-entry-test.true c.entry-item.is, row) was.rows;
       kept = was.kept;
@@ -29,11 +29,11 @@ loop-entry-preserved c =
     let before = c.loop-entry.types in
     let now = c.items_type.new.types in
     let made = c.in_ok-ty.ensures in
-    let row = row_by (member_of x) _ (ap is_combination_key (sym c.key_text.ensures) ∙ sym c.is_combination_key.ensures ∙ c.if-is_combination_key.false) in
+    let row = row_by (member_of x) _ (ap is_combination_key (sym c.text.ensures) ∙ sym c.is_combination_key.ensures ∙ c.if-is_combination_key.false) in
     let more = c.in_ok-rows.ensures now _ _ (lists_stay now before c.loop-entry.rows _ made.kept was.rows) made.ty in
     record {
       rows = rw (put_if_next member_of row_field [] c.as_slice-entry-items.result.now c.loop-entry.entry-index x c.loop-entry-test.true c.entry-item.is, row)
-          (rw (c.items.ensures, c.key_text-in-loop-entry.ensures) at more);
+          (rw (c.items.ensures, c.text-in-loop-entry.ensures) at more);
       kept = begins_trans (objects_of c.args.types.now) (objects_of before) (objects_of now) was.kept made.kept;
     }
 

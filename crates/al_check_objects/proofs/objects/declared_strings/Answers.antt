@@ -12,7 +12,7 @@ use Rattle.al_check_objects.proofs.objects.declared_strings.Goals as goal
 pub loop-entry-preserved : goal.loop-entry-preserved
 loop-entry-preserved c = λ types.
     rw (put_next (λ m. key_of (member_of m)) (λ k. (k, String)) [] c.args.entries.now c.loop-entry.entry-index c.entry-item.result c.loop-entry-test.true c.entry-item.is)
-    (rw c.key_text.ensures at (c.in_ok-fields.ensures types _ String (c.loop-entry.invariant types) (string_means types)))
+    (rw c.text.ensures at (c.in_ok-fields.ensures types _ String (c.loop-entry.invariant types) (string_means types)))
 
 pub into_type-requires-clause-fields : goal.into_type-requires-clause-fields
 into_type-requires-clause-fields c = (c.loop-entry.invariant c.args.types.now).known

@@ -27,7 +27,7 @@ loop-i-preserved c =
     let lists = lists_stay now before c.loop-i.fields sofar c.in_ok-ty.ensures.made.kept c.loop-i.invariant.fields in
     record {
       fields = rw (put_next member_of field [] members i x c.loop-i-test.true c.index-members-i.is)
-          (rw c.key_text.ensures at (c.in_ok-fields.ensures now sofar _ lists means));
+          (rw c.text.ensures at (c.in_ok-fields.ensures now sofar _ lists means));
       keeps = c.in_ok-ty.ensures.keeps;
       kept = begins_trans (objects_of c.args.types.now) (objects_of before) (objects_of now) c.loop-i.invariant.kept c.in_ok-ty.ensures.made.kept;
     }

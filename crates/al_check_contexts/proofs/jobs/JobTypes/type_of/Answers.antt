@@ -11,7 +11,7 @@ use Rattle.al_check_contexts.proofs.jobs.JobTypes.type_of.Goals as goal
 
 pub returns-then-has_value-clause-made : goal.returns-then-has_value-clause-made
 returns-then-has_value-clause-made c =
-    rw (c.position-position.ensures, c.key_text.ensures, shown_by (known_from c.args.basis.now) (member_of c.args.job) true (sym c.has_value.ensures ∙ c.if-has_value.true))
+    rw (c.position-position.ensures, c.text.ensures, shown_by (known_from c.args.basis.now) (member_of c.args.job) true (sym c.has_value.ensures ∙ c.if-has_value.true))
     at c.called_type.ensures.made
 
 pub returns-then-has_value-clause-bare : goal.returns-then-has_value-clause-bare
