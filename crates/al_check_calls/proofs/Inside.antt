@@ -42,8 +42,8 @@ module _ (size : ℕ) where
   abbrev AllLie : List Fault → Type 0
   AllLie fs = AllByRecursion Lies fs
 
-  abbrev Pair : Node × Node → Type 0
-  Pair e = IsInside size e.0 × IsInside size e.1
+  abbrev Pair : Scalar × Node → Type 0
+  Pair e = LiesIn size e.0.span × IsInside size e.1
 
   abbrev GivenLies : Given → Type 0
   GivenLies v = Pair v.0
@@ -66,8 +66,8 @@ module _ (size : ℕ) where
   same_for_all f h [] = tt
   same_for_all f h (x ∷ xs) = each_both Lies (f x) (flat_map f xs) (h x) (same_for_all f h xs)
 
-  undefined_lies : (k : ParameterKind) (c : Call) (s : Signature) (e : Node × Node) → Pair e → AllLie (undefined_name k c s e)
-  undefined_lies k c s e p = search (unless, one_lies, node_lies)
+  undefined_lies : (k : ParameterKind) (c : Call) (s : Signature) (e : Scalar × Node) → Pair e → AllLie (undefined_name k c s e)
+  undefined_lies k c s e p = search (unless, one_lies)
 
   missing_lies : (k : ParameterKind) (c : Call) (s : Signature) → LiesIn size c.at → (i : Parameter) → AllLie (missing_name k c s i)
   missing_lies k c s at i = search (unless, one_lies)
@@ -85,7 +85,7 @@ module _ (size : ℕ) where
   kind_lies k c None p = tt
   kind_lies k c (Some s) p = names_lie k c s p
 
-  type_lies : (c : Call) (e : Node × Node) (t : Type') (i : Parameter) → Pair e → AllLie (type_faults c e t i)
+  type_lies : (c : Call) (e : Scalar × Node) (t : Type') (i : Parameter) → Pair e → AllLie (type_faults c e t i)
   type_lies c e t i p = unless (assignable_type t (input_type i.takes)) _ (node_lies e.1 p.1, tt)
 
   typed_lies : (c : Call) (v : Given) (o : Option Parameter) → GivenLies v → AllLie (option_map_or (type_faults c v.0 v.1) o [])
@@ -112,7 +112,7 @@ module _ (size : ℕ) where
   call_lies : (c : Call) (values : List Given) (answer : Option Interface) → CallLies c → AllByRecursion GivenLies values → AllLie (call_faults c values answer)
   call_lies c values answer p v = search (each_both Lies, uses_lie, values_against_lie, kind_lies) depth 7
 
-  values_lie : (typing : Node → Scalar → Type') (es : List (Node × Node)) → AllByRecursion Pair es → AllByRecursion GivenLies (values_of typing es)
+  values_lie : (typing : Scalar → Scalar → Type') (es : List (Scalar × Node)) → AllByRecursion Pair es → AllByRecursion GivenLies (values_of typing es)
   values_lie typing [] p = tt
   values_lie typing (e ∷ es) p = (p.0, values_lie typing es p.1)
 

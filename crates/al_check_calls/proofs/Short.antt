@@ -1,11 +1,12 @@
 -- The texts of a file that was read are short, and so are those of the nodes that call.
 use Rattle.std.proofs.Common.{◌≡◌, ℕ, List, map, Option, Some, subst}
-use Rattle.std.specs.Prelude.{All, IfSome}
+use Rattle.std.specs.Prelude.{All, IfSome, IsUtf8}
 use Rattle.std.specs.List.{AllByRecursion}
 use Rattle.std.proofs.lemmas.List.Elements.{All-from_recursion, All-same}
-use Rattle.al_scalar.specs.Scalar.{Scalar}
+use Rattle.al_scalar.specs.Scalar.{Scalar, text_of}
 use Rattle.al_yaml_tree.specs.Access.{entries, nodes, scalar_in}
 use Rattle.al_yaml_tree.specs.Node.{Node, Nodes, Entries, scalar, sequence, mapping, no_nodes, item, no_entries, entry}
+use Rattle.al_yaml_tree.proofs.LaidLemmas.{Laid}
 use Rattle.al_yaml_tree.specs.Spans.{AreLaid, EntriesLaid, IsLaid}
 use Rattle.al_yaml_tree.specs.Texts.{EntriesHaveTexts, HasTexts, HaveTexts}
 use Rattle.al_yaml_tree.specs.View.{view}
@@ -23,9 +24,12 @@ use Rattle.al_check_calls.specs.declared.answers.Answered as code
 use Rattle.al_check_calls.proofs.Answering.{each_answered}
 use Rattle.al_check_calls.specs.FileCalls.{AreShort, EntriesShort, IsShort, ItemsShort}
 
+short_scalar : (s : Scalar) → Laid 1048576 1048576 s → IsUtf8 (text_of s) → IsShort s
+short_scalar s w t = (t, (readable s w.1 (w.0).inside).0)
+
 mutual
   short_all : (n : Node) → IsLaid 1048576 n → HasTexts n → AreShort n
-  short_all (scalar s) w t = (t, (readable s w.1 (w.0).inside).0)
+  short_all (scalar s) w t = short_scalar s w t
   short_all (sequence ns at) w t = short_items ns w.1 t
   short_all (mapping es at) w t = short_entries es w.1 t
 
@@ -35,7 +39,7 @@ mutual
 
   short_entries : (es : Entries) → EntriesLaid 1048576 es → EntriesHaveTexts es → EntriesShort es
   short_entries no_entries w t = tt
-  short_entries (entry k v es) w t = (short_all k w.0 t.0, short_all v w.1 t.1, short_entries es w.2 t.2)
+  short_entries (entry k v es) w t = (short_scalar k w.0 t.0, short_all v w.1 t.1, short_entries es w.2 t.2)
 
 -- ---- what is true of a node is true of the nodes in it
 

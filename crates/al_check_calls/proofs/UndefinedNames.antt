@@ -18,7 +18,8 @@ use Rattle.al_base.specs.Growth.{SameSet}
 use Rattle.al_base.specs.contracts.faults.SpanPartialEq.TheImpl as span_eq
 use Rattle.al_base.specs.declared.codes.Code.TheVariants as kind_of_code
 use Rattle.al_base.specs.declared.faults.Fault.{Fault}
-use Rattle.al_yaml_tree.specs.Node.{Node, span_of}
+use Rattle.al_scalar.specs.Scalar.{Scalar}
+use Rattle.al_yaml_tree.specs.Node.{Node}
 use Rattle.al_tree.specs.Keys.{key_of}
 use Rattle.al_check_interfaces.specs.Kinds.{parameters_of}
 use Rattle.al_check_interfaces.specs.Parameters.{has_parameter}
@@ -37,7 +38,7 @@ all_names (q ∷ qs) =
     flat_map-append undefined_at (names_by q) (flat_map names_by qs)
     ∙ λ i. flat_map-map undefined_at (name_by q) (given_by q.kind q.call.site.node) i ++ all_names qs i
 
-given_by_one : (q : Comparison) (es : List (Node × Node)) (n : GivenName) → Contains (map (name_by q) es) n → q ≡ n.by
+given_by_one : (q : Comparison) (es : List (Scalar × Node)) (n : GivenName) → Contains (map (name_by q) es) n → q ≡ n.by
 given_by_one q es n = All-contains (λ m. q ≡ m.by) (map (name_by q) es) n (All-map (λ m. q ≡ m.by) (name_by q) es (λ k d within. refl))
 
 tell_names : (qs : List Comparison) → TellSignatures qs → TellSignaturesBy (flat_map names_by qs)
@@ -72,12 +73,12 @@ added_there old new more s f c = (s f).1 (Contains-append_right old more f c)
 same_name : (n m : GivenName) → HaveOneSignature n.by m.by → is_same_name_given n m ≡ true → undefined_at n ≡ undefined_at m
 same_name n m tells h =
     let text = bytes_eq (key_of n.entry) (key_of m.entry) in
-    let place = span_eq.ghosts.eq (span_of n.entry.0) (span_of m.entry.0) in
+    let place = span_eq.ghosts.eq n.entry.0.span m.entry.0.span in
     let p = and_parts (call_alike n.by m.by) (text && place) h in
     let t = and_parts text place p.1 in
     let alike = likeness n.by m.by p.0 in
     let name : key_of n.entry ≡ key_of m.entry = (bytes_eq-Decides (key_of n.entry) (key_of m.entry)).0 t.0 in
-    let at = span_exact (span_of n.entry.0) (span_of m.entry.0) t.1 in
+    let at = span_exact n.entry.0.span m.entry.0.span t.1 in
     let kind = alike.kind in
     let by = alike.by in
     let uses = alike.text in

@@ -28,7 +28,7 @@ calls_with_answers (c ∷ cs) answers =
 
 -- the type of a value that a call passes, by its key and its scalar
 abbrev pub Typing : Type 0
-Typing = Site → Node → Scalar → Type'
+Typing = Site → Scalar → Scalar → Type'
 
 -- the values under `with` of a call, each with its type
 abbrev pub values_in : Typing → Call → List Given

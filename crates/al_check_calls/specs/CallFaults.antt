@@ -66,7 +66,7 @@ abbrev pub called_name : Call → Signature → List ℕ
 called_name c s = option_map_or (λ n. n) s.name c.text
 
 -- the parameters of each kind that a call passes, and their faults: a name that isn't declared is C2 or C5, one that is missing C3 or C6
-abbrev pub given_by : ParameterKind → Node → List (Node × Node)
+abbrev pub given_by : ParameterKind → Node → List (Scalar × Node)
 given_by kind.Input n = entries_at (codes "with") n
 given_by kind.Secret n = entries_at (codes "secrets") n
 
@@ -87,9 +87,9 @@ is_free_for kind.Secret by name = false
 abbrev pub is_taken : ParameterKind → Call → Signature → List ℕ → Bool
 is_taken k c s name = has_parameter (parameters_of k s) name || is_free_for k (site_caller c.site) name
 
-abbrev pub undefined_name : ParameterKind → Call → Signature → Node × Node → List Fault
+abbrev pub undefined_name : ParameterKind → Call → Signature → Scalar × Node → List Fault
 undefined_name k c s e =
-    if is_taken k c s (key_of e) then [] else call_fault (undefined_code k) c (span_of e.0) (key_of e ∷ called_name c s ∷ []) ∷ []
+    if is_taken k c s (key_of e) then [] else call_fault (undefined_code k) c e.0.span (key_of e ∷ called_name c s ∷ []) ∷ []
 
 abbrev pub missing_name : ParameterKind → Call → Signature → Parameter → List Fault
 missing_name k c s p =
@@ -125,19 +125,19 @@ type_name input.Boolean = codes "boolean"
 type_name input.Number = codes "number"
 type_name input.String = codes "string"
 
-abbrev pub type_faults : Call → Node × Node → Type' → Parameter → List Fault
+abbrev pub type_faults : Call → Scalar × Node → Type' → Parameter → List Fault
 type_faults c e t i =
     if assignable_type t (input_type i.takes) then []
     else call_fault code.WrongInput c (span_of e.1) (i.name ∷ type_name i.takes ∷ []) ∷ []
 
 -- a value that a call passes, with its type, which is any if the value isn't a scalar
 abbrev pub Given : Type 0
-Given = (Node × Node) × Type'
+Given = (Scalar × Node) × Type'
 
-abbrev pub given_type : (Node → Scalar → Type') → Node × Node → Type'
+abbrev pub given_type : (Scalar → Scalar → Type') → Scalar × Node → Type'
 given_type type_of e = option_map_or (type_of e.0) (scalar_in e.1) Any
 
-abbrev pub values_of : (Node → Scalar → Type') → List (Node × Node) → List Given
+abbrev pub values_of : (Scalar → Scalar → Type') → List (Scalar × Node) → List Given
 values_of type_of = map (λ e. (e, given_type type_of e))
 
 -- C4: a value of the wrong type

@@ -6,7 +6,6 @@ use Rattle.al_base.specs.Limits.{longest_text}
 use Rattle.al_scalar.specs.Scalar.{Scalar, text_of}
 use Rattle.al_types.specs.Types.{Type'}
 use Rattle.al_yaml_tree.specs.Node.{Node, Nodes, Entries, scalar, sequence, mapping, no_nodes, item, no_entries, entry}
-use Rattle.al_tree.specs.Keys.{key_text}
 use Rattle.al_tree.specs.declared.files.FileKind.{FileKind}
 use Rattle.al_tree.specs.declared.files.FileKind.TheVariants as kind
 use Rattle.al_check_places.specs.Places.{Place, place_at}
@@ -29,13 +28,13 @@ abbrev pub known_from_calls : List Answered → OutputNames
 known_from_calls found = known_in (map known_of_call found)
 
 -- the place of the value under a key of `with` of a job
-abbrev pub place_of_value : List ℕ → Node → Scalar → Place
+abbrev pub place_of_value : List ℕ → Scalar → Scalar → Place
 place_of_value job key s =
-    let way = under (codes "jobs") ∷ under job ∷ under (codes "with") ∷ under (key_text key) ∷ [] in
+    let way = under (codes "jobs") ∷ under job ∷ under (codes "with") ∷ under (text_of key) ∷ [] in
     place_at kind.Workflow way true s
 
 -- its type, given what expressions can refer to there
-abbrev pub value_type_in_job : FileKind → OutputNames → Node → List ℕ → Node → Scalar → Type'
+abbrev pub value_type_in_job : FileKind → OutputNames → Node → List ℕ → Scalar → Scalar → Type'
 value_type_in_job kind known root job key s = type_of_given (scope_at kind known root (place_of_value job key s)) s
 
 -- the types of the values that calls pass; those of steps aren't used
@@ -69,4 +68,4 @@ abbrev mutual
 
   pub EntriesShort : Entries → Type 0
   EntriesShort no_entries = Unit {0}
-  EntriesShort (entry k v es) = AreShort k × AreShort v × EntriesShort es
+  EntriesShort (entry k v es) = IsShort k × AreShort v × EntriesShort es

@@ -12,7 +12,7 @@ use crate::comparisons::{Comparison, call_alike, given_by};
 use crate::reports::{called_name, code_at, uses_text};
 use al_base::{CallCode, Caller, FaultSink};
 use al_check_interfaces::{ParameterKind, caller_of};
-use al_tree::{Member, is_named_among, key_text};
+use al_tree::{Member, is_named_among};
 use std::alloc::{AllocError, Global};
 
 /// A name that a call gives.
@@ -53,7 +53,7 @@ fn undefined_code(kind: ParameterKind) -> CallCode
 fn check_name(name: GivenName<'_>, faults: &mut FaultSink) -> Result<(), AllocError>
     ensures { OnOk result (faults.new ≡ faults.old ++ comparing.undefined_at (name_of name.entry)) }
 {
-    let text = key_text(name.member.key);
+    let text = name.member.key.text();
     if is_taken(name.by, text)? {
         return Ok(());
     }
@@ -67,7 +67,7 @@ fn is_same_name_given(one: GivenName<'_>, other: GivenName<'_>) -> bool
     ensures { result ≡ comparing.is_same_name_given (name_of one.entry) (name_of other.entry) }
 {
     call_alike(one.by, other.by)
-        && key_text(one.member.key) == key_text(other.member.key)
+        && one.member.key.text() == other.member.key.text()
         && one.member.key.span() == other.member.key.span()
 }
 

@@ -24,18 +24,18 @@ use al_check_objects::type_of_input;
 use al_check_places::{Place, Position, Section, Seen, available};
 use al_expr_types::Ty;
 use al_scalar::Scalar;
-use al_tree::{InputType, Member, key_text, members_under};
+use al_tree::{InputType, Member, members_under};
 use al_yaml_tree::Node;
 use std::alloc::AllocError;
 
 /// The place of the value of a key under `with` of a job.
-fn place_of_value<'a>(job: &'a [u8], key: &'a Node, scalar: &'a Scalar) -> Place<'a>
-    ensures { place_of result ≡ file_calls.place_of_value job.now (view key.now) scalar.now }
+fn place_of_value<'a>(job: &'a [u8], key: &'a Scalar, scalar: &'a Scalar) -> Place<'a>
+    ensures { place_of result ≡ file_calls.place_of_value job.now key.now scalar.now }
 {
     Place {
         scalar,
         is_scalar_only: true,
-        available: available(&[b"jobs".as_slice(), job, b"with".as_slice(), key_text(key)]),
+        available: available(&[b"jobs".as_slice(), job, b"with".as_slice(), key.text()]),
         is_condition: false,
         is_script: false,
         position: Position {
@@ -88,7 +88,7 @@ fn check_value<'a>(
         ++ wrong_value (typing_in (file_of env.old)) (call_of call.entry) inputs.now
         (member_of member.entry)) }
 {
-    let Some(input) = inputs.find(key_text(member.key))? else {
+    let Some(input) = inputs.find(member.key.text())? else {
         return Ok(());
     };
     let job = call.site.job.unwrap_or(&[]);

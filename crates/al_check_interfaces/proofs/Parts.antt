@@ -21,7 +21,7 @@ module _ {P : Node → Type 0} {Q : Scalar → Type 0} (kept : AreKept P Q) wher
   steps_kept : (job : Option (List ℕ)) (steps : List Node) → AllByRecursion P steps → AllByRecursion IsSiteKept (step_sites job steps)
   steps_kept job steps p = each_as (λ s. P s.1) IsSiteKept (λ s. record { job = job; step = Some s.0; node = s.1 }) (λ s q. q) (enumerate_from 0 steps) (numbered_kept P 0 steps p)
 
-  job_kept : (j : Node × Node) → Pair P j → AllByRecursion IsSiteKept (job_sites j)
+  job_kept : (j : Scalar × Node) → Pair P j → AllByRecursion IsSiteKept (job_sites j)
   job_kept j p = (p.1, steps_kept (Some (key_of j)) (items_at (codes "steps") j.1) (items_kept kept (codes "steps") j.1 p.1))
 
   runs_kept : (root : Node) → P root → AllByRecursion P (action_steps root)

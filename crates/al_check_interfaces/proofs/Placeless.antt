@@ -11,7 +11,7 @@ use Rattle.al_scalar.specs.Scalar.{Scalar, text_of}
 use Rattle.al_yaml_tree.specs.Access.{entries, nodes, scalar_in}
 use Rattle.al_yaml_tree.specs.Node.{Node, Nodes, Entries, scalar, sequence, mapping, no_nodes, item, no_entries, entry}
 use Rattle.al_tree.specs.Faults.{is_key, is_null, value_in}
-use Rattle.al_tree.specs.Keys.{key_of, key_text}
+use Rattle.al_tree.specs.Keys.{key_of}
 use Rattle.al_tree.specs.Values.{firsts_by, text_in, texts_in, value_at, value_below}
 use Rattle.al_tree.specs.declared.files.FileKind.{FileKind}
 use Rattle.al_tree.specs.declared.files.FileKind.TheVariants as kind
@@ -51,12 +51,9 @@ module _ {X : Type 0} (f : Option Scalar → X) (same : (s : Scalar) → f (Some
   of_text (sequence ns at) = refl
   of_text (mapping es at) = refl
 
-key_same : (key : Node) → key_text (placeless key) ≡ key_text key
-key_same = of_scalar (λ o. option_map_or text_of o []) text_same
-
 module _ {X : Type 0} (f : Option Node → X) (same : (n : Node) → f (Some (placeless n)) ≡ f (Some n)) where
-  of_first : (here : Bool) (key v : Node) (others rest : Option (Node × Node)) → f (option_map (λ e. e.1) others) ≡ f (option_map (λ e. e.1) rest) →
-      f (option_map (λ e. e.1) (cond here (Some (placeless key, placeless v)) others)) ≡ f (option_map (λ e. e.1) (cond here (Some (key, v)) rest))
+  of_first : (here : Bool) (key : Scalar) (v : Node) (others rest : Option (Scalar × Node)) → f (option_map (λ e. e.1) others) ≡ f (option_map (λ e. e.1) rest) →
+      f (option_map (λ e. e.1) (cond here (Some (placeless_scalar key, placeless v)) others)) ≡ f (option_map (λ e. e.1) (cond here (Some (key, v)) rest))
   of_first true key v others rest h = same v
   of_first false key v others rest h = h
 
@@ -64,8 +61,8 @@ module _ {X : Type 0} (f : Option Node → X) (same : (n : Node) → f (Some (pl
   of_found k no_entries = refl
   of_found k (entry key v es) =
       let others = find (is_key k) (entries (placeless_entries es)) in
-      ap (λ t. f (option_map (λ e. e.1) (cond (bytes_eq t k) (Some (placeless key, placeless v)) others))) (key_same key)
-      ∙ of_first (bytes_eq (key_text key) k) key v others (find (is_key k) (entries es)) (of_found k es)
+      ap (λ t. f (option_map (λ e. e.1) (cond (bytes_eq t k) (Some (placeless_scalar key, placeless v)) others))) (text_same key)
+      ∙ of_first (bytes_eq (text_of key) k) key v others (find (is_key k) (entries es)) (of_found k es)
 
   of_value : (k : List ℕ) (n : Node) → f (value_at k (placeless n)) ≡ f (value_at k n)
   of_value k (mapping es at) = of_found k es
@@ -83,23 +80,23 @@ of_text_at f same k n = of_value (λ o. f (option_and_then text_in o)) (of_text 
 
 -- ---- declared names: the first of equal ones
 
-abbrev placeless_entry : Node × Node → Node × Node
-placeless_entry e = (placeless e.0, placeless e.1)
+abbrev placeless_entry : Scalar × Node → Scalar × Node
+placeless_entry e = (placeless_scalar e.0, placeless e.1)
 
 entries_same : (es : Entries) → entries (placeless_entries es) ≡ map placeless_entry (entries es)
 entries_same no_entries = refl
-entries_same (entry k v es) = ap (λ ds. (placeless k, placeless v) ∷ ds) (entries_same es)
+entries_same (entry k v es) = ap (λ ds. (placeless_scalar k, placeless v) ∷ ds) (entries_same es)
 
-firsts_step : (b : Bool) (e : Node × Node) (es : List (Node × Node)) →
+firsts_step : (b : Bool) (e : Scalar × Node) (es : List (Scalar × Node)) →
     (if b then [] else placeless_entry e ∷ []) ++ map placeless_entry es ≡ map placeless_entry ((if b then [] else e ∷ []) ++ es)
 firsts_step true e es = refl
 firsts_step false e es = refl
 
-firsts_same : (is_in : List (List ℕ) → List ℕ → Bool) (seen : List (List ℕ)) (es : List (Node × Node)) →
+firsts_same : (is_in : List (List ℕ) → List ℕ → Bool) (seen : List (List ℕ)) (es : List (Scalar × Node)) →
     firsts_by is_in seen (map placeless_entry es) ≡ map placeless_entry (firsts_by is_in seen es)
 firsts_same is_in seen [] = refl
 firsts_same is_in seen (e ∷ es) =
-    ap (λ k. (if is_in seen k then [] else placeless_entry e ∷ []) ++ firsts_by is_in (seen ++ k ∷ []) (map placeless_entry es)) (key_same e.0)
+    ap (λ k. (if is_in seen k then [] else placeless_entry e ∷ []) ++ firsts_by is_in (seen ++ k ∷ []) (map placeless_entry es)) (text_same e.0)
     ∙ ap (λ ds. (if is_in seen (key_of e) then [] else placeless_entry e ∷ []) ++ ds) (firsts_same is_in (seen ++ key_of e ∷ []) es)
     ∙ firsts_step (is_in seen (key_of e)) e (firsts_by is_in (seen ++ key_of e ∷ []) es)
 
@@ -110,8 +107,8 @@ declared_same (mapping es at) =
 declared_same (scalar s) = refl
 declared_same (sequence ns at) = refl
 
-module _ {X : Type 0} (f : Node × Node → X) (same : (e : Node × Node) → f (placeless_entry e) ≡ f e) where
-  of_entries : (es : List (Node × Node)) → map f (map placeless_entry es) ≡ map f es
+module _ {X : Type 0} (f : Scalar × Node → X) (same : (e : Scalar × Node) → f (placeless_entry e) ≡ f e) where
+  of_entries : (es : List (Scalar × Node)) → map f (map placeless_entry es) ≡ map f es
   of_entries [] = refl
   of_entries (e ∷ es) = λ i. same e i ∷ of_entries es i
 
@@ -136,9 +133,9 @@ taken_same declared.CallInputs n =
 taken_same declared.ActionInputs n = refl
 taken_same declared.Secrets n = refl
 
-parameter_same : (by : Declaring) (e : Node × Node) → parameter by (placeless_entry e) ≡ parameter by e
+parameter_same : (by : Declaring) (e : Scalar × Node) → parameter by (placeless_entry e) ≡ parameter by e
 parameter_same by e = λ d. record {
-  name = key_same e.0 d;
+  name = text_same e.0 d;
   required = required_same e.1 d;
   has_default = default_same by e.1 d;
   takes = taken_same by e.1 d;
@@ -189,14 +186,14 @@ signature_same kind.Workflow n = λ d. record {
   role = workflow_role_same n d;
   inputs = of_declared (parameter declared.CallInputs) (parameter_same declared.CallInputs) (of_call (codes "inputs")) n d;
   secrets = of_declared (parameter declared.Secrets) (parameter_same declared.Secrets) (of_call (codes "secrets")) n d;
-  outputs = of_declared key_of (λ e. key_same e.0) (of_call (codes "outputs")) n d;
+  outputs = of_declared key_of (λ e. text_same e.0) (of_call (codes "outputs")) n d;
 }
 signature_same kind.Action n = λ d. record {
   name = name_same n d;
   role = action_role_same n d;
   inputs = of_declared (parameter declared.ActionInputs) (parameter_same declared.ActionInputs) (codes "inputs" ∷ []) n d;
   secrets = [];
-  outputs = of_declared key_of (λ e. key_same e.0) (codes "outputs" ∷ []) n d;
+  outputs = of_declared key_of (λ e. text_same e.0) (codes "outputs" ∷ []) n d;
 }
 
 pub no_places : ShowsNoPlaces

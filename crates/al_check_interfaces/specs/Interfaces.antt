@@ -41,7 +41,7 @@ abbrev pub type_taken : Declaring → Node → InputType
 type_taken declared.CallInputs n = input_of n
 type_taken by n = input.String
 
-abbrev pub parameter : Declaring → Node × Node → Parameter
+abbrev pub parameter : Declaring → Scalar × Node → Parameter
 parameter by e = record { name = key_of e; required = is_required e.1; has_default = has_default by e.1; takes = type_taken by e.1 }
 
 abbrev pub parameters : Declaring → List (List ℕ) → Node → List Parameter

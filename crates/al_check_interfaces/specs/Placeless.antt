@@ -26,7 +26,7 @@ abbrev mutual
 
   pub placeless_entries : Entries → Entries
   placeless_entries no_entries = no_entries
-  placeless_entries (entry k v es) = entry (placeless k) (placeless v) (placeless_entries es)
+  placeless_entries (entry k v es) = entry (placeless_scalar k) (placeless v) (placeless_entries es)
 
 -- trees that differ only in spans have the same interface
 abbrev pub ShowsNoPlaces : Type 0
@@ -34,7 +34,7 @@ ShowsNoPlaces = (kind : FileKind) (root : Node) → interface_of kind (placeless
 
 -- entries that differ only in other keys, such as a description, declare the same parameter
 abbrev pub ShowsNothingElse : Type 0
-ShowsNothingElse = (by : Declaring) (e f : Node × Node) → key_of e ≡ key_of f
+ShowsNothingElse = (by : Declaring) (e f : Scalar × Node) → key_of e ≡ key_of f
     → value_at (codes "required") e.1 ≡ value_at (codes "required") f.1
     → value_at (codes "default") e.1 ≡ value_at (codes "default") f.1
     → value_at (codes "type") e.1 ≡ value_at (codes "type") f.1

@@ -35,7 +35,7 @@ abbrev pub step_sites : Option (List ℕ) → List Node → List Site
 step_sites job steps =
     map (λ s. record { job = job; step = Some s.0; node = s.1 }) (enumerate_from 0 steps)
 
-abbrev pub job_sites : Node × Node → List Site
+abbrev pub job_sites : Scalar × Node → List Site
 job_sites j =
     record { job = Some (key_of j); step = None; node = j.1 }
     ∷ step_sites (Some (key_of j)) (items_at (codes "steps") j.1)

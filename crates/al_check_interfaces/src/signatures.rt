@@ -13,8 +13,8 @@ use crate::lists::Parameters;
 use al_base::is_same_name;
 use al_expr_types::{Name, NameList};
 use al_tree::{
-    FileKind, InputType, Member, declared_at, has_value, input_of, is_composite, key_text,
-    text_under, texts, value, value_below_three,
+    FileKind, InputType, Member, declared_at, has_value, input_of, is_composite, texts, value,
+    value_below_three,
 };
 use al_yaml_tree::Node;
 use std::alloc::{AllocError, Global};
@@ -61,7 +61,7 @@ fn parameter(alloc: Global, by: Declaring, member: Member<'_>) -> Result<Paramet
     ensures { IfOk result (λ p. p ≡ interfaces.parameter by (member_of member.entry)) }
 {
     Ok(Parameter {
-        name: Name::new(alloc, key_text(member.key))?,
+        name: Name::new(alloc, member.key.text())?,
         required: is_required(member.value),
         has_default: has_default(by, member.value),
         takes: type_taken(by, member.value),
@@ -88,7 +88,7 @@ fn declared_names(alloc: Global, node: Option<&Node>) -> Result<NameList, AllocE
 {
     let mut names = Vec::new(alloc);
     for member in &declared_at(alloc, node)? {
-        names.push(Name::new(alloc, key_text(member.key))?)?;
+        names.push(Name::new(alloc, member.key.text())?)?;
     }
     NameList::new(names)
 }

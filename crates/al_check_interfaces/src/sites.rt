@@ -9,7 +9,7 @@ ghost use Rattle.al_yaml_tree.specs.View.{view};
 use al_base::Caller;
 use al_scalar::Scalar;
 use al_tree::{
-    FileKind, Member, action_steps, is_composite, items_under, key_text, members_under, text_under,
+    FileKind, Member, action_steps, is_composite, items_under, members_under, text_under,
 };
 use al_yaml_tree::Node;
 use std::alloc::{AllocError, Global};
@@ -76,7 +76,7 @@ fn add_job<'a>(job: Member<'a>, out: &mut Vec<Call<'a>>) -> Result<(), AllocErro
         ++ filter_map calling.call_at (calling.job_sites (member_of job.entry))) }
 {
     let (step, node) = (None, job.value);
-    let job = Some(key_text(job.key));
+    let job = Some(job.key.text());
     add_call(Site { job, step, node }, out)?;
     add_steps(job, items_under(node, "steps"), out)
 }

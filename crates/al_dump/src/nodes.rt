@@ -49,7 +49,7 @@ pub fn push_node(alloc: Global, out: &mut String, node: &Node) -> Result<(), All
 #[cycle(nodes)]
 fn push_entry(alloc: Global, out: &mut String, entry: &Entry) -> Result<(), AllocError> {
     out.push('[')?;
-    push_node(alloc, out, &entry.key)?;
+    push_scalar(alloc, out, &entry.key)?;
     out.push(',')?;
     push_node(alloc, out, &entry.value)?;
     out.push(']')?;

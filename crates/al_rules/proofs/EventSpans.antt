@@ -7,7 +7,7 @@ use Rattle.al_rules_formats.specs.Patterns.{is_pattern}
 use Rattle.al_rules_formats.specs.Schedules.{is_too_often, schedule_of}
 use Rattle.al_rules_formats.specs.declared.patterns.Filter.{Filter}
 use Rattle.al_rules_formats.specs.declared.schedules.Item.{Item}
-use Rattle.al_scalar.specs.Scalar.{text_of}
+use Rattle.al_scalar.specs.Scalar.{Scalar, text_of}
 use Rattle.al_yaml_tree.specs.Node.{Node}
 use Rattle.al_tree.specs.Names.{is_event}
 use Rattle.al_base.specs.Names.{among}
@@ -53,7 +53,7 @@ module _ (size : ℕ) where
       map_or (Text size) (Lies size) (λ s. schedule_faults (schedule_of (of_scalar s).text) (of_scalar s)) (λ s t. schedule_lies (schedule_of (text_of s)) (of_scalar s) t.place)
       (text_at_key (codes "cron") entry) (text_kept (laid size) (codes "cron") entry f)
 
-  input_lies : (types : List (List ℕ)) (m : Node × Node) → Pair (Fine size) m → Are size (input_faults types m)
+  input_lies : (types : List (List ℕ)) (m : Scalar × Node) → Pair (Fine size) m → Are size (input_faults types m)
   input_lies types m p =
       map_or (Text size) (Lies size) (λ s. unless_among UnknownInputType types (of_scalar s)) (λ s t. unless_lies size (among types (text_of s)) UnknownInputType (of_scalar s) t.place)
       (text_at_key (codes "type") m.1) (text_kept (laid size) (codes "type") m.1 p.1)
@@ -66,7 +66,7 @@ module _ (size : ℕ) where
       let crons = each_of (Fine size) (Lies size) cron_faults cron_lies (items_in event) (items_in_kept (laid size) event f) in
       search (or_lies size, crons, inputs_lie, both size, types_lie, filters_lie) depth 9
 
-  named_lies : (m : Node × Node) → Pair (Fine size) m → Are size (named_faults m)
+  named_lies : (m : Scalar × Node) → Pair (Fine size) m → Are size (named_faults m)
   named_lies m p = search (or_lies size, event_lies, about_lies size, span_lies size)
 
   pub on_lies : (on : Node) → Fine size on → Are size (on_faults on)

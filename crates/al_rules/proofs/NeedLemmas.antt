@@ -9,6 +9,7 @@ use Rattle.std.proofs.lemmas.List.Elements.{All-nil, All-cons, All-map, All-get_
 use Rattle.std.specs.List.{AllByRecursion, cons_option, enumerate_from, filter_map, flat_map}
 use Rattle.std.specs.Prelude.{◌↔◌, Contains}
 use Rattle.al_base.specs.declared.faults.Fault.{Fault}
+use Rattle.al_scalar.specs.Scalar.{Scalar}
 use Rattle.al_yaml_tree.specs.Node.{Node}
 use Rattle.al_graph.specs.Graphs.{Edge, StronglyConnected, Walk, edges_of, here, onward}
 use Rattle.al_graph.proofs.FilterMaps.{put_after, put_first}
@@ -21,7 +22,7 @@ use Rattle.al_base.specs.NamePlaces.{name_place}
 use Rattle.al_tree.specs.Keys.{keys_in}
 use Rattle.al_base.specs.Names.{same_name}
 use Rattle.al_base.proofs.NamePlaces.{first_within}
-use Rattle.al_rules_settings.specs.Words.{Named, of_key}
+use Rattle.al_rules_settings.specs.Words.{Named, of_scalar}
 
 module _ (position : List ℕ → Option ℕ) (Leads : ℕ → ℕ → Type 0) where
   more : (ns ms : List NeedEntry) (fs gs : List Fault) → AreNeedsFaults position Leads ns fs → AreNeedsFaults position Leads ms gs → AreNeedsFaults position Leads (ns ++ ms) (fs ++ gs)
@@ -68,14 +69,14 @@ module _ (position : List ℕ → Option ℕ) (graph : List (List ℕ)) (labels 
     led_to P ns (λ k c. f k (put_after (named_by position) (named_by position n) k (filter_map (named_by position) ns) c)),
   )
 
-  job_is : (i : ℕ) (job : Node × Node) → i < length graph → get_or graph i [] ≡ filter_map (named_by position) (needs_of job)
+  job_is : (i : ℕ) (job : Scalar × Node) → i < length graph → get_or graph i [] ≡ filter_map (named_by position) (needs_of job)
       → AreNeedsFaults position (Walk graph) (needs_in (i, job)) (labelled_faults position labels (needs_in (i, job)))
   job_is i job inside row =
-      entries_are i (of_key job.0) (needs_of job) inside
+      entries_are i (of_scalar job.0) (needs_of job) inside
       (led_to (λ k. Edge graph i k) (needs_of job) (λ k c. subst (λ (ns : List ℕ). Contains ns k) (sym row) c))
 
   -- the jobs from position `i` on, each of which has its row of the graph
-  jobs_are : (i : ℕ) (jobs : List (Node × Node)) → ((k : ℕ) (x : Node × Node) → k < length jobs → x ≡ get_or jobs k x
+  jobs_are : (i : ℕ) (jobs : List (Scalar × Node)) → ((k : ℕ) (x : Scalar × Node) → k < length jobs → x ≡ get_or jobs k x
       → (i + k < length graph) × (get_or graph (i + k) [] ≡ filter_map (named_by position) (needs_of x)))
       → AreNeedsFaults position (Walk graph) (flat_map needs_in (enumerate_from i jobs))
       (labelled_faults position labels (flat_map needs_in (enumerate_from i jobs)))
@@ -99,7 +100,7 @@ module _ (position : List ℕ → Option ℕ) (graph : List (List ℕ)) (labels 
 
 -- ---- the faults of one job after another
 
-module _ (position : List ℕ → Option ℕ) (labels : List (Option ℕ)) {X : Type 0} (seen : X → Node × Node) (jobs : List X) where
+module _ (position : List ℕ → Option ℕ) (labels : List (Option ℕ)) {X : Type 0} (seen : X → Scalar × Node) (jobs : List X) where
   pub found_next : (i : ℕ) (x : X) (old new all : List Fault) → i < length jobs → x ≡ get_or jobs i x
       → new ≡ old ++ labelled_faults position labels (needs_in (i, seen x))
       → old ++ labelled_faults position labels (flat_map needs_in (enumerate_from i (map seen (drop i jobs)))) ≡ all
@@ -125,11 +126,11 @@ list_below keys (n ∷ ns) =
     below_cons (named_by (name_place keys) n) (filter_map (named_by (name_place keys)) ns) (length keys) (λ k e. first_within (λ m. same_name m n.text) keys k e)
     (list_below keys ns)
 
-lists_below : (keys : List (List ℕ)) (jobs : List (Node × Node)) → All (λ l. All (Below (length keys)) l) (needs_lists (name_place keys) jobs)
+lists_below : (keys : List (List ℕ)) (jobs : List (Scalar × Node)) → All (λ l. All (Below (length keys)) l) (needs_lists (name_place keys) jobs)
 lists_below keys jobs =
     All-map (λ l. All (Below (length keys)) l) (λ j. filter_map (named_by (name_place keys)) (needs_of j)) jobs (λ k d h. list_below keys (needs_of (get_or jobs k d)))
 
-needs_below : (keys : List (List ℕ)) (jobs : List (Node × Node)) (j k : ℕ) → Edge (needs_lists (name_place keys) jobs) j k → k < length keys
+needs_below : (keys : List (List ℕ)) (jobs : List (Scalar × Node)) (j k : ℕ) → Edge (needs_lists (name_place keys) jobs) j k → k < length keys
 needs_below keys jobs j k has =
     let m = length keys in
     let P : List ℕ → Type 0 = λ l. All (Below m) l in
@@ -138,26 +139,26 @@ needs_below keys jobs j k has =
     ⊎_elim (λ h. All-get_or P lists j [] h (lists_below keys jobs)) (λ h. subst P (sym (get_or_past lists j [] h)) (All-nil (Below m))) (cases_lt j (length lists)) in
     All-contains (Below m) (get_or lists j []) k inside has
 
-pub lists_length : (jobs : List (Node × Node)) (lists : List (Vec ℕ Global)) → edges_of lists ≡ needs_lists (name_place (keys_in jobs)) jobs → length lists ≡ length jobs
+pub lists_length : (jobs : List (Scalar × Node)) (lists : List (Vec ℕ Global)) → edges_of lists ≡ needs_lists (name_place (keys_in jobs)) jobs → length lists ≡ length jobs
 lists_length jobs lists e =
     let b : length (needs_lists (name_place (keys_in jobs)) jobs) ≡ length jobs = length-map jobs _ in
     let d : length (edges_of lists) ≡ length lists = length-map lists _ in
     sym d ∙ ap length e ∙ b
 
 -- each job that is needed is one of the jobs
-pub edges_below : (jobs : List (Node × Node)) (lists : List (Vec ℕ Global)) → edges_of lists ≡ needs_lists (name_place (keys_in jobs)) jobs → (j k : ℕ) → Edge (edges_of lists) j k → k < length lists
+pub edges_below : (jobs : List (Scalar × Node)) (lists : List (Vec ℕ Global)) → edges_of lists ≡ needs_lists (name_place (keys_in jobs)) jobs → (j k : ℕ) → Edge (edges_of lists) j k → k < length lists
 edges_below jobs lists e j k has =
     let P : List (List ℕ) → Type 0 = λ ls. Edge ls j k in
     let below : k < length (keys_in jobs) = needs_below (keys_in jobs) jobs j k (subst P e has) in
     let a : length (keys_in jobs) ≡ length jobs = length-map jobs _ in
     let b : length lists ≡ length jobs = lists_length jobs lists e in omega (arith, below, a, b)
 
-pub lists_same : (jobs : List (Node × Node)) (position : List ℕ → Option ℕ) (lists : List (List ℕ)) → position ≡ name_place (keys_in jobs)
+pub lists_same : (jobs : List (Scalar × Node)) (position : List ℕ → Option ℕ) (lists : List (List ℕ)) → position ≡ name_place (keys_in jobs)
     → lists ≡ needs_lists position jobs → lists ≡ needs_lists (name_place (keys_in jobs)) jobs
 lists_same jobs position lists p l = l ∙ ap (λ f. needs_lists f jobs) p
 
 -- the faults of all jobs
-pub adds_all : (jobs : List (Node × Node)) (position : List ℕ → Option ℕ) (lists : List (Vec ℕ Global)) (labels : List (Option ℕ))
+pub adds_all : (jobs : List (Scalar × Node)) (position : List ℕ → Option ℕ) (lists : List (Vec ℕ Global)) (labels : List (Option ℕ))
     (old new : List Fault) → position ≡ name_place (keys_in jobs) → edges_of lists ≡ needs_lists position jobs
     → ((j k : ℕ) → j < length lists → k < length lists
     → (get_or labels j None ≡ get_or labels k None) ↔ StronglyConnected (edges_of lists) j k)

@@ -6,11 +6,13 @@ use Rattle.std.specs.Str.{bytes_eq}
 use Rattle.al_base.specs.declared.codes.RuleCode.TheVariants.{ScheduleTooOften, UnknownActivity, UnknownEvent, UnknownInputType}
 use Rattle.al_base.specs.declared.codes.RuleCode.TheVariants.{WrongPattern, WrongSchedule}
 use Rattle.al_base.specs.declared.faults.Fault.{Fault}
+use Rattle.al_scalar.specs.Scalar.{Scalar}
 use Rattle.al_yaml_tree.specs.Node.{Node}
+use Rattle.al_tree.specs.Keys.{key_of}
 use Rattle.al_tree.specs.Names.{is_event}
 use Rattle.al_tree.specs.Values.{text_at_key, texts_in, texts_at, entries_in, entries_at, items_in}
 use Rattle.al_rules.specs.Names.{activities_of, call_types, dispatch_types}
-use Rattle.al_rules_settings.specs.Words.{Named, about, of_key, of_scalar, unless, unless_among}
+use Rattle.al_rules_settings.specs.Words.{Named, about, of_scalar, unless, unless_among}
 use Rattle.al_rules_formats.specs.Patterns.{is_pattern}
 use Rattle.al_rules_formats.specs.Schedules.{schedule_of, is_too_often}
 use Rattle.al_rules_formats.specs.declared.patterns.Filter.{Filter}
@@ -43,7 +45,7 @@ cron_faults entry =
     option_map_or (λ s. schedule_faults (schedule_of (of_scalar s).text) (of_scalar s)) (text_at_key (codes "cron") entry) []
 
 -- an input of an unknown type
-abbrev pub input_faults : List (List ℕ) → Node × Node → List Fault
+abbrev pub input_faults : List (List ℕ) → Scalar × Node → List Fault
 input_faults types m = option_map_or (λ s. unless_among UnknownInputType types (of_scalar s)) (text_at_key (codes "type") m.1) []
 
 abbrev pub inputs_faults : List (List ℕ) → Node → List Fault
@@ -62,8 +64,8 @@ event_faults name event =
 abbrev pub event_name_faults : Named → List Fault
 event_name_faults n = unless (is_event n.text) UnknownEvent n
 
-abbrev pub named_faults : Node × Node → List Fault
-named_faults m = if is_event (of_key m.0).text then event_faults (of_key m.0).text m.1 else about UnknownEvent (of_key m.0)
+abbrev pub named_faults : Scalar × Node → List Fault
+named_faults m = if is_event (key_of m) then event_faults (key_of m) m.1 else about UnknownEvent (of_scalar m.0)
 
 -- the faults of the value of `on`
 abbrev pub on_faults : Node → List Fault

@@ -3,23 +3,24 @@ use Rattle.std.specs.Prelude.{◌≡◌, ℕ, List, [], ◌∷◌, ◌++◌, Boo
 use Rattle.std.specs.List.{flat_map, filter_map, enumerate_from}
 use Rattle.al_base.specs.declared.codes.RuleCode.TheVariants.{NeedsCycle, UndefinedJob}
 use Rattle.al_base.specs.declared.faults.Fault.{Fault}
+use Rattle.al_scalar.specs.Scalar.{Scalar}
 use Rattle.al_yaml_tree.specs.Node.{Node}
 use Rattle.al_tree.specs.Keys.{keys_in}
 use Rattle.al_tree.specs.Values.{texts_at}
 use Rattle.al_base.specs.NamePlaces.{name_place}
 use Rattle.al_graph.specs.Graphs.{Walk}
-use Rattle.al_rules_settings.specs.Words.{Named, about, of_key, of_scalar, rule_fault}
+use Rattle.al_rules_settings.specs.Words.{Named, about, of_scalar, rule_fault}
 
 -- the keys of the jobs
-abbrev pub job_keys : List (Node × Node) → List Named
-job_keys jobs = map (λ j. of_key j.0) jobs
+abbrev pub job_keys : List (Scalar × Node) → List Named
+job_keys jobs = map (λ j. of_scalar j.0) jobs
 
 -- the texts of a job's `needs`
-abbrev pub needs_of : Node × Node → List Named
+abbrev pub needs_of : Scalar × Node → List Named
 needs_of j = map of_scalar (texts_at (codes "needs") j.1)
 
 -- for each job, the positions of the jobs that it needs, given the positions of names
-abbrev pub needs_lists : (List ℕ → Option ℕ) → List (Node × Node) → List (List ℕ)
+abbrev pub needs_lists : (List ℕ → Option ℕ) → List (Scalar × Node) → List (List ℕ)
 needs_lists position jobs = map (λ j. filter_map (λ n. position n.text) (needs_of j)) jobs
 
 -- an entry of `needs`: its text, and the position and the key of its job
@@ -28,10 +29,10 @@ pub record NeedEntry : Type 0 where
   pub key : Named
   pub text : Named
 
-abbrev pub needs_in : ℕ × (Node × Node) → List NeedEntry
-needs_in p = map (λ n. record { job = p.0; key = of_key p.1.0; text = n }) (needs_of p.1)
+abbrev pub needs_in : ℕ × (Scalar × Node) → List NeedEntry
+needs_in p = map (λ n. record { job = p.0; key = of_scalar p.1.0; text = n }) (needs_of p.1)
 
-abbrev pub all_needs : List (Node × Node) → List NeedEntry
+abbrev pub all_needs : List (Scalar × Node) → List NeedEntry
 all_needs jobs = flat_map needs_in (enumerate_from 0 jobs)
 
 abbrev pub cycle_fault : NeedEntry → Fault
@@ -50,7 +51,7 @@ pub data AreNeedsFaults (position : List ℕ → Option ℕ) (Leads : ℕ → �
       → AreNeedsFaults position Leads ns rest
       → AreNeedsFaults position Leads (n ∷ ns) (first ++ rest)
 
-abbrev pub IsNeedsFaults : List (Node × Node) → List Fault → Type 0
+abbrev pub IsNeedsFaults : List (Scalar × Node) → List Fault → Type 0
 IsNeedsFaults jobs found =
     let position = name_place (keys_in jobs) in AreNeedsFaults position (Walk (needs_lists position jobs)) (all_needs jobs) found
 
@@ -60,7 +61,7 @@ pub record AddsNeeds (position : List ℕ → Option ℕ) (Leads : ℕ → ℕ �
   pub are : AreNeedsFaults position Leads ns found
   pub grows : new ≡ old ++ found
 
-abbrev pub AddsAllNeeds : List (Node × Node) → List Fault → List Fault → Type 0
+abbrev pub AddsAllNeeds : List (Scalar × Node) → List Fault → List Fault → Type 0
 AddsAllNeeds jobs old new =
     let position = name_place (keys_in jobs) in AddsNeeds position (Walk (needs_lists position jobs)) (all_needs jobs) old new
 
@@ -69,6 +70,6 @@ abbrev pub tested_faults : (ℕ → Bool) → NeedEntry → Option ℕ → List 
 tested_faults leads n None = about UndefinedJob n.text
 tested_faults leads n (Some j) = if leads j then cycle_fault n ∷ [] else []
 
-abbrev pub needs_faults : (ℕ → ℕ → Bool) → List (Node × Node) → List Fault
+abbrev pub needs_faults : (ℕ → ℕ → Bool) → List (Scalar × Node) → List Fault
 needs_faults leads jobs =
     flat_map (λ n. tested_faults (λ j. leads j n.job) n (name_place (keys_in jobs) n.text.text)) (all_needs jobs)

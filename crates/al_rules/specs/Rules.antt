@@ -5,8 +5,9 @@ use Rattle.std.specs.List.{flat_map, filter_map}
 use Rattle.std.specs.Option.{option_map_or}
 use Rattle.al_base.specs.declared.codes.RuleCode.TheVariants.{MissingOutputValue, MissingShell, UnknownUsing}
 use Rattle.al_base.specs.declared.faults.Fault.{Fault}
+use Rattle.al_scalar.specs.Scalar.{Scalar}
 use Rattle.al_yaml_tree.specs.Access.{scalar_in}
-use Rattle.al_yaml_tree.specs.Node.{Node, span_of}
+use Rattle.al_yaml_tree.specs.Node.{Node}
 use Rattle.al_tree.specs.Faults.{runs_of}
 use Rattle.al_tree.specs.Values.{entries_at, items_at, key_at, text_at_key, text_below, value_at, value_below}
 use Rattle.al_tree.specs.Files.{jobs_of, kind_in, root_of}
@@ -21,7 +22,7 @@ use Rattle.al_rules_settings.specs.Matrix.{matrix_faults}
 use Rattle.al_rules.specs.Needs.{IsNeedsFaults, job_keys}
 use Rattle.al_rules_settings.specs.Settings.{condition_faults, credentials_faults, env_faults}
 use Rattle.al_rules_settings.specs.Settings.{permissions_faults, script_faults, shell_faults}
-use Rattle.al_rules_settings.specs.Words.{Named, about, of_key, of_scalar, rule_fault}
+use Rattle.al_rules_settings.specs.Words.{Named, about, of_scalar, rule_fault}
 
 -- the faults of a step
 abbrev pub step_faults : Node → List Fault
@@ -50,7 +51,7 @@ settings_faults job =
     section_faults job ++ condition_faults (text_at_key (codes "if") job)
     ++ option_map_or matrix_faults (value_below (codes "strategy" ∷ codes "matrix" ∷ []) job) []
 
-abbrev pub job_faults : Node × Node → List Fault
+abbrev pub job_faults : Scalar × Node → List Fault
 job_faults j = settings_faults j.1 ++ containers_faults j.1 ++ steps_faults (items_at (codes "steps") j.1)
 
 -- the faults of a workflow, given those of its `needs`
@@ -63,11 +64,11 @@ workflow_faults needs root =
 abbrev pub no_shell_faults : Node → List Fault
 no_shell_faults step =
     if is_some (value_at (codes "shell") step) then []
-    else option_map_or (λ key. rule_fault MissingShell (span_of key) [] ∷ []) (key_at (codes "run") step) []
+    else option_map_or (λ key. rule_fault MissingShell key.span [] ∷ []) (key_at (codes "run") step) []
 
 -- an output of a composite action without a value
-abbrev pub output_faults : Node × Node → List Fault
-output_faults m = if is_some (value_at (codes "value") m.1) then [] else about MissingOutputValue (of_key m.0)
+abbrev pub output_faults : Scalar × Node → List Fault
+output_faults m = if is_some (value_at (codes "value") m.1) then [] else about MissingOutputValue (of_scalar m.0)
 
 abbrev pub composite_faults : Node → Node → List Fault
 composite_faults root runs =

@@ -8,7 +8,7 @@ ghost use Rattle.std.specs.Prelude.{◌≡◌, ◌++◌, codes, option_and_then,
 
 use crate::sections::check_steps;
 use al_base::{Code, FaultSink, RuleCode};
-use al_rules_settings::{Named, check_condition, check_env, named_key, named_text, report};
+use al_rules_settings::{Named, check_condition, check_env, named_text, report};
 use al_tree::{Shape, items_under, key, members_under, runs_of, text_under, value};
 use al_yaml_tree::Node;
 use std::alloc::AllocError;
@@ -30,7 +30,7 @@ fn check_composite(root: &Node, runs: &Node, faults: &mut FaultSink) -> Result<(
     }
     for output in &members_under(faults.alloc(), root, "outputs")? {
         if value(output.value, "value").is_none() {
-            report(RuleCode::MissingOutputValue, named_key(output.key), faults)?;
+            report(RuleCode::MissingOutputValue, named_text(output.key), faults)?;
         }
     }
     Ok(())

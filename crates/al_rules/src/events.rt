@@ -8,7 +8,7 @@ ghost use Rattle.std.specs.Prelude.{◌≡◌, ◌++◌, map, OnOk};
 use crate::names::{CALL_TYPES, DISPATCH_TYPES, activities_of};
 use al_base::{FaultSink, RuleCode};
 use al_rules_formats::{Filter, is_pattern, is_too_often, schedule};
-use al_rules_settings::{named_key, named_text, report, report_unless, report_unless_among};
+use al_rules_settings::{named_text, report, report_unless, report_unless_among};
 use al_tree::{is_event, items, members, members_under, text_under, texts, texts_under};
 use al_yaml_tree::Node;
 use std::alloc::AllocError;
@@ -121,7 +121,7 @@ pub fn check_on(on: &Node, faults: &mut FaultSink) -> Result<(), AllocError>
         report_unless(is_event(name.text), RuleCode::UnknownEvent, name, faults)?;
     }
     for event in &members(faults.alloc(), on)? {
-        let name = named_key(event.key);
+        let name = named_text(event.key);
         if is_event(name.text) {
             check_event(name.text, event.value, faults)?;
         } else {

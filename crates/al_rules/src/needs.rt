@@ -10,7 +10,7 @@ ghost use Rattle.std.specs.Prelude.{◌≡◌, ◌++◌, map, IfOk, OnOk};
 
 use al_base::{Code, FaultSink, NamePositions, RuleCode};
 use al_graph::strongly_connected_components;
-use al_rules_settings::{named_key, named_text, report};
+use al_rules_settings::{named_text, report};
 use al_tree::{Member, member_positions, texts_under};
 use std::alloc::{AllocError, Global};
 
@@ -57,7 +57,7 @@ fn check_job(
     ensures { OnOk result (faults.new ≡ faults.old ++ labelled_faults (name_position positions.now)
         labels.now (needs_in (position, member_of job.entry))) }
 {
-    let key = named_key(job.key);
+    let key = named_text(job.key);
     for need in &texts_under(faults.alloc(), job.value, "needs")? {
         let need = named_text(*need);
         let Some(needed) = positions.get(need.text)? else {

@@ -11,6 +11,7 @@ use Rattle.al_rules_formats.specs.Names.{is_id, is_variable}
 use Rattle.al_scalar.specs.Scalar.{Scalar, text_of}
 use Rattle.al_yaml_tree.specs.Node.{Node, span_of}
 use Rattle.al_base.specs.Names.{among}
+use Rattle.al_tree.specs.Keys.{key_of}
 use Rattle.al_tree.specs.Values.{entries_at, entries_in, items_at, text_in, value_at, value_below}
 use Rattle.al_rules_settings.specs.Ids.{ids_faults, repeated_faults}
 use Rattle.al_rules_settings.specs.Matrix.{exclude_faults, exclude_keys, is_row_value, matrix_faults, row_faults, shape_faults}
@@ -18,7 +19,7 @@ use Rattle.al_rules_settings.specs.Names.{permissions, scope_values}
 use Rattle.al_rules_settings.specs.Settings.{all_permissions_faults, condition_faults, credentials_faults, env_faults, is_always_true}
 use Rattle.al_rules_settings.specs.Settings.{is_password, is_shell, password_faults, permission_faults, permissions_faults, script_faults}
 use Rattle.al_rules_settings.specs.Settings.{permission_value_faults, shell_faults, variable_faults}
-use Rattle.al_rules_settings.specs.Words.{Named, of_key, of_scalar, unless, unless_among}
+use Rattle.al_rules_settings.specs.Words.{Named, of_scalar, unless, unless_among}
 use Rattle.al_rules_settings.proofs.Places.{commands_lie}
 use Rattle.al_base.proofs.Elements.{each_as, each_of, map_or}
 use Rattle.al_tree.proofs.Kept.{Pair, below_kept, entries_in_kept, entries_kept, items_kept, text_in_kept, value_kept}
@@ -43,13 +44,13 @@ module _ (size : ℕ) where
   shape_lies : (right : Bool) (at : Span) (name : List ℕ) → LiesIn size at → Are size (shape_faults right at name)
   shape_lies right at name p = or_lies size right [] _ tt (one_lies size WrongMatrix at (name ∷ []) p)
 
-  row_lies : (m : Node × Node) → Pair (Fine size) m → Are size (row_faults m)
-  row_lies m p = shape_lies (is_row_value (of_key m.0).text m.1) (span_of m.1) (of_key m.0).text (span_lies size m.1 p.1)
+  row_lies : (m : Scalar × Node) → Pair (Fine size) m → Are size (row_faults m)
+  row_lies m p = shape_lies (is_row_value (key_of m) m.1) (span_of m.1) (key_of m) (span_lies size m.1 p.1)
 
   exclude_place : (items : List Node) → AllByRecursion (Fine size) items → AllByRecursion (NameLies size) (exclude_keys items)
   exclude_place items h =
-      each_of (Fine size) (NameLies size) (λ item. map (λ m. of_key m.0) (entries_in item))
-      (λ item f. each_as (Pair (Fine size)) (NameLies size) (λ m. of_key m.0) (λ m q. span_lies size m.0 q.0) (entries_in item) (entries_in_kept (laid size) item f)) items h
+      each_of (Fine size) (NameLies size) (λ item. map (λ m. of_scalar m.0) (entries_in item))
+      (λ item f. each_as (Pair (Fine size)) (NameLies size) (λ m. of_scalar m.0) (λ m q. q.0.place) (entries_in item) (entries_in_kept (laid size) item f)) items h
 
   excludes_lie : (place : List ℕ → Option ℕ) (names : List Named) → AllByRecursion (NameLies size) names
       → Are size (flat_map (exclude_faults place) names)
@@ -73,9 +74,9 @@ module _ (size : ℕ) where
       map_or (Text size) (Lies size) (λ s. unless_among WrongPermission values (of_scalar s))
       (λ s t. unless_lies size (among values (text_of s)) WrongPermission (of_scalar s) t.place) (text_in n) (text_in_kept (laid size) n f)
 
-  permission_lies : (m : Node × Node) → Pair (Fine size) m → Are size (permission_faults m)
+  permission_lies : (m : Scalar × Node) → Pair (Fine size) m → Are size (permission_faults m)
   permission_lies m p =
-      let name = unless_lies size (among permissions (of_key m.0).text) UnknownPermission (of_key m.0) (span_lies size m.0 p.0) in
+      let name = unless_lies size (among permissions (key_of m)) UnknownPermission (of_scalar m.0) p.0.place in
       search (both size, name, value_lies scope_values m.1 p.1)
 
   all_permissions_lie : (n : Node) → Fine size n → Are size (all_permissions_faults n)
@@ -86,7 +87,7 @@ module _ (size : ℕ) where
 
   pub env_lies : (n : Node) → Fine size n → Are size (env_faults n)
   env_lies n f =
-      each_of (Pair (Fine size)) (Lies size) variable_faults (λ m p. unless_lies size (is_variable (of_key m.0).text) WrongVariable (of_key m.0) (span_lies size m.0 p.0))
+      each_of (Pair (Fine size)) (Lies size) variable_faults (λ m p. unless_lies size (is_variable (key_of m)) WrongVariable (of_scalar m.0) p.0.place)
       (entries_at (codes "env") n) (entries_kept (laid size) (codes "env") n f)
 
   password_lies : (n : Node) → Fine size n → Are size (password_faults n)

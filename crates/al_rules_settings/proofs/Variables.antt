@@ -4,6 +4,7 @@ use Rattle.std.proofs.lemmas.Bool.{and_parts}
 use Rattle.std.proofs.lemmas.Grind.{flat_map-append}
 use Rattle.std.specs.List.{flat_map, list_all}
 use Rattle.al_base.specs.Names.{among}
+use Rattle.al_scalar.specs.Scalar.{Scalar}
 use Rattle.al_yaml_tree.specs.Node.{Node}
 use Rattle.al_yaml_tree.specs.View.{entry_view}
 use Rattle.al_yaml_tree.specs.declared.node.Entry.{Entry}
@@ -12,7 +13,7 @@ use Rattle.al_tree.specs.Values.{firsts_by}
 use Rattle.al_rules_formats.specs.Names.{is_variable}
 use Rattle.al_rules_settings.specs.Settings.{variable_faults}
 
-no_fault : (repeats : Bool) (e : Node × Node) → is_variable (key_of e) ≡ true → flat_map variable_faults (if repeats then [] else e ∷ []) ≡ []
+no_fault : (repeats : Bool) (e : Scalar × Node) → is_variable (key_of e) ≡ true → flat_map variable_faults (if repeats then [] else e ∷ []) ≡ []
 no_fault true e h = refl
 no_fault false e h = rw h refl
 

@@ -6,14 +6,14 @@ use Rattle.al_base.specs.NamePlaces.{name_place}
 use Rattle.al_base.specs.declared.codes.RuleCode.TheVariants.{UnknownMatrixRow, WrongMatrix}
 use Rattle.al_base.specs.declared.faults.Fault.{Fault}
 use Rattle.al_base.specs.declared.faults.Span.{Span}
-use Rattle.al_scalar.specs.Scalar.{text_of}
+use Rattle.al_scalar.specs.Scalar.{Scalar, text_of}
 use Rattle.al_yaml_tree.specs.Access.{mapping_in, scalar_in, sequence_in}
 use Rattle.al_yaml_tree.specs.Node.{Node, span_of}
 use Rattle.al_tree.specs.Faults.{has_chunk, is_null}
-use Rattle.al_tree.specs.Keys.{keys_in}
+use Rattle.al_tree.specs.Keys.{key_of, keys_in}
 use Rattle.al_tree.specs.Names.{is_combination_key}
 use Rattle.al_tree.specs.Values.{entries_in, items_at}
-use Rattle.al_rules_settings.specs.Words.{Named, of_key, rule_fault, unless}
+use Rattle.al_rules_settings.specs.Words.{Named, of_scalar, rule_fault, unless}
 
 abbrev pub is_null_node : Node → Bool
 is_null_node n = option_map_or is_null (scalar_in n) false
@@ -36,16 +36,16 @@ is_row_value k n = is_null_node n || is_dynamic n || (if is_combination_key k th
 abbrev pub shape_faults : Bool → Span → List ℕ → List Fault
 shape_faults right at name = if right then [] else rule_fault WrongMatrix at (name ∷ []) ∷ []
 
-abbrev pub row_faults : Node × Node → List Fault
-row_faults m = shape_faults (is_row_value (of_key m.0).text m.1) (span_of m.1) (of_key m.0).text
+abbrev pub row_faults : Scalar × Node → List Fault
+row_faults m = shape_faults (is_row_value (key_of m) m.1) (span_of m.1) (key_of m)
 
 -- the names of the rows
-abbrev pub row_names : List (Node × Node) → List (List ℕ)
+abbrev pub row_names : List (Scalar × Node) → List (List ℕ)
 row_names ms = filter (λ k. not (is_combination_key k)) (keys_in ms)
 
 -- the keys of `exclude`
 abbrev pub exclude_keys : List Node → List Named
-exclude_keys items = flat_map (λ item. map (λ m. of_key m.0) (entries_in item)) items
+exclude_keys items = flat_map (λ item. map (λ m. of_scalar m.0) (entries_in item)) items
 
 -- the fault of one of them that isn't a row, given the positions of the rows
 abbrev pub exclude_faults : (List ℕ → Option ℕ) → Named → List Fault

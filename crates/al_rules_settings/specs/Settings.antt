@@ -17,7 +17,7 @@ use Rattle.al_rules_formats.specs.Texts.{has_part}
 use Rattle.al_rules_formats.specs.declared.chunks.Around.TheVariants.{Blanks, Nothing}
 use Rattle.al_rules_settings.specs.Commands.{command_faults}
 use Rattle.al_rules_settings.specs.Names.{shells, permissions, scope_values, whole_values}
-use Rattle.al_rules_settings.specs.Words.{of_key, of_scalar, rule_fault, unless, unless_among}
+use Rattle.al_rules_settings.specs.Words.{of_scalar, rule_fault, unless, unless_among}
 
 -- a known shell, or a text with an expression or `{0}`, the place of the script
 abbrev pub is_shell : List ℕ → Bool
@@ -30,8 +30,8 @@ shell_faults shell = option_map_or (λ s. unless (is_shell (of_scalar s).text) U
 abbrev pub permission_value_faults : List (List ℕ) → Node → List Fault
 permission_value_faults values n = option_map_or (λ s. unless_among WrongPermission values (of_scalar s)) (text_in n) []
 
-abbrev pub permission_faults : Node × Node → List Fault
-permission_faults m = unless_among UnknownPermission permissions (of_key m.0) ++ permission_value_faults scope_values m.1
+abbrev pub permission_faults : Scalar × Node → List Fault
+permission_faults m = unless_among UnknownPermission permissions (of_scalar m.0) ++ permission_value_faults scope_values m.1
 
 abbrev pub all_permissions_faults : Node → List Fault
 all_permissions_faults n = permission_value_faults whole_values n ++ flat_map permission_faults (entries_in n)
@@ -40,8 +40,8 @@ abbrev pub permissions_faults : Node → List Fault
 permissions_faults section = option_map_or all_permissions_faults (value_at (codes "permissions") section) []
 
 -- an invalid name of an environment variable
-abbrev pub variable_faults : Node × Node → List Fault
-variable_faults m = unless (is_variable (of_key m.0).text) WrongVariable (of_key m.0)
+abbrev pub variable_faults : Scalar × Node → List Fault
+variable_faults m = unless (is_variable (of_scalar m.0).text) WrongVariable (of_scalar m.0)
 
 abbrev pub env_faults : Node → List Fault
 env_faults section = flat_map variable_faults (entries_at (codes "env") section)

@@ -6,17 +6,12 @@ use Rattle.al_base.specs.declared.codes.RuleCode.{RuleCode}
 use Rattle.al_base.specs.declared.faults.Fault.{Fault}
 use Rattle.al_base.specs.declared.faults.Span.{Span}
 use Rattle.al_scalar.specs.Scalar.{Scalar, text_of}
-use Rattle.al_yaml_tree.specs.Node.{Node, span_of}
-use Rattle.al_tree.specs.Keys.{key_text}
 use Rattle.al_base.specs.Names.{among}
 
 -- a text of a file, and its span
 pub record Named : Type 0 where
   pub text : List ℕ
   pub span : Span
-
-abbrev pub of_key : Node → Named
-of_key n = record { text = key_text n; span = span_of n }
 
 abbrev pub of_scalar : Scalar → Named
 of_scalar s = record { text = text_of s; span = s.span }

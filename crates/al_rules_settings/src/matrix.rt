@@ -5,17 +5,15 @@ ghost use Rattle.al_rules_settings.specs.Matrix.{are_combinations as all_combina
 ghost use Rattle.al_rules_settings.specs.Matrix.{is_combination as combination, is_dynamic as dynamic};
 ghost use Rattle.al_rules_settings.specs.Matrix.{is_null_node as null_node, is_row_value as row_value};
 ghost use Rattle.al_rules_settings.specs.Matrix.{matrix_faults, row_names as names_of_rows};
-ghost use Rattle.al_rules_settings.specs.Words.{of_key};
+ghost use Rattle.al_rules_settings.specs.Words.{of_scalar};
 ghost use Rattle.al_tree.specs.Values.{entries_in, member_of};
 ghost use Rattle.al_yaml_tree.specs.View.{view};
 ghost use Rattle.std.specs.List.{flat_map};
 ghost use Rattle.std.specs.Prelude.{◌≡◌, ◌++◌, map, IfOk, OnOk};
 
-use crate::reports::{Named, named_key, report_unless};
+use crate::reports::{Named, named_text, report_unless};
 use al_base::{FaultSink, NamePositions, RuleCode};
-use al_tree::{
-    Member, contains_chunk, is_combination_key, is_null_scalar, items_under, key_text, members,
-};
+use al_tree::{Member, contains_chunk, is_combination_key, is_null_scalar, items_under, members};
 use al_yaml_tree::Node;
 use std::alloc::{AllocError, Global};
 
@@ -70,7 +68,7 @@ fn row_names<'a>(alloc: Global, rows: &[Member<'a>]) -> Result<Vec<&'a [u8]>, Al
     ensures { IfOk result (λ v. map (λ t. t.now) v.items
         ≡ names_of_rows (map member_of rows.now)) }
 {
-    let keys = rows.iter().map(|row| key_text(row.key));
+    let keys = rows.iter().map(|row| row.key.text());
     keys.filter(|key| !is_combination_key(key)).collect(alloc)
 }
 
@@ -82,10 +80,10 @@ fn check_excluded(
 ) -> Result<(), AllocError>
     ensures { OnOk result (faults.new ≡ faults.old
         ++ flat_map (exclude_faults (name_position rows.now))
-        (map (λ m. of_key m.0) (entries_in (view item.now)))) }
+        (map (λ m. of_scalar m.0) (entries_in (view item.now)))) }
 {
     for member in &members(faults.alloc(), item)? {
-        let key = named_key(member.key);
+        let key = named_text(member.key);
         let row = rows.get(key.text)?;
         report_unless(row.is_some(), RuleCode::UnknownMatrixRow, key, faults)?;
     }
@@ -131,7 +129,7 @@ pub fn check_matrix(node: &Node, faults: &mut FaultSink) -> Result<(), AllocErro
     let rows = members(faults.alloc(), node)?;
     for row in &rows {
         let name = Named {
-            text: key_text(row.key),
+            text: row.key.text(),
             span: row.value.span(),
         };
         let right = is_row_value(name.text, row.value);

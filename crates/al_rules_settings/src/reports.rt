@@ -1,14 +1,11 @@
 //! Faults that name a text of the file.
 
 ghost use Rattle.al_rules_settings.specs.Views.{named_of};
-ghost use Rattle.al_rules_settings.specs.Words.{about, of_key, of_scalar, unless, unless_among};
-ghost use Rattle.al_yaml_tree.specs.View.{view};
+ghost use Rattle.al_rules_settings.specs.Words.{about, of_scalar, unless, unless_among};
 ghost use Rattle.std.specs.Prelude.{◌≡◌, ◌++◌, map, OnOk};
 
 use al_base::{Code, FaultSink, RuleCode, Span, is_among};
 use al_scalar::Scalar;
-use al_tree::key_text;
-use al_yaml_tree::Node;
 use std::alloc::AllocError;
 
 /// A text of a file, and its span.
@@ -18,16 +15,6 @@ pub struct Named<'a> {
     pub text: &'a [u8],
     /// Its span, quotes included.
     pub span: Span,
-}
-
-/// The text and the span of a key.
-pub fn named_key(key: &Node) -> Named<'_>
-    ensures { named_of result ≡ of_key (view key.now) }
-{
-    Named {
-        text: key_text(key),
-        span: key.span(),
-    }
 }
 
 /// The text and the span of a scalar.

@@ -8,7 +8,7 @@ ghost use Rattle.std.specs.Option.{option_copied};
 ghost use Rattle.std.specs.Prelude.{◌≡◌, ◌++◌, map, IfOk, OnOk};
 
 use crate::names::{PERMISSIONS, SCOPE_VALUES, SHELLS, WHOLE_VALUES};
-use crate::reports::{named_key, named_text, report_unless, report_unless_among};
+use crate::reports::{named_text, report_unless, report_unless_among};
 use al_base::{Code, FaultSink, RuleCode, is_among};
 use al_rules_formats::{Around, has_part, is_lone_chunk, is_variable};
 use al_scalar::Scalar;
@@ -58,7 +58,7 @@ pub fn check_permissions(section: &Node, faults: &mut FaultSink) -> Result<(), A
     };
     check_value(WHOLE_VALUES, node, faults)?;
     for scope in &members(faults.alloc(), node)? {
-        let name = named_key(scope.key);
+        let name = named_text(scope.key);
         report_unless_among(RuleCode::UnknownPermission, PERMISSIONS, name, faults)?;
         check_value(SCOPE_VALUES, scope.value, faults)?;
     }
@@ -82,7 +82,7 @@ pub fn check_env(section: &Node, faults: &mut FaultSink) -> Result<(), AllocErro
         return Ok(());
     }
     for variable in &members(faults.alloc(), node)? {
-        let name = named_key(variable.key);
+        let name = named_text(variable.key);
         let right = is_variable(name.text);
         report_unless(right, RuleCode::WrongVariable, name, faults)?;
     }

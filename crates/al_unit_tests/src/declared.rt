@@ -3,7 +3,7 @@
 use crate::files::document;
 use al_tree::{
     InputType, Member, declared_at, declared_in, has_value, input_of, is_composite, is_named_among,
-    key_text, value_below_three, value_below_two,
+    value_below_three, value_below_two,
 };
 use al_yaml_tree::Node;
 use std::alloc::{AllocError, Global};
@@ -30,7 +30,7 @@ fn expected_inputs() -> &'static [(&'static str, InputType)] {
 }
 
 fn is_expected(input: &Member<'_>, name: &str, ty: InputType) -> bool {
-    key_text(input.key) == name.as_bytes() && input_of(input.value) == ty
+    input.key.text() == name.as_bytes() && input_of(input.value) == ty
 }
 
 fn are_expected(found: &[Member<'_>], expected: &[(&str, InputType)]) -> bool {

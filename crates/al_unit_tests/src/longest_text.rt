@@ -105,10 +105,7 @@ fn has_key(doc: &Doc, text: &[u8]) -> bool {
     let Some(entry) = entries.first() else {
         return false;
     };
-    match entry.key.scalar() {
-        Some(key) => key.text() == text,
-        None => false,
-    }
+    entry.key.text() == text
 }
 
 fn has_key_alone(alloc: Global, file: &[u8], text: &[u8]) -> Result<bool, AllocError> {

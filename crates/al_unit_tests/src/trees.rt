@@ -4,8 +4,8 @@ use crate::documents::document;
 use al_base::{Code, Fault, KeyCode, position};
 use al_scalar::Scalar;
 use al_tree::{
-    FileKind, Tree, document_faults, items_under, key, key_text, members_under, read_action,
-    read_workflow, text_under, texts_under, value,
+    FileKind, Tree, document_faults, items_under, key, members_under, read_action, read_workflow,
+    text_under, texts_under, value,
 };
 use al_yaml_tree::Node;
 use std::alloc::{AllocError, Global};
@@ -152,9 +152,9 @@ fn says(word: Option<&Scalar>, text: &str) -> bool {
     }
 }
 
-fn begins_at(node: Option<&Node>, start: u32) -> bool {
-    match node {
-        Some(node) => node.span().start == start,
+fn begins_at(scalar: Option<&Scalar>, start: u32) -> bool {
+    match scalar {
+        Some(scalar) => scalar.span().start == start,
         None => false,
     }
 }
@@ -193,7 +193,7 @@ fn has_step(job: &Node) -> bool {
 fn has_jobs(alloc: Global, root: &Node) -> Result<bool, AllocError> {
     match members_under(alloc, root, "jobs")?.as_slice() {
         [test, call] => Ok(
-            key_text(test.key) == b"test".as_slice()
+            test.key.text() == b"test".as_slice()
                 && has_step(test.value)
                 && says(text_under(call.value, "uses"), "./.github/workflows/b.yml"),
         ),

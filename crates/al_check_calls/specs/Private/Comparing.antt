@@ -7,7 +7,8 @@ use Rattle.al_base.specs.contracts.codes.CallerPartialEq.TheImpl as caller
 use Rattle.al_base.specs.contracts.faults.SpanPartialEq.TheImpl as span
 use Rattle.al_base.specs.declared.codes.Caller.{Caller}
 use Rattle.al_base.specs.declared.faults.Fault.{Fault}
-use Rattle.al_yaml_tree.specs.Node.{Node, span_of}
+use Rattle.al_scalar.specs.Scalar.{Scalar}
+use Rattle.al_yaml_tree.specs.Node.{Node}
 use Rattle.al_tree.specs.Keys.{key_of, keys_in}
 use Rattle.al_tree.specs.Declarations.{named_among}
 use Rattle.al_check_interfaces.specs.Kinds.{parameters_of}
@@ -28,7 +29,7 @@ abbrev pub faults_but_names : Typing → Answered → List Fault
 faults_but_names typing a = uses_faults a.call a.answer ++ value_faults a.call (values_in typing a.call) a.answer
 
 -- C4 of a value that a call passes
-abbrev pub wrong_value : Typing → Call → List Parameter → Node × Node → List Fault
+abbrev pub wrong_value : Typing → Call → List Parameter → Scalar × Node → List Fault
 wrong_value typing c inputs e = wrong_input c inputs (e, given_type (typing c.site) e)
 
 abbrev pub faults_of_names : Answered → List Fault
@@ -88,9 +89,9 @@ pub record CallAlike (q r : Comparison) : Type 0 where
 -- a name that a call gives
 pub record GivenName : Type 0 where
   pub by : Comparison
-  pub entry : Node × Node
+  pub entry : Scalar × Node
 
-abbrev pub name_by : Comparison → Node × Node → GivenName
+abbrev pub name_by : Comparison → Scalar × Node → GivenName
 name_by q e = record { by = q; entry = e }
 
 abbrev pub names_by : Comparison → List GivenName
@@ -105,7 +106,7 @@ TellSignaturesBy ns = (n m : GivenName) → Contains ns n → Contains ns m → 
 -- the same name at the same position, given by such calls
 abbrev pub is_same_name_given : GivenName → GivenName → Bool
 is_same_name_given n m =
-    call_alike n.by m.by && (bytes_eq (key_of n.entry) (key_of m.entry) && span.ghosts.eq (span_of n.entry.0) (span_of m.entry.0))
+    call_alike n.by m.by && (bytes_eq (key_of n.entry) (key_of m.entry) && span.ghosts.eq n.entry.0.span m.entry.0.span)
 
 abbrev pub AreThere : List Fault → List Fault → Type 0
 AreThere faults all = (f : Fault) → Contains faults f → Contains all f

@@ -4,6 +4,7 @@ use Rattle.std.specs.Option.{option_copied, option_map_or}
 use Rattle.std.specs.Prelude.{if◌then◌else◌, unwrap_or}
 use Rattle.al_base.specs.declared.codes.CallCode.TheVariants.{WrongInput}
 use Rattle.al_types.specs.Types.{Type', assignable_type}
+use Rattle.al_scalar.specs.Scalar.{Scalar}
 use Rattle.al_yaml_tree.specs.Node.{Node, span_of}
 use Rattle.al_yaml_tree.specs.View.{view}
 use Rattle.al_tree.specs.Keys.{key_of}
@@ -27,7 +28,7 @@ text_or_empty None empty e = e
 text_or_empty (Some text) empty e = refl
 
 -- C4 of a value whose input is found
-of_input : (c : Call) (e : Node × Node) (t u : Type') (inputs : List Parameter) (i : Parameter) (right : Bool) → find (is_parameter (key_of e)) inputs ≡ Some i →
+of_input : (c : Call) (e : Scalar × Node) (t u : Type') (inputs : List Parameter) (i : Parameter) (right : Bool) → find (is_parameter (key_of e)) inputs ≡ Some i →
     u ≡ t → right ≡ assignable_type u (input_type i.takes) →
     (if right then [] else call_fault WrongInput c (span_of e.1) (i.name ∷ type_name i.takes ∷ []) ∷ []) ≡ wrong_input c inputs (e, t)
 of_input c e t u inputs i right found same is =
@@ -39,7 +40,7 @@ returns-then-is_assignable_to-clause-faults c =
     let e = member_of c.args.member in
     let file = file_of c.args.env.now in
     let ms = objects_of c.value_type.new.env.types in
-    let found = ap (λ k. find (is_parameter k) c.args.inputs.now) (sym c.key_text.ensures) ∙ sym c.in_ok-input.ensures ∙ ap option_copied c.in-Some.is in
+    let found = ap (λ k. find (is_parameter k) c.args.inputs.now) (sym c.text.ensures) ∙ sym c.in_ok-input.ensures ∙ ap option_copied c.in-Some.is in
     let job = ap (λ j. j.now) c.unwrap_or-job.ensures ∙ text_or_empty c.args.call.site.job _ refl in
     let same = c.in_ok-ty.ensures.ty ∙ ap (λ j. given_type (value_type_in_job file.kind (known_of file.known) (view file.root.now) j) e) job in
     let right = sym c.if-is_assignable_to.true ∙ c.is_assignable_to.ensures ms
@@ -52,7 +53,7 @@ returns-clause-faults c =
     let e = member_of c.args.member in
     let file = file_of c.args.env.now in
     let ms = objects_of c.value_type.new.env.types in
-    let found = ap (λ k. find (is_parameter k) c.args.inputs.now) (sym c.key_text.ensures) ∙ sym c.in_ok-input.ensures ∙ ap option_copied c.in-Some.is in
+    let found = ap (λ k. find (is_parameter k) c.args.inputs.now) (sym c.text.ensures) ∙ sym c.in_ok-input.ensures ∙ ap option_copied c.in-Some.is in
     let job = ap (λ j. j.now) c.unwrap_or-job.ensures ∙ text_or_empty c.args.call.site.job _ refl in
     let same = c.in_ok-ty.ensures.ty ∙ ap (λ j. given_type (value_type_in_job file.kind (known_of file.known) (view file.root.now) j) e) job in
     let right = sym c.if-is_assignable_to.false ∙ c.is_assignable_to.ensures ms

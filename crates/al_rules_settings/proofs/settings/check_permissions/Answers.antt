@@ -11,5 +11,5 @@ pub loop-scope-preserved : goal.loop-scope-preserved
 loop-scope-preserved c =
     item_added permission_faults member_of c.deref-scope-items.result.now c.loop-scope.scope-index c.scope-item.result c.loop-scope.faults _ _
     c.loop-scope-test.true c.scope-item.is
-    (joined2 _ _ _ _ _ (c.in_ok-report_unless_among.ensures ∙ ap (λ n. c.loop-scope.faults ++ unless_among UnknownPermission permissions n) c.named_key-name.ensures)
+    (joined2 _ _ _ _ _ (c.in_ok-report_unless_among.ensures ∙ ap (λ n. c.loop-scope.faults ++ unless_among UnknownPermission permissions n) c.named_text-name.ensures)
     c.in_ok-check_value-2.ensures) c.loop-scope.invariant
