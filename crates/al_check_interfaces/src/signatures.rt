@@ -13,8 +13,8 @@ use crate::lists::Parameters;
 use al_base::is_same_name;
 use al_expr_types::{Name, NameList};
 use al_tree::{
-    FileKind, InputType, Member, declared_at, has_value, input_of, is_composite, texts, value,
-    value_below_three,
+    FileKind, InputType, Member, declared_at, has_value, input_of, is_composite, text_under, texts,
+    value, value_below_three,
 };
 use al_yaml_tree::Node;
 use std::alloc::{AllocError, Global};
