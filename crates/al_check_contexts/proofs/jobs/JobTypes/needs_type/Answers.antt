@@ -52,7 +52,7 @@ loop-name-preserved c =
     let found = dependency_at known js c.text.result.now c.in-Some.needed j (sym c.in_ok-needed.ensures ∙ c.in-Some.is) c.job_at.ensures in
     record {
       fields = rw (put_if_next (λ s. s.now) field [] c.as_slice-name-items.result.now c.loop-name.name-index c.name-item.result c.loop-name-test.true c.name-item.is)
-          (rw (← c.text.ensures, found) (rw c.text.ensures at (c.in_ok-fields.ensures now _ _ lists means)));
+          (rw (← c.text.ensures, found) (rw c.text-in-loop-name.ensures at (c.in_ok-fields.ensures now _ _ lists means)));
       keeps = c.in_ok-ty.ensures.keeps;
       kept = begins_trans (objects_of c.args.types.now) (objects_of before) (objects_of now) was.kept made.kept;
     }
