@@ -50,7 +50,7 @@ module _ (size : ℕ) where
   exclude_place : (items : List Node) → AllByRecursion (Fine size) items → AllByRecursion (NameLies size) (exclude_keys items)
   exclude_place items h =
       each_of (Fine size) (NameLies size) (λ item. map (λ m. of_scalar m.0) (entries_in item))
-      (λ item f. each_as (Pair (Fine size)) (NameLies size) (λ m. of_scalar m.0) (λ m q. q.0.place) (entries_in item) (entries_in_kept (laid size) item f)) items h
+      (λ item f. each_as (Pair (Fine size)) (NameLies size) (λ m. of_scalar m.0) (λ m q. q.0.0) (entries_in item) (entries_in_kept (laid size) item f)) items h
 
   excludes_lie : (place : List ℕ → Option ℕ) (names : List Named) → AllByRecursion (NameLies size) names
       → Are size (flat_map (exclude_faults place) names)
@@ -76,7 +76,7 @@ module _ (size : ℕ) where
 
   permission_lies : (m : Scalar × Node) → Pair (Fine size) m → Are size (permission_faults m)
   permission_lies m p =
-      let name = unless_lies size (among permissions (key_of m)) UnknownPermission (of_scalar m.0) p.0.place in
+      let name = unless_lies size (among permissions (key_of m)) UnknownPermission (of_scalar m.0) p.0.0 in
       search (both size, name, value_lies scope_values m.1 p.1)
 
   all_permissions_lie : (n : Node) → Fine size n → Are size (all_permissions_faults n)
@@ -87,7 +87,7 @@ module _ (size : ℕ) where
 
   pub env_lies : (n : Node) → Fine size n → Are size (env_faults n)
   env_lies n f =
-      each_of (Pair (Fine size)) (Lies size) variable_faults (λ m p. unless_lies size (is_variable (key_of m)) WrongVariable (of_scalar m.0) p.0.place)
+      each_of (Pair (Fine size)) (Lies size) variable_faults (λ m p. unless_lies size (is_variable (key_of m)) WrongVariable (of_scalar m.0) p.0.0)
       (entries_at (codes "env") n) (entries_kept (laid size) (codes "env") n f)
 
   password_lies : (n : Node) → Fine size n → Are size (password_faults n)
