@@ -25,7 +25,6 @@ use al_check_places::{Place, Position, Section, Seen, available};
 use al_expr_types::Ty;
 use al_scalar::Scalar;
 use al_tree::{InputType, Member, members_under};
-use al_yaml_tree::Node;
 use std::alloc::AllocError;
 
 /// The place of the value of a key under `with` of a job.

@@ -14,8 +14,8 @@ pub record IsBetween (low high : ℕ) (at : Span) : Type 0 where
   pub ordered : at.start ≤ at.end
   pub to : at.end ≤ high
 
--- A scalar lies between two offsets of a file of so many bytes, and its text in its own span, but the line feeds at a block scalar's end may
--- come from after it.
+-- A scalar lies between two offsets of a file of so many bytes, and its text in its own span, but the line feeds at a block scalar's end
+-- may come from after it.
 abbrev pub ScalarPlacedIn : ℕ → ℕ → ℕ → Scalar → Type 0
 ScalarPlacedIn size low high s = IsBetween low high s.span × IsPlaced size s
 

@@ -20,7 +20,7 @@ pub enum Node {
     Shared(Rc<Node>),
 }
 
-/// A key of a mapping, and its value. A key is a scalar: any other is a fault of the file.
+/// A key of a mapping, and its value. A key is a scalar; any other is a fault.
 #[cycle(node)]
 #[derive(Drop)]
 pub struct Entry {
