@@ -152,18 +152,11 @@ fn says(word: Option<&Scalar>, text: &str) -> bool {
     }
 }
 
-fn begins_at(scalar: Option<&Scalar>, start: u32) -> bool {
-    match scalar {
-        Some(scalar) => scalar.span().start == start,
-        None => false,
-    }
-}
-
 fn has_names(root: &Node) -> bool {
     says(text_under(root, "name"), "Build")
         && says(text_under(root, "run-name"), "by me")
         && says(text_under(root, "on"), "")
-        && begins_at(key(root, "jobs"), 307)
+        && key(root, "jobs").is_some_and(|key| key.span().start == 307)
 }
 
 fn push_of(root: &Node) -> Option<&Node> {
@@ -234,7 +227,7 @@ fn is_action(action: &Tree) -> bool {
     matches!(action.kind(), FileKind::Action)
         && says(text_under(root, "author"), "B")
         && has_args(root)
-        && begins_at(value(root, "branding"), 192)
+        && value(root, "branding").is_some_and(|node| node.span().start == 192)
 }
 
 fn reads_action(alloc: Global) -> Result<bool, AllocError> {
