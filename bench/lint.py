@@ -91,6 +91,7 @@ def aliases(count):
 def shapes():
     """Workflows of one shape each."""
     yield "1,336 jobs of the usual kind", workflow(1_336)
+    yield "the same with names in Cyrillic", workflow(1_336).replace("Build and test, part", "Сборка и проверка, часть")
     yield "16,000 steps with an expression each", steps("      - name: Step ${{{{ github.run_id }}}}\n        run: make {n}\n", 16_000)
     yield "10,000 jobs", jobs(10_000)
     yield "10,000 steps with ids", steps("      - id: step{n}\n        run: make\n", 10_000)
@@ -153,8 +154,9 @@ def main():
         print(f"{'file':42} {'bytes':>9} {'libyaml':>9} {'':9}{columns}")
         for name, text in shapes():
             script = put_commands([(WORKFLOW, text)]) + b"report\n"
-            inputs = [text.encode()] * len(others) + [script] * len(programs)
-            compare(name, len(text), others + [[it, *SESSION] for it in programs], inputs)
+            data = text.encode()
+            inputs = [data] * len(others) + [script] * len(programs)
+            compare(name, len(data), others + [[it, *SESSION] for it in programs], inputs)
         for count, jobs_of_each in ((1, 6), (200, 5), (4_096, 1)):
             folder = pathlib.Path(made) / str(count)
             paths, size = fill(folder, count, jobs_of_each)

@@ -33,7 +33,7 @@ right-property (c ∷ cs) h = grind (arith, common_steps, h)
 -- what is read after a key's scalar, and after its colon
 
 abbrev pub with_colon : List ℕ → ℕ → ScalarRead → Option (List Line) → Reading FlowKey
-with_colon bytes at r colon = starting_scalar (start (lines_at bytes at)) (gives (record { scalar = r; after = colon }))
+with_colon bytes at r colon = starting_scalar (start (lines_at bytes at)) (gives (record { read = r; after = colon }))
 
 abbrev pub key_with : List ℕ → ℕ → ScalarRead → Reading FlowKey
 key_with bytes at r = of_result (key_colon (lines_at bytes at) r) >>= with_colon bytes at r

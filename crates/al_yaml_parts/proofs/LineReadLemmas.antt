@@ -153,10 +153,10 @@ key-stops asked (stop.Fault f) h = ap keyed h
 key-stops asked stop.Memory h = tt
 
 abbrev pub key_with : value.ScalarRead → Option (List Line) → Option Key
-key_with r o = elim o [ None ↦ None | Some left ↦ Some (record { scalar = r; after = left }) ]
+key_with r o = elim o [ None ↦ None | Some left ↦ Some (record { read = r; after = left }) ]
 
 key-by : (r : value.ScalarRead) (left : List Line) (colon : Bool)
-    → cond colon (Some (record { scalar = r; after = left })) None ≡ key_with r (cond colon (Some left) None)
+    → cond colon (Some (record { read = r; after = left })) None ≡ key_with r (cond colon (Some left) None)
 key-by r left true = refl
 key-by r left false = refl
 

@@ -16,7 +16,7 @@ use Rattle.al_yaml_parts.specs.declared.slots.Spot.TheVariants as spot
 use Rattle.al_yaml_parts.specs.declared.keys.Key.{Key}
 
 abbrev pub key_seen : List ℕ → Key → keys.Key
-key_seen bytes key = record { scalar = read_of bytes key.read; after = lines_at bytes key.after }
+key_seen bytes key = record { read = read_of bytes key.read; after = lines_at bytes key.after }
 
 abbrev pub option_key : List ℕ → Option Key → Option keys.Key
 option_key bytes None = None

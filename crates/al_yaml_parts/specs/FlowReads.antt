@@ -20,7 +20,7 @@ use Rattle.al_yaml_parts.specs.declared.flow_nodes.FoundKey.{FoundKey}
 use Rattle.al_yaml_parts.specs.declared.flow_nodes.FoundKey.TheVariants as found_key
 
 abbrev pub flow_key_of : List ℕ → FlowKey → flow.FlowKey
-flow_key_of bytes key = record { scalar = read_of bytes key.read; after = option_lines bytes key.colon }
+flow_key_of bytes key = record { read = read_of bytes key.read; after = option_lines bytes key.colon }
 
 abbrev pub IsColonInside : ℕ → ℕ → Option ℕ → Type 0
 IsColonInside from size None = Unit {0}

@@ -1,7 +1,7 @@
 //! The stack of open collections.
 
 ghost use Rattle.al_yaml_parts.specs.Stacks.{OpenCollections, depth_in};
-ghost use Rattle.std.specs.Prelude.{◌≡◌, ◌+◌, ◌<◌, ◌≤◌, ◌∷◌, [], IfOk, IfSome, MatchOption, length};
+ghost use Rattle.std.specs.Prelude.{◌≡◌, ◌+◌, ◌<◌, ◌≤◌, ◌∷◌, [], IfOk, IfSome, MatchOption, OnErr, length};
 
 use crate::frames::{BlockFrame, FlowFrame};
 use std::alloc::{AllocError, Global};
@@ -62,12 +62,13 @@ impl Stack {
         self.len() as u32 + 1
     }
 
-    /// Opens one more block collection.
+    /// Opens one more block collection. Fails with `AllocError` when out of memory; the stack is then unchanged.
     pub fn push_block(&mut self, frame: BlockFrame) -> Result<(), AllocError>
         requires room { length self.old.blocks < 64 }
         requires outside { self.old.flows ≡ [] }
         ensures flows { self.new.flows ≡ self.old.flows }
         ensures blocks { IfOk result (λ _. self.new.blocks ≡ frame ∷ self.old.blocks) }
+        ensures failed { OnErr result (self.new.blocks ≡ self.old.blocks) }
     {
         self.blocks.push(frame)?;
         Ok(())
@@ -83,10 +84,11 @@ impl Stack {
         self.blocks.pop()
     }
 
-    /// Opens one more flow collection.
+    /// Opens one more flow collection. Fails with `AllocError` when out of memory; the stack is then unchanged.
     pub fn push_flow(&mut self, frame: FlowFrame) -> Result<(), AllocError>
         requires { length self.old.flows + length self.old.blocks < 64 }
         ensures flows { IfOk result (λ _. self.new.flows ≡ frame ∷ self.old.flows) }
+        ensures failed { OnErr result (self.new.flows ≡ self.old.flows) }
         ensures blocks { self.new.blocks ≡ self.old.blocks }
     {
         self.flows.push(frame)?;

@@ -203,12 +203,12 @@ module _ {f : File} where
     unfolding mapping_entries
     entries-in zero column depth from low done key d h = reads-fault (omega arith)
     entries-in (suc turns) column depth from low done key d h =
-        reads-then (rest-lies node n (value_slot column (start key.after)) depth 0 key.scalar.scalar.span.end key.after key.after tt refl h.1)
+        reads-then (rest-lies node n (value_slot column (start key.after)) depth 0 key.read.scalar.span.end key.after key.after tt refl h.1)
         (λ x k. let i = entry-done d h.0 k in
-        rest_below-in from (part (with_entry done key.scalar.scalar x.value) x.end x.left) (whole-part i k.left) column
+        rest_below-in from (part (with_entry done key.read.scalar x.value) x.end x.left) (whole-part i k.left) column
         (more_entries turns column depth)
         (λ left v. reads-then (entry_key-in collection c depth x.end left v)
-        (λ next w. entries-in turns column depth from x.end (with_entry done key.scalar.scalar x.value) next i w)))
+        (λ next w. entries-in turns column depth from x.end (with_entry done key.read.scalar x.value) next i w)))
 
     -- ---- nodes without properties
 
@@ -231,9 +231,9 @@ module _ {f : File} where
     keyed-in turns slot depth column low ls t h (Some key) k =
         let at = start ls in
         let a = starts-in h in
-        reads-by (not (same_line ls key.scalar.left)) (λ _. reads-fault a)
+        reads-by (not (same_line ls key.read.left)) (λ _. reads-fault a)
         (λ _. unless_tab-in (tab_before slot.spot) t
-        (reads-by (not (is_short_key ls key.scalar)) (λ _. reads-fault a)
+        (reads-by (not (is_short_key ls key.read)) (λ _. reads-fault a)
         (λ _. reads-start a (collected (starts-after h)
         (entries-in turns column (depth + 1) at at no_entries key (no-entries at a) k)))))
 

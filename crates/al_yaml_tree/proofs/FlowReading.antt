@@ -43,7 +43,7 @@ FlowIn f node = (slot : FlowSlot) (depth low : ℕ) (ls : List Line) → SlotIn 
     → Reads f (IsNode f low) (node slot depth ls)
 
 abbrev FlowKeyIn : File → ℕ → FlowKey → Type 0
-FlowKeyIn f low key = IsRead f low key.scalar × OptionLeft f key.scalar.scalar.span.end key.after
+FlowKeyIn f low key = IsRead f low key.read × OptionLeft f key.read.scalar.span.end key.after
 
 key_colon-stands : (after_quote : Bool) (ls : List Line) → is_key_colon after_quote ls ≡ true → begins (ascii ":") (after_blanks (first_text ls)) ≡ true
 key_colon-stands after_quote ls e =
@@ -59,7 +59,7 @@ late-in f low ls r None a h = choose (Answers f.size (OptionLeft f low)) (is_lat
 
 -- a scalar read as a key
 abbrev key_with : List Line → ScalarRead → Option (List Line) → Reading FlowKey
-key_with ls r colon = starting_scalar (start ls) (gives (record { scalar = r; after = colon }))
+key_with ls r colon = starting_scalar (start ls) (gives (record { read = r; after = colon }))
 
 module _ {f : File} where
   -- ---- after an item
@@ -142,9 +142,9 @@ module _ {f : File} where
         (left-gap (left-start k))) (λ p i. part-lower (starts-after k) i)
 
     entry_value-in : (opening depth low : ℕ) (key : FlowKey) → opening ≤ f.size → FlowKeyIn f low key
-        → Reads f (IsNode f key.scalar.scalar.span.end) (flow_entry_value node opening depth key)
+        → Reads f (IsNode f key.read.scalar.span.end) (flow_entry_value node opening depth key)
     unfolding flow_entry_value
-    entry_value-in opening depth low key o h = value_after-in opening depth key.scalar o h.0.left key.after h.1
+    entry_value-in opening depth low key o h = value_after-in opening depth key.read o h.0.left key.after h.1
 
     items-in : (turns opening depth from low : ℕ) (done : Nodes) (ls : List Line) → opening ≤ f.size → IsDone f sequence from low done
         → AreLeft f low ls → Reads f (AreItems f from) (flow_items node turns opening depth done ls)
@@ -174,10 +174,10 @@ module _ {f : File} where
           (λ _. reads-then (flow_key-in collection c depth low ls h)
           (λ key k. reads-then (entry_value-in opening depth low key o k)
           (λ x v. let i = entry-done d k.0 v in
-          rest-reads entries-grow from x.end (with_entry done key.scalar.scalar x.value) i
-          (λ left. flow_entries node collection turns opening depth (with_entry done key.scalar.scalar x.value) left)
+          rest-reads entries-grow from x.end (with_entry done key.read.scalar x.value) i
+          (λ left. flow_entries node collection turns opening depth (with_entry done key.read.scalar x.value) left)
           opening (ascii "}") x.left o (omega arith)
-          (λ left w. entries-in turns opening depth from x.end (with_entry done key.scalar.scalar x.value) left o i w) v.left))))
+          (λ left w. entries-in turns opening depth from x.end (with_entry done key.read.scalar x.value) left o i w) v.left))))
 
   -- ---- nodes and collections
 

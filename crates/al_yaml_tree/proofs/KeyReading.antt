@@ -41,7 +41,7 @@ first_text-utf8 [] u = IsUtf8-nil
 first_text-utf8 (l ∷ ls) u = u.0
 
 abbrev pub KeyIn : File → ℕ → Key → Type 0
-KeyIn f low key = IsRead f low key.scalar × AreLeft f key.scalar.scalar.span.end key.after
+KeyIn f low key = IsRead f low key.read × AreLeft f key.read.scalar.span.end key.after
 
 abbrev pub OptionKeyIn : File → ℕ → Option Key → Type 0
 OptionKeyIn f low None = Unit {0}
@@ -118,7 +118,7 @@ module _ {f : File} where
   found_key-in : (low : ℕ) (ls : List Line) (o : Option Key) → start ls ≤ f.size → OptionKeyIn f low o → Reads f (KeyIn f low) (found_key ls o)
   found_key-in low ls None a h = reads-fault a
   found_key-in low ls (Some key) a h =
-      reads-by (is_simple_key ls key.scalar) (λ _. reads-one a h) (λ _. reads-fault a)
+      reads-by (is_simple_key ls key.read) (λ _. reads-one a h) (λ _. reads-fault a)
 
   pub entry_key-in : (collection : CollectionReader) → CollectionIn f collection → (depth low : ℕ) (ls : List Line) → AreLeft f low ls
       → Reads f (KeyIn f low) (entry_key collection depth ls)

@@ -110,7 +110,7 @@ unfoldable pub mapping_entries : BlockReader → CollectionReader → ℕ → �
 mapping_entries node collection zero column depth done key = fails yaml.UnexpectedCharacter 0
 mapping_entries node collection (suc turns) column depth done key = do
   x ← rest_node node (value_slot column (start key.after)) depth 0 key.after key.after
-  rest_below column (part (with_entry done key.scalar.scalar x.value) x.end x.left) (λ now left.
+  rest_below column (part (with_entry done key.read.scalar x.value) x.end x.left) (λ now left.
       entry_key collection depth left >>= (λ k. mapping_entries node collection turns column depth now.value k))
 
 -- a node with nothing after it on its line, and the whole lines left
@@ -143,9 +143,9 @@ block_sequence node collection turns slot depth column ls =
 abbrev pub block_mapping : BlockReader → CollectionReader → ℕ → Spot → ℕ → ℕ → List Line → Key → Reading (Part Node)
 block_mapping node collection turns spot depth column ls key =
     let at = start ls in
-    if not (same_line ls key.scalar.left) then fails yaml.WrongKey at
+    if not (same_line ls key.read.left) then fails yaml.WrongKey at
     else unless_tab (tab_before spot) (
-    if not (is_short_key ls key.scalar) then fails yaml.WrongKey at
+    if not (is_short_key ls key.read) then fails yaml.WrongKey at
     else with_start (start_of at 2 depth) (
     with_span mapping at (mapping_entries node collection turns column (depth + 1) no_entries key)))
 

@@ -83,7 +83,7 @@ flow_value node slot depth ls =
 
 -- A key, and the lines after its colon if it has one.
 pub record FlowKey : Type 0 where
-  pub scalar : ScalarRead
+  pub read : ScalarRead
   pub after : Option (List Line)
 
 -- whether a colon begins a later line
@@ -111,13 +111,13 @@ flow_key collection depth ls =
     else (do
       r ← of_result (scalar_at flow ls)
       colon ← of_result (key_colon ls r)
-      starting_scalar at (gives (record { scalar = r; after = colon })))))
+      starting_scalar at (gives (record { read = r; after = colon })))))
 
 -- The value of an entry, given its key; without a colon it is empty.
 unfoldable pub flow_entry_value : FlowReader → ℕ → ℕ → FlowKey → Reading (Part Node)
 flow_entry_value node opening depth key =
     elim key.after [
-      | None ↦ empty_node key.scalar.scalar.span.end key.scalar.left
+      | None ↦ empty_node key.read.scalar.span.end key.read.left
       | Some left ↦ flow_value node (record { opening = opening; empty = Some (start left) }) depth (gap false left)
     ]
 
@@ -131,8 +131,8 @@ flow_entries node collection (suc turns) opening depth done ls =
       key ← flow_key collection depth ls
       x ← flow_entry_value node opening depth key
       rest_after (ascii "}") (λ left. flow_entries node collection turns opening depth
-          (with_entry done key.scalar.scalar x.value) left) opening
-          (with_entry done key.scalar.scalar x.value) x.left))
+          (with_entry done key.read.scalar x.value) left) opening
+          (with_entry done key.read.scalar x.value) x.left))
 
 -- a node without properties
 unfoldable pub flow_content : CollectionReader → FlowSlot → ℕ → List Line → Reading (Part Node)

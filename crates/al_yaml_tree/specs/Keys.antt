@@ -16,7 +16,7 @@ use Rattle.al_yaml_tree.specs.Flow.{CollectionReader}
 
 -- A key, and the lines after its colon.
 pub record Key : Type 0 where
-  pub scalar : ScalarRead
+  pub read : ScalarRead
   pub after : List Line
 
 -- the first line as if it were the last
@@ -43,7 +43,7 @@ has_colon ls = is_value_colon (block 0) (after_blanks (first_text ls))
 
 -- a scalar as a key, if a colon follows
 abbrev pub key_before_colon : ScalarRead → Option Key
-key_before_colon r = if has_colon r.left then Some (record { scalar = r; after = past 1 (blanks_dropped r.left) }) else None
+key_before_colon r = if has_colon r.left then Some (record { read = r; after = past 1 (blanks_dropped r.left) }) else None
 
 -- The key that begins here, if one does: a scalar with a colon after it. It may still be too long or span lines.
 abbrev pub key_here : List Line → Result (Option Key) FaultAt
@@ -54,7 +54,7 @@ is_block_start cs = begins (ascii "|") cs || begins (ascii ">") cs
 
 -- whether a scalar on one line begins here and a colon follows it
 abbrev pub begins_key : List Line → Bool
-begins_key ls = elim (key_here ls) [ Ok (Some key) ↦ same_line ls key.scalar.left | _ ↦ false ]
+begins_key ls = elim (key_here ls) [ Ok (Some key) ↦ same_line ls key.read.left | _ ↦ false ]
 
 abbrev pub is_key_start : List Cell → Bool
 is_key_start cs = not (is_skipped cs || is_dash cs || is_property cs || is_block_start cs || is_flow_start cs || is_some (block_fault cs))
@@ -92,7 +92,7 @@ no_entry collection depth ls =
 -- a key that was found where a further entry is expected
 abbrev pub found_key : List Line → Option Key → Reading Key
 found_key ls None = fails yaml.UnexpectedCharacter (start ls)
-found_key ls (Some key) = if is_simple_key ls key.scalar then starting_scalar (start ls) (gives key) else fails yaml.WrongKey (start ls)
+found_key ls (Some key) = if is_simple_key ls key.read then starting_scalar (start ls) (gives key) else fails yaml.WrongKey (start ls)
 
 -- the key of a further entry of the open mapping
 unfoldable pub entry_key : CollectionReader → ℕ → List Line → Reading Key
