@@ -5,6 +5,7 @@ Needs a C compiler, both libraries with their headers (Debian's libyaml-dev and 
 that reports; a peer reads it and keeps nothing. Ratios are to libyaml. Times are the least of several runs that take turns, including the
 start of the process; instructions are counted by callgrind, since times on a shared machine vary by half. Folders are linted without
 arguments, compared with the peers on the same files, each opened by its name, and with yamllint, if Debian's package of it is installed.
+One small file is also compared with cat, which only reads and copies it.
 """
 
 import functools
@@ -18,6 +19,8 @@ import tempfile
 from common import SESSION, WORKFLOW, least_in_turns, peers, program, put_commands, run_seconds, write_files
 
 RUNS = 9
+# of a run that takes a millisecond
+SMALL_RUNS = 200
 YAMLLINT_RUNS = 3
 YAMLLINT = ["yamllint", "--config-data", "relaxed", ".github/workflows"]
 JOB = """  job{n}:
@@ -134,6 +137,13 @@ def compare(name, size, commands, inputs, folder=None):
     print(f"{name:42} {size:9} {first:8.3f}s {counted[0]:8.1f}M{cells}", flush=True)
 
 
+def compare_with_cat(program_path, folder, path, peer):
+    """Prints what one small file takes: read by cat, parsed by the first peer, and linted."""
+    measures = [functools.partial(seconds, it, b"", folder) for it in (["cat", path], [*peer, path], [program_path])]
+    read, parsed, linted = least_in_turns(SMALL_RUNS, measures)
+    print(f"one file of 4 KB: cat {read * 1e3:.2f} ms, libyaml {parsed / read:.2f}, this {linted / read:.2f}", flush=True)
+
+
 def compare_with_yamllint(program_path, made):
     """Prints what this program and yamllint take for the same folders."""
     print(f"\n{'folder':42} {'bytes':>9} {'yamllint':>9} {'this':>9} {'ratio':>6}")
@@ -162,6 +172,8 @@ def main():
             paths, size = fill(folder, count, jobs_of_each)
             commands = [[*it, *paths] for it in others] + [[it] for it in programs]
             compare(f"a folder of {count:,} workflows", size, commands, [b""] * len(commands), folder)
+            if count == 1:
+                compare_with_cat(programs[0], folder, paths[0], others[0])
         if shutil.which(YAMLLINT[0]):
             compare_with_yamllint(programs[0], made)
 
