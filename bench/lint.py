@@ -5,7 +5,7 @@ Needs a C compiler, both libraries with their headers (Debian's libyaml-dev and 
 that reports; a peer reads it and keeps nothing. Ratios are to libyaml. Times are the least of several runs that take turns, including the
 start of the process; instructions are counted by callgrind, since times on a shared machine vary by half. Folders are linted without
 arguments, compared with the peers on the same files, each opened by its name, and with yamllint, if Debian's package of it is installed.
-One small file is also compared with cat, which only reads and copies it.
+One small file is also compared with a program that only reads it.
 """
 
 import functools
@@ -16,7 +16,7 @@ import subprocess
 import sys
 import tempfile
 
-from common import SESSION, WORKFLOW, least_in_turns, peers, program, put_commands, run_seconds, write_files
+from common import SESSION, TOP, WORKFLOW, least_in_turns, peers, program, put_commands, run_seconds, write_files
 
 RUNS = 9
 # of a run that takes a millisecond
@@ -137,11 +137,13 @@ def compare(name, size, commands, inputs, folder=None):
     print(f"{name:42} {size:9} {first:8.3f}s {counted[0]:8.1f}M{cells}", flush=True)
 
 
-def compare_with_cat(program_path, folder, path, peer):
-    """Prints what one small file takes: read by cat, parsed by the first peer, and linted."""
-    measures = [functools.partial(seconds, it, b"", folder) for it in (["cat", path], [*peer, path], [program_path])]
+def compare_with_reading(program_path, folder, path, peer):
+    """Prints what one small file takes: only read, parsed by the first peer, and linted."""
+    reader = pathlib.Path(folder) / "read_only"
+    subprocess.run(["cc", "-O2", "-o", reader, TOP / "bench" / "read_only.c"], check=True)
+    measures = [functools.partial(seconds, it, b"", folder) for it in ([reader, path], [*peer, path], [program_path])]
     read, parsed, linted = least_in_turns(SMALL_RUNS, measures)
-    print(f"one file of 4 KB: cat {read * 1e3:.2f} ms, libyaml {parsed / read:.2f}, this {linted / read:.2f}", flush=True)
+    print(f"one file of 4 KB: read {read * 1e3:.2f} ms, libyaml {parsed / read:.2f}, this {linted / read:.2f}", flush=True)
 
 
 def compare_with_yamllint(program_path, made):
@@ -173,7 +175,7 @@ def main():
             commands = [[*it, *paths] for it in others] + [[it] for it in programs]
             compare(f"a folder of {count:,} workflows", size, commands, [b""] * len(commands), folder)
             if count == 1:
-                compare_with_cat(programs[0], folder, paths[0], others[0])
+                compare_with_reading(programs[0], folder, paths[0], others[0])
         if shutil.which(YAMLLINT[0]):
             compare_with_yamllint(programs[0], made)
 
