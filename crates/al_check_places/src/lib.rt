@@ -1,4 +1,4 @@
-//! The scalars of workflows and actions that have expressions, each with its place: which contexts and functions are
+//! The texts of workflows and actions that have expressions, each with its place: which contexts and functions are
 //! available there, and where it is.
 #![tactic(auto)]
 
@@ -7,11 +7,9 @@ mod positions;
 mod table;
 mod walk;
 mod ways;
-mod worked;
 
 pub use laws::placed_scalars;
 pub use positions::{Position, Section, Seen};
 pub use table::{Key, Row, available};
 pub use walk::{Place, places};
 pub use ways::WayStep;
-pub use worked::rows;

@@ -15,7 +15,7 @@ ghost use Rattle.al_session_folder.specs.Folder.{bytes_at, faults_at, put_refusa
 ghost use Rattle.al_session_folder.specs.Folder.{without_file, paths_of, refusal_or_memory};
 ghost use Rattle.std.specs.Bool.{Decides};
 ghost use Rattle.al_session_folder.specs.Affected.{affected_paths, is_among};
-ghost use Rattle.al_session_folder.specs.Meaning.{IsUpTo};
+ghost use Rattle.al_lint.specs.Meaning.{IsUpTo};
 ghost use Rattle.al_base.specs.Counted.{count_after};
 ghost use Rattle.al_session_folder.specs.Missing.{is_missing, missing_in};
 ghost use Rattle.al_session_folder.specs.Report.{status_of, report_of};

@@ -25,12 +25,12 @@ use Rattle.al_base.specs.InOrder.{in_order, with_one}
 use Rattle.al_text.specs.Snippets.{fault_text}
 use Rattle.al_base.specs.Spans.{LiesIn}
 use Rattle.al_base.specs.declared.faults.Fault.{Fault}
-use Rattle.al_session_folder.specs.Meaning.{Meaning}
+use Rattle.al_lint.specs.Meaning.{Meaning}
 use Rattle.al_session_folder.specs.Folder.{Folder, answers, faults_in}
 use Rattle.al_session_folder.specs.Kept.{Files, folder_of, referents, AllKept}
 use Rattle.al_session_folder.specs.Cycles.{calls_graph, callee, is_on_cycle, call_cycle_faults, report_faults}
 use Rattle.al_session_folder.specs.declared.kept.KeptFile.{KeptFile}
-use Rattle.al_session_folder.specs.declared.lint.Target.{Target}
+use Rattle.al_lint.specs.declared.lint.Target.{Target}
 use Rattle.al_session_folder.proofs.CallCycles.{fault_if, kept_number, faults_on_cycles}
 use Rattle.al_session_folder.specs.Report.{status_of, report_of}
 use Rattle.al_session_folder.specs.Checked.{AllChecked}

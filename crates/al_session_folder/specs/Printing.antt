@@ -10,7 +10,7 @@ use Rattle.al_base.specs.LineStarts.{line_starts}
 use Rattle.al_text.specs.Snippets.{fault_text}
 use Rattle.al_base.specs.Spans.{LiesIn}
 use Rattle.al_base.specs.Limits.{largest_file}
-use Rattle.al_session_folder.specs.Meaning.{Meaning}
+use Rattle.al_lint.specs.Meaning.{Meaning}
 use Rattle.al_session_folder.specs.Folder.{Folder}
 use Rattle.al_session_folder.specs.Cycles.{call_cycle_faults, report_faults}
 use Rattle.al_session_folder.specs.declared.kept.KeptFile.{KeptFile}

@@ -2,7 +2,7 @@
 use Rattle.std.specs.Prelude.{ℕ, Bool, List, not, length, ◌==◌, if◌then◌else◌}
 use Rattle.std.specs.List.{enumerate_from, flat_map, list_any}
 use Rattle.al_text.specs.Snippets.{fault_text}
-use Rattle.al_session_folder.specs.Meaning.{Meaning}
+use Rattle.al_lint.specs.Meaning.{Meaning}
 use Rattle.al_session_folder.specs.Folder.{Folder}
 use Rattle.al_session_folder.specs.Cycles.{report_faults}
 

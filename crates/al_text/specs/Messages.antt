@@ -1,6 +1,6 @@
 -- What a report prints of one fault: PATH:LINE:COL: MESSAGE [KIND], with the words of the table of codes.
 use Rattle.std.specs.Prelude.{ℕ, List, [], ◌++◌, codes, decimal, slice_get, unwrap_or}
-use Rattle.al_base.specs.Codes.{code_row}
+use Rattle.al_text.specs.Wordings.{code_row}
 use Rattle.al_base.specs.Positions.{line_at, column_at}
 use Rattle.al_base.specs.Printable.{printable}
 use Rattle.al_base.specs.declared.codes.Code.{Code}

@@ -1,6 +1,6 @@
 //! The table of fault codes: what a report prints for each.
 ghost use Rattle.std.specs.Prelude.{◌≡◌, codes};
-ghost use Rattle.al_base.specs.Codes.{code_row, call_kind};
+ghost use Rattle.al_text.specs.Wordings.{code_row, call_kind};
 ghost use Rattle.al_base.specs.declared.codes.Code.TheVariants as code;
 ghost use Rattle.al_text.specs.Private.Wordings.{IsRowOf};
 

@@ -7,8 +7,8 @@ ghost use Rattle.std.specs.List.Sorted.{IsStrictlySortedBy};
 ghost use Rattle.al_base.specs.FaultLists.{fault_cmp};
 ghost use Rattle.al_base.specs.Limits.{largest_file};
 ghost use Rattle.al_base.specs.Spans.{LiesIn};
-ghost use Rattle.al_session_folder.specs.Meaning.{AreAnswers, Meaning};
-ghost use Rattle.al_session_folder.specs.Sites.{site_fault};
+ghost use Rattle.al_lint.specs.Meaning.{AreAnswers, Meaning};
+ghost use Rattle.al_lint.specs.Sites.{site_fault};
 ghost use Rattle.al_base.specs.Counted.{count_after};
 
 use crate::paths::owned_path;

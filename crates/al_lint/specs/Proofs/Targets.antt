@@ -5,9 +5,9 @@ use Rattle.std.specs.Cmp.{IsPartialEquivalence, decided, partial_equiv_from_equi
 use Rattle.std.proofs.Common.{◌∙◌, ap, refl, subst}
 use Rattle.std.proofs.lemmas.Bool.{and_parts}
 use Rattle.std.proofs.lemmas.Slice.Eq.{bytes_eq-Decides}
-use Rattle.al_session_folder.specs.CallGraphs.{is_same_target}
-use Rattle.al_session_folder.specs.declared.lint.Target.{Target}
-use Rattle.al_session_folder.specs.declared.lint.Target.TheVariants.{FirstOf, Only}
+use Rattle.al_lint.specs.Targets.{is_same_target}
+use Rattle.al_lint.specs.declared.lint.Target.{Target}
+use Rattle.al_lint.specs.declared.lint.Target.TheVariants.{FirstOf, Only}
 
 same_target : (t u : Target) → is_same_target t u ≡ true → t ≡ u
 same_target (Only p) (Only q) h = ap Only ((bytes_eq-Decides p q).0 h)

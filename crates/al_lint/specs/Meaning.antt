@@ -3,8 +3,8 @@ use Rattle.std.specs.Prelude.{◌≡◌, ℕ, ◌≤◌, Bool, List, [], ◌∷�
 use Rattle.std.specs.List.{list_any}
 use Rattle.al_base.specs.Counted.{count_after}
 use Rattle.al_base.specs.declared.faults.Fault.{Fault}
-use Rattle.al_session_folder.specs.declared.lint.Target.{Target}
-use Rattle.al_session_folder.specs.declared.lint.Target.TheVariants.{Only, FirstOf}
+use Rattle.al_lint.specs.declared.lint.Target.{Target}
+use Rattle.al_lint.specs.declared.lint.Target.TheVariants.{Only, FirstOf}
 
 -- I is the type of interfaces
 pub record Meaning (I : Type 0) : Type 0 where
