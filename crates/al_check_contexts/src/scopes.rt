@@ -2,11 +2,11 @@
 ghost use Rattle.std.specs.Prelude.{◌≡◌, option_map};
 ghost use Rattle.al_check_contexts.specs.Scopes as scopes;
 ghost use Rattle.al_check_places.specs.Availability.{row_view};
-ghost use Rattle.al_types.specs.Scopes.{available_of};
+ghost use Rattle.al_expr_names.specs.Scopes.{available_of};
 
 use al_check_places::Row;
+use al_expr_names::{Available, CONTEXTS, Context, Function, SPECIAL_FUNCTIONS};
 use al_tree::FileKind;
-use al_types::{Available, CONTEXTS, Context, Function, SPECIAL_FUNCTIONS};
 
 /// The contexts of an action: all but `secrets`.
 const OF_ACTION: &[Context] = &[

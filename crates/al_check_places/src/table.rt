@@ -5,7 +5,7 @@ ghost use Rattle.al_check_places.specs.Paths.{is_path_prefix, key_view};
 ghost use Rattle.std.specs.Option.{option_map_or};
 ghost use Rattle.std.specs.Str.{bytes_eq};
 
-use al_types::{Context, Function};
+use al_expr_names::{Context, Function};
 
 /// A key of a path: a name, or any key.
 #[derive(Clone, Copy)]

@@ -1,12 +1,12 @@
 -- What a place makes available.
 use Rattle.std.specs.Prelude.{List, [], ◌∷◌, Bool, ◌||◌, not}
 use Rattle.std.specs.List.{list_any}
-use Rattle.al_types.specs.contracts.names.ContextPartialEq.TheImpl as contexts
-use Rattle.al_types.specs.contracts.names.FunctionPartialEq.TheImpl as functions
-use Rattle.al_types.specs.declared.names.Context.{Context}
-use Rattle.al_types.specs.declared.names.Function.{Function}
-use Rattle.al_types.specs.declared.names.Function.TheVariants.{Always, Cancelled, Failure, HashFiles, Success}
-use Rattle.al_types.specs.declared.scope.Available as code
+use Rattle.al_expr_names.specs.contracts.names.ContextPartialEq.TheImpl as contexts
+use Rattle.al_expr_names.specs.contracts.names.FunctionPartialEq.TheImpl as functions
+use Rattle.al_expr_names.specs.declared.names.Context.{Context}
+use Rattle.al_expr_names.specs.declared.names.Function.{Function}
+use Rattle.al_expr_names.specs.declared.names.Function.TheVariants.{Always, Cancelled, Failure, HashFiles, Success}
+use Rattle.al_expr_names.specs.declared.scope.Available as code
 use Rattle.al_types.specs.Types.{Type'}
 
 -- which contexts are available, and which special functions

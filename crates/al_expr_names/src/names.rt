@@ -1,7 +1,7 @@
 //! The names of contexts and functions, which are case-insensitive.
 
 ghost use Rattle.std.specs.Prelude.{◌≡◌};
-ghost use Rattle.al_types.specs.Names as names;
+ghost use Rattle.al_expr_names.specs.Names as names;
 
 use al_base::is_same_name;
 

@@ -1,7 +1,7 @@
 //! Which contexts and functions are available at a place.
 
 ghost use Rattle.std.specs.Prelude.{◌≡◌};
-ghost use Rattle.al_types.specs.Scopes.{can_call};
+ghost use Rattle.al_expr_names.specs.Scopes.{can_call};
 
 use crate::names::{Context, Function};
 

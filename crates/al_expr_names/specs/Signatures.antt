@@ -1,14 +1,14 @@
 -- What functions take and return.
 use Rattle.std.specs.Prelude.{ℕ, Bool, true, ◌||◌, not, nat_eq, if◌then◌else◌}
-use Rattle.al_types.specs.declared.names.Function.{Function}
-use Rattle.al_types.specs.declared.names.Function.TheVariants as function
-use Rattle.al_types.specs.declared.signatures.Wanted.{Wanted}
-use Rattle.al_types.specs.declared.signatures.Wanted.TheVariants as wants
-use Rattle.al_types.specs.declared.signatures.Parameters.{Parameters}
-use Rattle.al_types.specs.declared.signatures.Parameters.TheVariants.{Zero, One, Two, OneOrTwo, OneOrMore}
-use Rattle.al_types.specs.declared.signatures.Returned.{Returned}
-use Rattle.al_types.specs.declared.signatures.Returned.TheVariants as returns
-use Rattle.al_types.specs.declared.signatures.Signature.{Signature}
+use Rattle.al_expr_names.specs.declared.names.Function.{Function}
+use Rattle.al_expr_names.specs.declared.names.Function.TheVariants as function
+use Rattle.al_expr_names.specs.declared.signatures.Wanted.{Wanted}
+use Rattle.al_expr_names.specs.declared.signatures.Wanted.TheVariants as wants
+use Rattle.al_expr_names.specs.declared.signatures.Parameters.{Parameters}
+use Rattle.al_expr_names.specs.declared.signatures.Parameters.TheVariants.{Zero, One, Two, OneOrTwo, OneOrMore}
+use Rattle.al_expr_names.specs.declared.signatures.Returned.{Returned}
+use Rattle.al_expr_names.specs.declared.signatures.Returned.TheVariants as returns
+use Rattle.al_expr_names.specs.declared.signatures.Signature.{Signature}
 use Rattle.al_types.specs.Types.{Type', Any, Bool', String, assignable_type, is_array, is_object, is_collection}
 
 abbrev pub giving : Parameters → Returned → Signature

@@ -1,10 +1,10 @@
 -- Names of contexts and functions (GitHub's pages on contexts and on expressions).
 use Rattle.std.specs.Prelude.{codes, find, ℕ, List, [], ◌∷◌, Option}
 use Rattle.al_base.specs.Names.{same_name}
-use Rattle.al_types.specs.declared.names.Context.{Context}
-use Rattle.al_types.specs.declared.names.Context.TheVariants as context
-use Rattle.al_types.specs.declared.names.Function.{Function}
-use Rattle.al_types.specs.declared.names.Function.TheVariants as function
+use Rattle.al_expr_names.specs.declared.names.Context.{Context}
+use Rattle.al_expr_names.specs.declared.names.Context.TheVariants as context
+use Rattle.al_expr_names.specs.declared.names.Function.{Function}
+use Rattle.al_expr_names.specs.declared.names.Function.TheVariants as function
 
 abbrev pub context_name : Context → List ℕ
 context_name context.Github = codes "github"

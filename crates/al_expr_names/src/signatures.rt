@@ -1,8 +1,8 @@
 //! The signatures of functions: how many arguments they take, of which types, and what they return.
 
 ghost use Rattle.std.specs.Prelude.{◌≡◌, option_map};
-ghost use Rattle.al_types.specs.Names.{function_of};
-ghost use Rattle.al_types.specs.Signatures.{signature, takes_count, parameter_at};
+ghost use Rattle.al_expr_names.specs.Names.{function_of};
+ghost use Rattle.al_expr_names.specs.Signatures.{signature, takes_count, parameter_at};
 
 use crate::names::Function;
 
