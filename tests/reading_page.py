@@ -44,7 +44,7 @@ THEOREMS = (
 # the only name that two of the definitions share: what follows reading, with the remaining lines and with the known anchors
 SHARED = {"◌>>=◌"}
 # the trait whose laws a theorem's `impl` proves: its crate, its file, and its opening
-LAWS = {"L": ("al_session_folder", "lint.rt", ("pub trait Lint",))}
+LAWS = {"L": ("al_lint", "lint.rt", ("pub trait Lint",))}
 
 
 def contract(source, opening):

@@ -4,7 +4,8 @@ use Rattle.std.specs.Option.{option_map_or}
 use Rattle.al_expr_names.specs.Names.{contexts}
 use Rattle.al_expr_names.specs.Scopes.{Available, Scope, available, special}
 use Rattle.al_expr_names.specs.declared.names.Context.{Context}
-use Rattle.al_expr_names.specs.declared.names.Context.TheVariants.{Github, Env, Vars, Runner, Job, Strategy, Needs, Jobs, Steps, Matrix, Inputs}
+use Rattle.al_expr_names.specs.declared.names.Context.TheVariants.{Github, Env, Vars, Runner, Job, Strategy}
+use Rattle.al_expr_names.specs.declared.names.Context.TheVariants.{Needs, Jobs, Steps, Matrix, Inputs}
 use Rattle.al_expr_names.specs.declared.names.Function.{Function}
 use Rattle.al_expr_names.specs.declared.names.Function.TheVariants.{HashFiles}
 use Rattle.al_yaml_tree.specs.Node.{Node}

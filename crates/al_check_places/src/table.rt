@@ -81,15 +81,31 @@ const TABLE: &[Row] = &[
         &[]
     ),
     row!(["jobs" * "secrets" *], &[Github, Needs, Vars, Inputs, Strategy, Matrix, Secrets], &[]),
-    row!(["jobs" * "container" "credentials"], &[Github, Needs, Vars, Inputs, Strategy, Matrix, Env, Secrets], &[]),
+    row!(
+        ["jobs" * "container" "credentials"],
+        &[Github, Needs, Vars, Inputs, Strategy, Matrix, Env, Secrets],
+        &[]
+    ),
     row!(
         ["jobs" * "services" * "credentials"],
         &[Github, Needs, Vars, Inputs, Strategy, Matrix, Env, Secrets],
         &[]
     ),
-    row!(["jobs" * "container" "env" *], &[Github, Needs, Vars, Inputs, Strategy, Matrix, Job, Runner, Env, Secrets], &[]),
-    row!(["jobs" * "services" * "env" *], &[Github, Needs, Vars, Inputs, Strategy, Matrix, Job, Runner, Env, Secrets], &[]),
-    row!(["jobs" * "environment" "url"], &[Github, Needs, Vars, Inputs, Strategy, Matrix, Job, Runner, Env, Steps], &[]),
+    row!(
+        ["jobs" * "container" "env" *],
+        &[Github, Needs, Vars, Inputs, Strategy, Matrix, Job, Runner, Env, Secrets],
+        &[]
+    ),
+    row!(
+        ["jobs" * "services" * "env" *],
+        &[Github, Needs, Vars, Inputs, Strategy, Matrix, Job, Runner, Env, Secrets],
+        &[]
+    ),
+    row!(
+        ["jobs" * "environment" "url"],
+        &[Github, Needs, Vars, Inputs, Strategy, Matrix, Job, Runner, Env, Steps],
+        &[]
+    ),
     row!(["jobs" * "outputs" *], OF_STEP, &[]),
     row!(["jobs" * "steps" "continue-on-error"], OF_STEP, &[HashFiles]),
     row!(["jobs" * "steps" "env"], OF_STEP, &[HashFiles]),
@@ -98,7 +114,11 @@ const TABLE: &[Row] = &[
     row!(["jobs" * "steps" "timeout-minutes"], OF_STEP, &[HashFiles]),
     row!(["jobs" * "steps" "with"], OF_STEP, &[HashFiles]),
     row!(["jobs" * "steps" "working-directory"], OF_STEP, &[HashFiles]),
-    row!(["jobs" * "steps" "if"], &[Github, Needs, Vars, Inputs, Strategy, Matrix, Job, Runner, Env, Steps], &[Always, Cancelled, Success, Failure, HashFiles]),
+    row!(
+        ["jobs" * "steps" "if"],
+        &[Github, Needs, Vars, Inputs, Strategy, Matrix, Job, Runner, Env, Steps],
+        &[Always, Cancelled, Success, Failure, HashFiles]
+    ),
 ];
 
 fn rows() -> &'static [Row]

@@ -1,13 +1,11 @@
 -- The graph of calls, labels that decide which calls are on a cycle, and what the graph depends on.
-use Rattle.std.specs.Prelude.{ℕ, ◌≡◌, ◌↔◌, ◌&&◌, Bool, false, List, Option, Some, None, Vec, bytes_eq, length, map, slice_index_or}
+use Rattle.std.specs.Prelude.{ℕ, ◌≡◌, ◌↔◌, List, Option, Some, None, Vec, length, map, slice_index_or}
 use Rattle.std.specs.Global.{Global}
 use Rattle.al_graph.specs.Graphs.{Edge, Walk, edges_of}
 use Rattle.al_lint.specs.Meaning.{Meaning}
 use Rattle.al_session_folder.specs.Folder.{Folder, paths_of}
 use Rattle.al_session_folder.specs.Kept.{AreKept, Files, folder_of}
 use Rattle.al_session_folder.specs.Cycles.{calls_graph}
-use Rattle.al_lint.specs.declared.lint.Target.{Target}
-use Rattle.al_lint.specs.declared.lint.Target.TheVariants.{FirstOf, Only}
 
 -- the graph has an edge from the file with this number to the callee of a call, if there is one
 abbrev pub IsCalledBy : List (List ℕ) → ℕ → Option ℕ → Type 0
