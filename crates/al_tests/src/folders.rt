@@ -1,11 +1,8 @@
-//! Interfaces of files, and reports of folders whose files call one another, with ample memory.
+//! Reports of folders whose files call one another, with ample memory.
 
 use al_base::Output;
-use al_check_interfaces::{Interface, interface_of};
 use al_cli::lint_all;
-use al_tree::FileKind;
-use al_yaml::read_yaml;
-use std::alloc::{AllocError, Global};
+use std::alloc::Global;
 
 /// The path and the bytes of a file.
 type File = (&'static str, &'static [u8]);
@@ -84,19 +81,6 @@ const ACTION: File = (
     "a/action.yml",
     b"name: A
 description: d
-inputs:
-  who:
-    required: true
-runs:
-  using: node20
-  main: m.js
-",
-);
-
-const ACTION_OF_OTHER_DESCRIPTION: File = (
-    "a/action.yml",
-    b"name: A
-description: e
 inputs:
   who:
     required: true
@@ -238,41 +222,4 @@ fn faults_of_calls(rt: HostRuntime) {
     for (files, report) in rows() {
         assert!(rt; is_reported(rt.alloc(), files, report));
     }
-}
-
-// The interface of an action; `None` if it has a fault.
-fn shown(alloc: Global, file: &File) -> Result<Option<Interface>, AllocError> {
-    let text = file.1;
-    if text.len() > 1_048_576 {
-        return Ok(None);
-    }
-    match read_yaml(alloc, text)? {
-        Ok(doc) => Ok(Some(interface_of(alloc, FileKind::Action, &doc.root)?)),
-        Err(_) => Ok(None),
-    }
-}
-
-// Whether two actions have no fault and equal interfaces.
-fn show_the_same(alloc: Global, one: &File, other: &File) -> Result<Option<bool>, AllocError> {
-    let Some(one) = shown(alloc, one)? else {
-        return Ok(None);
-    };
-    let Some(other) = shown(alloc, other)? else {
-        return Ok(None);
-    };
-    Ok(Some(one == other))
-}
-
-#[test]
-fn description_is_not_shown(rt: HostRuntime) -> Result<(), AllocError> {
-    let same = show_the_same(rt.alloc(), &ACTION, &ACTION_OF_OTHER_DESCRIPTION)?;
-    assert!(rt; same == Some(true));
-    Ok(())
-}
-
-#[test]
-fn inputs_are_shown(rt: HostRuntime) -> Result<(), AllocError> {
-    let same = show_the_same(rt.alloc(), &ACTION, &ACTION_WITHOUT_INPUTS)?;
-    assert!(rt; same == Some(false));
-    Ok(())
 }
