@@ -18,7 +18,7 @@ ghost use Rattle.al_session_folder.specs.Affected.{affected_paths, is_among};
 ghost use Rattle.al_lint.specs.Meaning.{IsUpTo};
 ghost use Rattle.al_base.specs.Counted.{count_after};
 ghost use Rattle.al_session_folder.specs.Missing.{is_missing, missing_in};
-ghost use Rattle.al_session_folder.specs.Report.{status_of, report_of};
+ghost use Rattle.al_session.specs.Report.{status_of, report_of};
 ghost use Rattle.al_session.specs.EditLaws.{OthersKeepFaults, PutsInAnyOrder, SamePutChangesNothing};
 ghost use Rattle.al_session.specs.Session.{IsLinted, ReadsForPut, folder_in};
 
@@ -28,8 +28,8 @@ use crate::indexed::IndexedFiles;
 use crate::refused::{delete_refused, put_refused};
 use al_base::{Fault, Output, Path, Stop};
 use al_session_folder::{
-    CallGraph, Lint, Paths, Refused, find_call_cycle_faults, has_call_cycles, has_faults,
-    join_files, missing_paths, write_files,
+    CallGraph, Lint, Paths, Refused, find_call_cycle_faults, has_call_cycles, join_files,
+    missing_paths,
 };
 use std::alloc::{AllocError, Global};
 use std::io::Write;

@@ -1,5 +1,5 @@
 //! A folder of files that may call one another, as a session keeps it: what it requires of a linter, the files that were read, the index
-//! of their callers, which files a change affects, which calls are on a call cycle, and what a report and a status say of each file.
+//! of their callers, which files a change affects, which calls are on a call cycle, and which faults a report lists of each file.
 #![tactic(auto)]
 
 mod affected;
@@ -11,7 +11,6 @@ mod kept;
 mod missing;
 mod paths;
 mod place;
-mod report;
 mod same_calls;
 mod view;
 
@@ -25,6 +24,5 @@ pub use kept::{Callers, Calls, Files, KeptFile};
 pub use missing::missing_paths;
 pub use paths::Paths;
 pub use place::{file_number, place_in};
-pub use report::{has_faults, write_files};
 pub use same_calls::has_same_calls;
 pub use view::FolderView;

@@ -4,10 +4,12 @@ ghost use Rattle.std.specs.Prelude.{◌≡◌, not, length, ◌==◌};
 ghost use Rattle.std.specs.List.{enumerate_from, flat_map, list_any};
 ghost use Rattle.al_base.specs.Streams.{WritesOrFails};
 ghost use Rattle.al_session_folder.specs.Kept.{folder_of, referents};
-ghost use Rattle.al_session_folder.specs.Printing.{AreListed, ArePrintable, IsPrintable, lines_of, joined_or_own, numbered_lines};
+ghost use Rattle.al_session_folder.specs.Printing.{AreListed, ArePrintable, IsPrintable, joined_or_own};
+ghost use Rattle.al_session.specs.Private.Printing.{lines_of, numbered_lines};
 
-use crate::{Files, KeptFile, Lint, file_number};
 use al_base::{Fault, Location, Output, Stop};
+use al_lint::Lint;
+use al_session_folder::{Files, KeptFile, file_number};
 use al_text::{write_fault_at, write_faults};
 use std::io::Write;
 
@@ -19,7 +21,7 @@ pub fn has_faults<U, I>(files: &Files<U, I>) -> bool
 }
 
 /// Writes the faults that a report lists, file by file in order of path: each as its line, followed by its snippet unless `oneline` is
-/// set. The lists are those of [`join_files`](crate::join_files). Doesn't allocate.
+/// set. The lists are those of [`join_files`](al_session_folder::join_files). Doesn't allocate.
 ///
 /// # Errors
 ///

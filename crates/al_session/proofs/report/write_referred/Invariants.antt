@@ -4,7 +4,7 @@ use Rattle.std.specs.List.{flat_map}
 use Rattle.al_base.specs.Positions.{BeginsLine, column_at, line_at}
 use Rattle.al_base.specs.Streams.{bytes_written, write_failures}
 use Rattle.al_text.specs.Snippets.{fault_text}
-use Rattle.al_session_folder.proofs.report.write_referred.Given as goal
+use Rattle.al_session.proofs.report.write_referred.Given as goal
 
 abbrev pub invariant-loop-fault : goal.invariant-loop-fault
 invariant-loop-fault g l = record {

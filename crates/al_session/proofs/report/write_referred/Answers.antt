@@ -7,7 +7,7 @@ use Rattle.al_base.proofs.Bytes.{Appends-next}
 use Rattle.al_base.proofs.Writing.{fails_in_element, succeeds}
 use Rattle.al_text.specs.Snippets.{fault_text}
 use Rattle.al_session_folder.proofs.ListedFaults.{all-referred}
-use Rattle.al_session_folder.proofs.report.write_referred.Goals as goal
+use Rattle.al_session.proofs.report.write_referred.Goals as goal
 
 pub location_after-location-requires-clause-within : goal.location_after-location-requires-clause-within
 location_after-location-requires-clause-within g c =

@@ -8,8 +8,8 @@ use Rattle.al_base.proofs.Writing.{fails_in_element, succeeds}
 use Rattle.al_session_folder.specs.Kept.{folder_of}
 use Rattle.al_session_folder.specs.declared.kept.KeptFile.{KeptFile}
 use Rattle.al_session_folder.proofs.CallCycles.{numbered_read}
-use Rattle.al_session_folder.specs.Printing.{numbered_lines}
-use Rattle.al_session_folder.proofs.report.write_files.Goals as goal
+use Rattle.al_session.specs.Private.Printing.{numbered_lines}
+use Rattle.al_session.proofs.report.write_files.Goals as goal
 
 pub write_file-requires : goal.write_file-requires
 write_file-requires g c =

@@ -3,8 +3,8 @@ use Rattle.std.specs.Io.KnownBytes.{Appends}
 use Rattle.std.specs.List.{enumerate_from, flat_map}
 use Rattle.al_base.specs.Streams.{bytes_written, write_failures}
 use Rattle.al_session_folder.specs.Kept.{folder_of}
-use Rattle.al_session_folder.specs.Printing.{numbered_lines}
-use Rattle.al_session_folder.proofs.report.write_files.Given as goal
+use Rattle.al_session.specs.Private.Printing.{numbered_lines}
+use Rattle.al_session.proofs.report.write_files.Given as goal
 
 abbrev pub invariant-loop-index : goal.invariant-loop-index
 invariant-loop-index g l = record {
