@@ -25,7 +25,7 @@ def absent(top, shown):
         source = "".join(it.read_text() for it in (top / "crates" / crate / "src").glob("*.rt"))
         yield from (f"test {it} of {crate}" for it in re.findall(r"`(\w+)`", names) if not re.search(rf"\b{it}\b", source))
     for case in sorted(set(re.findall(r"`([^`]+)`", " ".join([*CASES.findall(shown), *PATHS.findall(shown)])))):
-        if not any((top / "tests" / folder / case).exists() for folder in ("cases", "faults", "yaml-trees", "expressions", "chunks")):
+        if not any(name == case or name.startswith(f"{case}/") for name in cases):
             yield f"case {case}"
     yield from (it for it in re.findall(r"`(tests/[\w./-]+)`", shown) if not (top / it).exists())
 

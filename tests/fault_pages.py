@@ -1,4 +1,4 @@
-"""Compares the pages of faults with the code, the definitions and the cases of tests/faults: fault_pages.py TOP [--write].
+"""Compares the pages of faults with the code, the definitions and the cases of tests/faults.cases: fault_pages.py TOP [--write].
 
 Each fault code of al_base has a comment with its identifier (`/// K2: ..`), the row with that number in specs/Codes.antt, and one entry on
 a page docs/FAULTS*.md (tests/fault_entries.py) with the row's message, why it matters, its repair, and a diff whose lines are those of its
@@ -10,7 +10,7 @@ import pathlib
 import re
 import sys
 
-from fault_entries import entries, files_of, report_of
+from fault_entries import cases_of_entries, entries, files_of, report_of
 
 CODE = re.compile(r"/// ([YKGXC][0-9]+): .*\n\s+([A-Za-z0-9]+),")
 DECIDED = re.compile(r"^\| `(\w+/specs/\w+\.antt)` \| (.*) \|$", re.MULTILINE)
@@ -73,11 +73,11 @@ def have(shown, data):
     return True
 
 
-def wrong_repair(top, entry):
+def wrong_repair(cases, entry):
     """What of an entry's repair is missing from its two cases."""
-    before, after = top / "tests/faults" / entry.code, top / "tests/faults" / f"{entry.code}-repaired"
-    if not before.exists() or not after.exists():
-        yield "has no case in tests/faults, or none that is repaired"
+    before, after = cases.get(entry.code), cases.get(f"{entry.code}-repaired")
+    if before is None or after is None:
+        yield "has no case in tests/faults.cases, or none that is repaired"
         return
     report = report_of(before)
     messages = {re.sub(r"^.*?:\d+:\d+: (.*) \[[\w-]+\]$", r"\1", line) for line in report}
@@ -97,11 +97,11 @@ def wrong_repair(top, entry):
             yield f"shows other lines of {path} than the repaired case has"
 
 
-def wrong_of(top, entry):
+def wrong_of(cases, entry):
     """What an entry lacks, whatever its fault is."""
     if not entry.what or not entry.why or not entry.repair:
         yield "doesn't say what it is, why it matters and its repair"
-    yield from wrong_repair(top, entry)
+    yield from wrong_repair(cases, entry)
 
 
 def wrong_definitions(top, found):
@@ -169,13 +169,13 @@ def wrong_codes(every, rows, found):
 
 def main(folder, *write):
     top = pathlib.Path(folder)
-    listed = entries(top / "docs")
+    listed, cases = entries(top / "docs"), cases_of_entries(top)
     found = {entry.code: entry for entry in listed}
     every = codes(top)
     rows = tables(top)
     wrong = [f"{entry.code} has two entries" for entry in listed if found[entry.code] is not entry]
     wrong += wrong_codes(every, rows, found)
-    wrong += [f"{entry.code} {why}" for entry in listed for why in wrong_of(top, entry)]
+    wrong += [f"{entry.code} {why}" for entry in listed for why in wrong_of(cases, entry)]
     wrong += wrong_definitions(top, found.keys())
     printed = {name: ["workflow-call"] if name in OF_JOBS else rows.get((name[0], variant), NO_ROW)[2] for name, variant in every}
     wrong += compare_index(top, BY_CODE, by_code(listed), write)
