@@ -10,9 +10,9 @@ r"""Reads and writes files of cases, NAME.cases: one for each subject.
     bad command
     -- status 2
 
-A case begins with its name. Its parts are the arguments of its run, one per line (without them it has the default ones), its standard input,
-its exact output, and the status of the run: without that part, the number in the output's last line `status N`, or else 0. A part holds the
-bytes of its lines, each with its line feed. In an escaped part a backslash begins one of these:
+A case begins with its name. Its parts are the arguments of its run, one per line (without them it has the default ones), its standard
+input, its exact output, and the status of the run: without that part, the number in the output's last line `status N`, or else 0. A part
+holds the bytes of its lines, each with its line feed. In an escaped part a backslash begins one of these:
 
     \\            a backslash
     \n, \r        a line feed, a carriage return
@@ -35,8 +35,8 @@ HEAD = re.compile(rb"^== ([^\n]+)\n", re.MULTILINE)
 PART = re.compile(rb"^-- ([^\n]+)\n", re.MULTILINE)
 LOOKS_LIKE_A_HEAD = re.compile(rb"^(?:== |-- )", re.MULTILINE)
 TOLD_STATUS = re.compile(rb"(?:\A|\n)status ([0-9]+)\n\Z")
-PLAIN_ESCAPE = rb"\\(?:[\\nr]|x[0-9a-f]{2})"
-ESCAPE = re.compile(rb"\\(?:(?P<sign>[\\nr])|x(?P<byte>[0-9a-f]{2})|\{(?P<count>[0-9]+):(?P<text>(?:[^\\}]|" + PLAIN_ESCAPE + rb")*)\}|\n\Z|)")
+UNIT = rb"(?:[^\\}]|\\[\\nr]|\\x[0-9a-f]{2})*"
+ESCAPE = re.compile(rb"\\(?:(?P<sign>[\\nr])|x(?P<byte>[0-9a-f]{2})|\{(?P<count>[0-9]+):(?P<text>" + UNIT + rb")\}|\n\Z|)")
 SIGNS = {b"\\": b"\\", b"n": b"\n", b"r": b"\r"}
 # a text that is repeated, and the size of the parts in which it is looked for
 REPEATED = re.compile(rb"([^\n]{1,60}?|[^\n]{0,60}\n)\1{39,}", re.DOTALL)

@@ -1,9 +1,9 @@
 """Reads the entries of docs/FAULTS*.md.
 
 An entry is a section `### CODE `MESSAGE``. It says what the fault is, then in a list *Why it matters* and the *Repair*, and shows a repair
-as a block `diff`. The block's lines are those of two cases of tests/faults.cases: CODE, whose report has the fault, and CODE-repaired, whose
-report is clean. A line `@@ MESSAGE @@` is a message of that report, the lines after `+++ PATH` are those of another file than the faulty
-one, and `…` matches any text.
+as a block `diff`. The block's lines are those of two cases of tests/faults.cases: CODE, whose report has the fault, and CODE-repaired,
+whose report is clean. A line `@@ MESSAGE @@` is a message of that report, the lines after `+++ PATH` are those of another file than the
+faulty one, and `…` matches any text.
 """
 
 import re
@@ -56,7 +56,8 @@ def entry_of(page, code, message, body):
 
 def entries(docs):
     """The entries of all pages, in the order of their codes."""
-    every = [entry_of(path.name, *found.groups()) for path in sorted(docs.glob("FAULTS*.md")) for found in SECTION.finditer(path.read_text())]
+    pages = [(path.name, path.read_text()) for path in sorted(docs.glob("FAULTS*.md"))]
+    every = [entry_of(name, *found.groups()) for name, text in pages for found in SECTION.finditer(text)]
     return sorted(every, key=lambda entry: entry.rank)
 
 

@@ -18,7 +18,7 @@ ROW = re.compile(r"^code_row \(C\.(\w+) (\w+)(?: by)?\) = (\w+)(?: by)? (\d+) (.
 EVERY_KIND = re.compile(r'^(\w+) number = row number "(.*)"$', re.MULTILINE)  # of all rows that this makes
 CALL_KIND = re.compile(r'^call_kind caller\.\w+ = "(.*)"$', re.MULTILINE)
 LETTERS = {"Yaml": "Y", "Key": "K", "Rule": "G", "Expression": "X", "Call": "C"}
-NO_ROW = "", "", []
+NO_ROW: tuple[str, str, list[str]] = "", "", []
 SUBJECTS = {"Y": "the file isn't YAML as this program reads it", "K": "keys and values that GitHub's syntax doesn't have",
             "G": "what GitHub refuses, or accepts and never does", "X": "expressions in `${{ .. }}` and in conditions",
             "C": "calls of the folder's actions and workflows"}
@@ -135,8 +135,8 @@ def in_order(message):
 
 def by_message(listed, kinds):
     """The table of messages, sorted."""
-    rows = sorted(listed, key=lambda entry: in_order(entry.message))
-    return BY_MESSAGE + "".join(f"| `{entry.message}` | {', '.join(kinds.get(entry.code, []))} | {link(entry, entry.code)} |\n" for entry in rows)
+    row = lambda entry: f"| `{entry.message}` | {', '.join(kinds.get(entry.code, []))} | {link(entry, entry.code)} |\n"
+    return BY_MESSAGE + "".join(map(row, sorted(listed, key=lambda entry: in_order(entry.message))))
 
 
 def compare_index(top, head, wanted, write):

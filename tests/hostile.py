@@ -267,7 +267,8 @@ def many_of_both(place):
     reported(place, "8000-inputs-each-read", called, limits=held_back)
     job = b"  j%05d: {needs: j%05d, uses: o/r/.github/workflows/w.yml@v}\n"
     place.fresh({WORKFLOW: b"on: push\njobs:\n" + b"".join(job % (it, (it - 1) % 16_000) for it in range(16_000))})
-    told = b"".join(b'%s%d:19: "j%05d" needs "j%05d" in a cycle [job-needs]\n' % (AT, 3 + it, it, (it - 1) % 16_000) for it in range(16_000))
+    fault = b'%s%d:19: "j%05d" needs "j%05d" in a cycle [job-needs]\n'
+    told = b"".join(fault % (AT, 3 + it, it, (it - 1) % 16_000) for it in range(16_000))
     place.case("ring-of-16000-needs", 1, told, NO, ["--oneline"], limits=held_back)
 
 
@@ -484,5 +485,5 @@ def narrow_output(place):
 
 if __name__ == "__main__":
     sys.exit(run_parts(prefixes, limits, one_line, shared_nodes, equal_faults, folder_of_4096, ring_of_4096, calls_of_one_file,
-                       many_of_both, many_edits, many_called_files, calls_of_absent_files, folder_of_links, pieces_of_a_script, lines_of_input,
-                       input_without_end, narrow_output))
+                       many_of_both, many_edits, many_called_files, calls_of_absent_files, folder_of_links, pieces_of_a_script,
+                       lines_of_input, input_without_end, narrow_output))
