@@ -1,8 +1,9 @@
 """Tests ./test in copies with parts of a few lines: gate.py PROGRAM.
 
 A part that ends otherwise than its cases say, hangs, prints fewer cases than noted or no case, or skips one in CI has to fail; so has a
-linter that hangs from its 41st run on, which is tried with tests/program.py itself. Each wrong version of tools/gate.py (WRONG_VERSIONS) is
-refused by the check that is named with it. Prints a line for each case.
+linter that hangs from its 41st run on, which is tried with tests/program.py itself, and each case of tests/hostile.py with a linter that
+does nothing. Each wrong version of tools/gate.py (WRONG_VERSIONS) is refused by the check that is named with it. Prints a line for each
+case.
 """
 
 from __future__ import annotations
@@ -23,6 +24,7 @@ from running import run_in_room
 TOP = pathlib.Path(__file__).resolve().parent.parent
 SECONDS = 300
 GUARD = 60
+HOSTILE_CASES = 100
 RIGHT = "print('case=a output=expected status=0\\ncase=b output=expected status=0')\n"
 ENDS_WRONG = "import sys\n" + RIGHT + "sys.exit(1)\n"
 # waits without end, in a process of its own too, both of which it names in a file
@@ -219,6 +221,15 @@ def a_linter_that_hangs(copy: Copy, program: pathlib.Path) -> list[str]:
     return [] if status == 1 and out.endswith(f"{cases} passed, 1 failed\n") and 30 <= cases <= 41 else [f"{status}, {out[-600:]!r}"]
 
 
+def a_linter_that_does_nothing() -> list[str]:
+    """It fails each case of tests/hostile.py."""
+    command = [sys.executable, str(TOP / "tests/hostile.py"), shutil.which("true") or "true"]
+    ran = subprocess.run(command, stdout=subprocess.PIPE, stderr=subprocess.DEVNULL, text=True, check=False)
+    lines = [line for line in ran.stdout.splitlines() if line.startswith("case=")]
+    passed = [line for line in lines if " output=wrong " not in line]
+    return passed if len(lines) >= HOSTILE_CASES else [f"{len(lines)} cases"]
+
+
 CHECKS = {check.__name__: check for check in (statuses, fewer_cases, skipped_cases, a_hang, a_signal, the_kit, shown_as_it_comes)}
 # the check that refuses a wrong version, the right text and the wrong one
 WRONG_VERSIONS = {
@@ -251,7 +262,8 @@ def cases(program: pathlib.Path, room: pathlib.Path) -> typing.Iterator[tuple[st
     """Each case with what is wrong. They mostly wait, so they run side by side."""
     room.chmod(0o755)
     with concurrent.futures.ThreadPoolExecutor(8) as pool:
-        runs = {"a-linter-that-hangs": pool.submit(a_linter_that_hangs, Copy(room, None), program)}
+        runs = {"a-linter-that-hangs": pool.submit(a_linter_that_hangs, Copy(room, None), program),
+                "a-linter-that-does-nothing": pool.submit(a_linter_that_does_nothing)}
         slow_first = sorted(WRONG_VERSIONS, key=lambda name: WRONG_VERSIONS[name][0] not in ("a_hang", "a_signal"))
         runs |= {name.replace("_", "-"): pool.submit(CHECKS[name], Copy(room, None)) for name in sorted(CHECKS)}
         runs |= {f"wrong-version-{name}": pool.submit(refused, room, *WRONG_VERSIONS[name]) for name in slow_first}
