@@ -134,14 +134,16 @@ def tell_requests(linter):
     lines = folder.text.split("\n")
     places = {word: {"line": number, "character": lines[number].index(word) + len(word)}
               for word in ("runs-on", "github.ref", "./a") for number in [next(n for n, line in enumerate(lines) if word in line)]}
-    for what, method, word in (("keys", "completion", "runs-on"), ("properties", "completion", "github.ref"), ("actions", "completion", "./a"),
-                               ("a key", "hover", "runs-on"), ("a property", "hover", "github.ref"), ("a call", "definition", "./a")):
+    asked = (("keys", "completion", "runs-on"), ("properties", "completion", "github.ref"), ("actions", "completion", "./a"),
+             ("a key", "hover", "runs-on"), ("a property", "hover", "github.ref"), ("a call", "definition", "./a"))
+    for what, method, word in asked:
         seconds, server = [], 0.0
         for _ in range(EDITS // 10):
             folder.edit()
             server -= folder.processor_seconds()[0]
             begun = time.monotonic()
-            folder.editor.request(f"textDocument/{method}", {"textDocument": {"uri": folder.editor.uri(folder.path)}, "position": places[word]})
+            document = {"uri": folder.editor.uri(folder.path)}
+            folder.editor.request(f"textDocument/{method}", {"textDocument": document, "position": places[word]})
             seconds.append(time.monotonic() - begun)
             server += folder.processor_seconds()[0]
         tell(f"  {method} of {what}", seconds)

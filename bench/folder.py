@@ -95,8 +95,8 @@ def beside_scripts(name, files):
         write_files(top, files)
         runs = [functools.partial(put_seconds, files), functools.partial(put_seconds, files[::-1]), functools.partial(seconds, top)]
         called, callers, folder = least_in_turns(RUNS, runs)
-    print(f"{name}: {folder:.3f}s in a folder, {called:.3f}s as a script with called files first, {folder / called:.2f} times as long; ", end="")
-    print(f"{callers:.3f}s with callers first, {callers / called:.1f} times", flush=True)
+    print(f"{name}: {folder:.3f}s in a folder, {called:.3f}s as a script with called files first, {folder / called:.2f} times as long; "
+          f"{callers:.3f}s with callers first, {callers / called:.1f} times", flush=True)
     return folder <= MOST[1] * called
 
 

@@ -95,10 +95,11 @@ def memory_of(process):
         return 0
 
 
-def watch(command):
-    """Runs a command and returns its status, what its steps took, and the elapsed seconds."""
+def watch(command, folder=None, output=None):
+    """Runs a command, perhaps in a folder and with its output in a file, and returns its status, what its steps took, and the elapsed
+    seconds."""
     steps, kinds, start = {}, {}, time.monotonic()
-    child = subprocess.Popen(command)
+    child = subprocess.Popen(command, cwd=folder, stdout=output, stderr=output)
     signal.signal(signal.SIGTERM, lambda *_: child.terminate())
     while child.poll() is None:
         now, found = time.monotonic(), stats()

@@ -152,7 +152,8 @@ def compare_with_yamllint(program_path, made):
     for count, jobs_of_each in ((1, 5), (1, 1_336), (200, 5)):
         folder = pathlib.Path(made) / f"yamllint-{count}-{jobs_of_each}"
         _, size = fill(folder, count, jobs_of_each)
-        theirs, ours = least_in_turns(YAMLLINT_RUNS, [functools.partial(seconds, command, b"", folder) for command in (YAMLLINT, [program_path])])
+        runs = [functools.partial(seconds, command, b"", folder) for command in (YAMLLINT, [program_path])]
+        theirs, ours = least_in_turns(YAMLLINT_RUNS, runs)
         print(f"{count:,} workflows of {jobs_of_each:,} jobs {size:9} {theirs:8.3f}s {ours:8.3f}s {theirs / ours:6.0f}", flush=True)
 
 

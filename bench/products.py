@@ -12,7 +12,7 @@ import tempfile
 from common import TOP, measured, program, write_files
 
 sys.path.insert(0, str(TOP / "tests"))
-from products import FOLDERS
+from products import FOLDERS  # type: ignore[attr-defined]  # of tests/: mypy takes it for this file
 
 RUNS = 3
 

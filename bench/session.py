@@ -143,7 +143,8 @@ def count_faults(puts):
 def report_times(folders):
     """The time of a report on each folder after its edits, in seconds."""
     starts = [(puts + b"report\n", edits) for puts, edits in folders]
-    pairs = [(it + b"".join(edits) * (REPORTS // 2), it + b"".join(edit + b"report\n" for edit in edits) * (REPORTS // 2)) for it, edits in starts]
+    half = REPORTS // 2
+    pairs = [(it + b"".join(edits) * half, it + b"".join(edit + b"report\n" for edit in edits) * half) for it, edits in starts]
     return times_of_more(pairs, [REPORTS] * len(folders))
 
 
@@ -174,8 +175,8 @@ def main():
         print_edits(name, counts, edit_times(text, texts, edits, counts))
     for count in CALLERS[1:]:
         edit, put = large_caller_times(count)
-        print(f"an edit of an interface, for each of {count} callers of {len(LARGE_CALLER)} bytes with 200 expressions: {edit * 1e3:.3f} ms, "
-              f"{edit / put:.2f} times a put of one, {put * 1e3:.3f} ms", flush=True)
+        print(f"an edit of an interface, for each of {count} callers of {len(LARGE_CALLER)} bytes with 200 expressions: "
+              f"{edit * 1e3:.3f} ms, {edit / put:.2f} times a put of one, {put * 1e3:.3f} ms", flush=True)
     print_edits("put of a new first path, and its delete", BESIDE, first_path_times(BESIDE))
     for name, is_backward in ORDERS.items():
         print_edits(name, NEW, new_times(is_backward, NEW))

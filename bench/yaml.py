@@ -92,7 +92,8 @@ def seconds(command, is_ours, file):
 
 def least(commands, files):
     """The least time that each command takes to read each file. The first commands are the peers'."""
-    measures = [functools.partial(seconds, command, number >= len(PEERS), file) for file in files for number, command in enumerate(commands)]
+    ours = [(command, number >= len(PEERS)) for number, command in enumerate(commands)]
+    measures = [functools.partial(seconds, command, is_ours, file) for file in files for command, is_ours in ours]
     times = least_in_turns(RUNS, measures)
     return [times[first : first + len(commands)] for first in range(0, len(times), len(commands))]
 

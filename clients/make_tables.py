@@ -49,18 +49,18 @@ def main(words: list[str]) -> int:
 
 def faults(docs: Path) -> list[dict]:
     """The entries of all pages, in the order of their codes. Links within a page work from everywhere."""
-    rows = []
+    rows, cases = [], fault_entries.cases_of_entries(docs.parent)
     for entry in fault_entries.entries(docs):
         local = lambda markdown: LINK_IN_PAGE.sub(rf"]({entry.page}\1)", markdown)
-        repair = "\n\n".join([entry.repair, *repaired_files(TOP / "tests/faults" / entry.code)])
+        repair = "\n\n".join([entry.repair, *repaired_files(cases[f"{entry.code}-repaired"])])
         rows.append({"code": entry.code, "message": entry.message, "page": entry.page, "anchor": entry.anchor,
                      "text": local(entry.what), "why": local(entry.why), "repair": local(repair)})
     return rows
 
 
-def repaired_files(case: Path) -> list[str]:
+def repaired_files(case: fault_entries.Case) -> list[str]:
     """The repaired file of a fault's case as Markdown, preceded by the other files of its folder, by path."""
-    files = fault_entries.files_of(case.with_name(f"{case.name}-repaired"))
+    files = fault_entries.files_of(case)
     shown = [f"`{path}`:\n\n```yaml\n{data.decode()}```" for path, data in list(files.items())[:-1]]
     return [*shown, f"```yaml\n{list(files.values())[-1].decode()}```"]
 

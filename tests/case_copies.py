@@ -1,24 +1,19 @@
-"""Checks that no two cases below a folder have the same input, arguments and output: case_copies.py FOLDER.."""
+"""Checks that no two cases at a path have the same input, arguments and output: case_copies.py CASES.."""
 
 import sys
 
-from run_cases import cases_in, words_of
+from case_files import read_cases
 
 
-def content(case):
-    """Everything that makes a case, except its name."""
-    return case.read_bytes(), tuple(words_of(case, [])), case.with_name(case.name + ".stdout").read_bytes()
-
-
-def copies(folder):
-    """The cases of a folder that are copies, each with the case it copies."""
+def copies(path):
+    """The cases at a path that are copies, each with the case it copies."""
     seen = {}
-    for name, case in cases_in(folder).items():
-        first = seen.setdefault(content(case), name)
+    for name, case in read_cases(path).items():
+        first = seen.setdefault((case.input, tuple(case.words or ()), case.output), name)
         if first != name:
-            yield f"{folder}: {name} is a copy of {first}"
+            yield f"{path}: {name} is a copy of {first}"
 
 
 if __name__ == "__main__":
-    wrong = [line for folder in sys.argv[1:] for line in copies(folder)]
+    wrong = [line for path in sys.argv[1:] for line in copies(path)]
     sys.exit("\n".join(wrong) if wrong else 0)

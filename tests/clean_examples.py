@@ -1,8 +1,8 @@
 """Checks that GitHub refuses none of the examples that are called clean: clean_examples.py TOP.
 
-Reads the files of each case of tests/faults whose report is clean, the files shown on pages (`file=`), the folders of examples/ without
-faults, and the workflow of clients/github. The linter reports nothing of what this test looks for (README, "What it doesn't do"), so an
-example could be free of faults and still be refused. Needs python3-yaml; without it the case is skipped.
+Reads the files of each case of tests/faults.cases whose report is clean, the files shown on pages (`file=`), the folders of examples/
+without faults, and the workflow of clients/github. The linter reports nothing of what this test looks for (README, "What it doesn't do"),
+so an example could be free of faults and still be refused. Needs python3-yaml; without it the case is skipped.
 """
 
 import importlib.util
@@ -12,8 +12,7 @@ import sys
 
 sys.path.append(str(pathlib.Path(__file__).resolve().parent.parent / "clients"))
 from actionlint_client.stricter import takes_access, takes_filter
-from fault_entries import files_of, report_of
-from run_cases import cases_in
+from fault_entries import cases_of_entries, files_of, report_of
 from running import exit_status, report, skip
 
 DEBIAN_PACKAGES = "/usr/lib/python3/dist-packages"
@@ -154,7 +153,7 @@ def refusals(path, tree):
 
 def files(top):
     """Each file that is called clean: where it is from, its path, its bytes."""
-    for name, case in cases_in(top / "tests/faults").items():
+    for name, case in cases_of_entries(top).items():
         if not report_of(case):
             yield from ((f"tests/faults: {name}", path, data) for path, data in files_of(case).items())
     for page in [*top.glob("*.md"), *(top / "docs").glob("*.md")]:
@@ -171,7 +170,7 @@ def main(folder):
     if importlib.util.find_spec("yaml") is None:
         skip("clean_examples", "python3-yaml isn't there")
         return 0
-    import yaml  # pylint: disable=import-outside-toplevel
+    import yaml  # type: ignore[import]  # pylint: disable=import-outside-toplevel
 
     reader, count, wrong = Yaml(yaml), 0, []
     for where, path, data in files(pathlib.Path(folder)):

@@ -71,7 +71,8 @@ def hook():
     pattern = re.search(r"files: (.*)$", text, re.M)[1]
     words = re.search(r"entry: (.*)$", text, re.M)[1].split()
     taken = [".github/workflows/a.yml", ".github/workflows/a.b.yaml", "action.yml", "a/b/action.yaml", ".github/workflows/action.yml"]
-    passed = [".github/workflows/.yml", ".github/workflows/.yaml", "a.yml", ".github/workflows/a/b.yml", "a/.github/workflows/b.yml", "my-action.yml", "action.yml/x", "a/action.json", ".github/workflows/a.yml.txt"]
+    passed = [".github/workflows/.yml", ".github/workflows/.yaml", "a.yml", ".github/workflows/a/b.yml", "a/.github/workflows/b.yml",
+              "my-action.yml", "action.yml/x", "a/action.json", ".github/workflows/a.yml.txt"]
     bad = [] if words[0] == "actionlint" else [f"the hook runs {words[0]}"]
     bad += [f"the hook passes {path} over" for path in taken if not re.search(pattern, path)]
     bad += [f"the hook takes {path}" for path in passed if re.search(pattern, path)]
@@ -132,8 +133,8 @@ class Repository:
 
     def run(self, *words, below="."):
         """Runs a command in the repository; returns its status and what it printed."""
-        where = os.path.join(self.folder, below)
-        ran = subprocess.run(words, cwd=where, env=self.environment, stdout=subprocess.PIPE, stderr=subprocess.STDOUT, check=False, timeout=60)
+        how = {"cwd": os.path.join(self.folder, below), "env": self.environment, "timeout": 60}
+        ran = subprocess.run(words, stdout=subprocess.PIPE, stderr=subprocess.STDOUT, check=False, **how)
         return ran.returncode, ran.stdout.decode()
 
     def commit(self, files=None, deleted=()):

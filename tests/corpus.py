@@ -4,7 +4,7 @@ and files that are refused. All run in the repository's folder.
 
 import pathlib
 
-from run_cases import cases_in, words_of
+from case_files import read_cases
 from running import SCRIPT, WORKFLOWS
 
 TOP = pathlib.Path(__file__).resolve().parent.parent
@@ -27,9 +27,9 @@ COMMAND_LINES = {
 LARGEST = 1_048_576
 
 
-def scripts_in(folder, prefix):
-    """The scripts of a folder of cases, by name: the arguments and the standard input of each."""
-    return {f"{prefix}/{name}": (words_of(case, SCRIPT), case.read_bytes()) for name, case in cases_in(folder).items()}
+def scripts_in(path, prefix):
+    """The scripts of the cases at a path, by name: the arguments and the standard input of each."""
+    return {f"{prefix}/{name}": (SCRIPT if case.words is None else case.words, case.input) for name, case in read_cases(path).items()}
 
 
 def refused_files(folder):
@@ -51,6 +51,4 @@ def all_runs(folder):
     runs = {f"examples/{it.name}": (["--root", f"examples/{it.name}"], b"") for it in sorted((TOP / "examples").iterdir()) if it.is_dir()}
     runs |= {f"words/{name}": (words, b"") for name, words in COMMAND_LINES.items()}
     runs |= refused_files(folder)
-    for name in ("cases", "faults"):
-        runs |= scripts_in(TOP / "tests" / name, f"tests/{name}")
-    return runs
+    return runs | scripts_in(TOP / "tests/cases", "tests/cases") | scripts_in(TOP / "tests/faults.cases", "tests/faults")

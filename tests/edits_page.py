@@ -1,60 +1,64 @@
 """Compares docs/EDITS.md with the edits that are tried by hand, not by the gate: edits_page.py TOP.
 
-Its table names each file of crates/*/more-edits/ after the name of its crate. Whatever it names as showing an edit exists: edits of the
-gate, tests of a crate, cases and folders of cases, and files of tests/. Each edit can be applied: the text that it removes occurs once in
-its file.
+Its table names each edit of crates/*/more.edits after the name of its crate. Whatever it names as showing an edit exists: edits of the
+gate, tests of a crate, cases and their subjects, and files of tests/. Each edit can be applied: the text that it removes occurs once in its
+file.
 """
 
 import pathlib
 import re
 import sys
 
-from more_edits import pairs_of
+from case_files import read_cases
+from more_edits import edits_by_hand, edits_of_the_gate, pairs_of
 
 ROW = re.compile(r"^\| (?:(\w+) )?\| (`\w+`(?:, `\w+`)*) \| (.*) \|$", re.MULTILINE)
 BY = re.compile(r"\bedits? ((?:`\w+`(?: \(`\w+`\))?(?:, | and )?)+)")
-# cases and their folders, after the word "case"; and what else is named by a path
+# cases and their subjects, after the word "case"; and what else is named by a path
 CASES = re.compile(r"\bcases? (?:[^`;]*\()?((?:`\w[\w/-]*`(?:, )?)+)")
 PATHS = re.compile(r"`(?!tests/)[\w-]+/[\w/-]+`")
+CASE_PATHS = ("cases", "faults.cases", "yaml-trees.cases", "expressions.cases", "chunks.cases")
 TESTS = re.compile(r"tests? ((?:`\w+`(?:, | and )?)+) of `(\w+)`")
 
 
-def absent(top, shown):
+def absent(top, cases, shown):
     """The tests, cases and files that a row names and that don't exist."""
     for names, crate in TESTS.findall(shown):
         source = "".join(it.read_text() for it in (top / "crates" / crate / "src").glob("*.rt"))
         yield from (f"test {it} of {crate}" for it in re.findall(r"`(\w+)`", names) if not re.search(rf"\b{it}\b", source))
     for case in sorted(set(re.findall(r"`([^`]+)`", " ".join([*CASES.findall(shown), *PATHS.findall(shown)])))):
-        if not any((top / "tests" / folder / case).exists() for folder in ("cases", "faults", "yaml-trees", "expressions", "chunks")):
+        if not any(name == case or name.startswith(f"{case}/") for name in cases):
             yield f"case {case}"
     yield from (it for it in re.findall(r"`(tests/[\w./-]+)`", shown) if not (top / it).exists())
 
 
-def unmakable(edit):
+def unmakable(crate, name, text):
     """The texts that an edit removes and that don't occur once in their files when its changes are applied in order."""
-    crate, made = edit.parent.parent, {}
-    for path, old, new in pairs_of(edit.read_text()):
+    made = {}
+    for path, old, new in pairs_of(text):
         source = made.get(path) or (crate / path).read_text()
         if source.count(old) != 1:
-            yield f"{edit}: this occurs {source.count(old)} times in {path}: {old}"
+            yield f"{crate.name}: {name}: this occurs {source.count(old)} times in {path}: {old}"
         made[path] = source.replace(old, new)
 
 
 def main(folder):
     top = pathlib.Path(folder)
-    kept = {it.stem for it in (top / "crates").glob("*/must-fail/*.edit")}
-    there = {(it.parts[-3], it.stem) for it in (top / "crates").glob("*/more-edits/*.edit")}
+    crates = sorted((top / "crates").iterdir())
+    kept = {name for crate in crates for name in edits_of_the_gate(crate)}
+    there = {(crate.name, name) for crate in crates for name in edits_by_hand(crate)}
+    cases = [name for path in CASE_PATHS for name in read_cases(top / "tests" / path)]
     wrong, named, crate = [], set(), None
     for begun, edits, shown in ROW.findall((top / "docs/EDITS.md").read_text()):
         crate = begun or crate
         named |= {(crate, it) for it in re.findall(r"`(\w+)`", edits)}
         others = {name for it in BY.findall(shown) for name in re.findall(r"`(\w+)`", re.sub(r" \(`\w+`\)", "", it))}
         wrong += [f"{crate}: {it} is no edit of the gate" for it in sorted(others - kept)]
-        wrong += [f"{crate}: there is no {it}" for it in absent(top, shown)]
+        wrong += [f"{crate}: there is no {it}" for it in absent(top, cases, shown)]
     wrong += [f"{crate}: there is no {name}" for crate, name in sorted(named - there)]
     wrong += [f"{crate}: {name} is not named" for crate, name in sorted(there - named)]
-    edits = [it for kind in ("must-fail", "more-edits") for it in sorted((top / "crates").glob(f"*/{kind}/*.edit"))]
-    wrong += [it for edit in edits for it in unmakable(edit)]
+    wrong += [it for crate in crates for edits in (edits_of_the_gate(crate), edits_by_hand(crate)) for edit in edits.items()
+              for it in unmakable(crate, *edit)]
     if wrong or not there:
         sys.exit("\n".join(wrong) or "no edits")
 

@@ -1,13 +1,15 @@
 """Reads the entries of docs/FAULTS*.md.
 
 An entry is a section `### CODE `MESSAGE``. It says what the fault is, then in a list *Why it matters* and the *Repair*, and shows a repair
-as a block `diff`. The block's lines are those of two cases of tests/faults: CODE, whose report has the fault, and CODE-repaired, whose
-report is clean. A line `@@ MESSAGE @@` is a message of that report, the lines after `+++ PATH` are those of another file than the faulty
-one, and `…` matches any text.
+as a block `diff`. The block's lines are those of two cases of tests/faults.cases: CODE, whose report has the fault, and CODE-repaired,
+whose report is clean. A line `@@ MESSAGE @@` is a message of that report, the lines after `+++ PATH` are those of another file than the
+faulty one, and `…` matches any text.
 """
 
 import re
 from dataclasses import dataclass
+
+from case_files import Case, read_cases
 
 KINDS = "YKGXC"
 SECTION = re.compile(r"^### ([A-Z][0-9]+) `([^\n]*)`\n(.*?)(?=^#{2,3} |\Z)", re.MULTILINE | re.DOTALL)
@@ -54,13 +56,19 @@ def entry_of(page, code, message, body):
 
 def entries(docs):
     """The entries of all pages, in the order of their codes."""
-    every = [entry_of(path.name, *found.groups()) for path in sorted(docs.glob("FAULTS*.md")) for found in SECTION.finditer(path.read_text())]
+    pages = [(path.name, path.read_text()) for path in sorted(docs.glob("FAULTS*.md"))]
+    every = [entry_of(name, *found.groups()) for name, text in pages for found in SECTION.finditer(text)]
     return sorted(every, key=lambda entry: entry.rank)
 
 
-def files_of(case):
+def cases_of_entries(top):
+    """The cases of the entries by name: CODE, CODE-repaired, and others of that fault."""
+    return read_cases(top / "tests/faults.cases")
+
+
+def files_of(case: Case):
     """The files that a case's script puts, by path."""
-    script, at, found = case.read_bytes(), 0, {}
+    script, at, found = case.input, 0, {}
     while put := COMMAND.match(script, at):
         end = put.end() + int(put[2])
         found[put[1].decode()] = script[put.end() : end]
@@ -68,7 +76,6 @@ def files_of(case):
     return found
 
 
-def report_of(case):
+def report_of(case: Case):
     """The lines of a case's report."""
-    lines = case.with_name(case.name + ".stdout").read_text().splitlines()
-    return [line for line in lines if not re.match(r"(ok|status) [0-9]+$", line)]
+    return [line for line in case.output.decode().splitlines() if not re.match(r"(ok|status) [0-9]+$", line)]

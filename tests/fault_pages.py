@@ -1,4 +1,4 @@
-"""Compares the pages of faults with the code, the definitions and the cases of tests/faults: fault_pages.py TOP [--write].
+"""Compares the pages of faults with the code, the definitions and the cases of tests/faults.cases: fault_pages.py TOP [--write].
 
 Each fault code of al_base has a comment with its identifier (`/// K2: ..`), that number in specs/Codes.antt, a row in specs/Wordings.antt of
 al_text, and one entry on a page docs/FAULTS*.md (tests/fault_entries.py) with the row's message, why it matters, its repair, and a diff whose lines are those of its
@@ -10,7 +10,7 @@ import pathlib
 import re
 import sys
 
-from fault_entries import entries, files_of, report_of
+from fault_entries import cases_of_entries, entries, files_of, report_of
 
 CODE = re.compile(r"/// ([YKGXC][0-9]+): .*\n\s+([A-Za-z0-9]+),")
 DECIDED = re.compile(r"^\| `(\w+/specs/\w+\.antt)` \| (.*) \|$", re.MULTILINE)
@@ -19,7 +19,7 @@ ROW = re.compile(r"^code_row \(C\.(\w+) (\w+)(?: by)?\) = (\w+)(?: by)? (.*)$", 
 EVERY_KIND = re.compile(r'^(\w+) = row "(.*)"$', re.MULTILINE)  # of all rows that this makes
 CALL_KIND = re.compile(r'^call_kind caller\.\w+ = "(.*)"$', re.MULTILINE)
 LETTERS = {"Yaml": "Y", "Key": "K", "Rule": "G", "Expression": "X", "Call": "C"}
-NO_ROW = "", "", []
+NO_ROW: tuple[str, str, list[str]] = "", "", []
 SUBJECTS = {"Y": "the file isn't YAML as this program reads it", "K": "keys and values that GitHub's syntax doesn't have",
             "G": "what GitHub refuses, or accepts and never does", "X": "expressions in `${{ .. }}` and in conditions",
             "C": "calls of the folder's actions and workflows"}
@@ -76,11 +76,11 @@ def have(shown, data):
     return True
 
 
-def wrong_repair(top, entry):
+def wrong_repair(cases, entry):
     """What of an entry's repair is missing from its two cases."""
-    before, after = top / "tests/faults" / entry.code, top / "tests/faults" / f"{entry.code}-repaired"
-    if not before.exists() or not after.exists():
-        yield "has no case in tests/faults, or none that is repaired"
+    before, after = cases.get(entry.code), cases.get(f"{entry.code}-repaired")
+    if before is None or after is None:
+        yield "has no case in tests/faults.cases, or none that is repaired"
         return
     report = report_of(before)
     messages = {re.sub(r"^.*?:\d+:\d+: (.*) \[[\w-]+\]$", r"\1", line) for line in report}
@@ -100,11 +100,11 @@ def wrong_repair(top, entry):
             yield f"shows other lines of {path} than the repaired case has"
 
 
-def wrong_of(top, entry):
+def wrong_of(cases, entry):
     """What an entry lacks, whatever its fault is."""
     if not entry.what or not entry.why or not entry.repair:
         yield "doesn't say what it is, why it matters and its repair"
-    yield from wrong_repair(top, entry)
+    yield from wrong_repair(cases, entry)
 
 
 def wrong_definitions(top, found):
@@ -138,8 +138,8 @@ def in_order(message):
 
 def by_message(listed, kinds):
     """The table of messages, sorted."""
-    rows = sorted(listed, key=lambda entry: in_order(entry.message))
-    return BY_MESSAGE + "".join(f"| `{entry.message}` | {', '.join(kinds.get(entry.code, []))} | {link(entry, entry.code)} |\n" for entry in rows)
+    row = lambda entry: f"| `{entry.message}` | {', '.join(kinds.get(entry.code, []))} | {link(entry, entry.code)} |\n"
+    return BY_MESSAGE + "".join(map(row, sorted(listed, key=lambda entry: in_order(entry.message))))
 
 
 def compare_index(top, head, wanted, write):
@@ -172,13 +172,13 @@ def wrong_codes(every, rows, found):
 
 def main(folder, *write):
     top = pathlib.Path(folder)
-    listed = entries(top / "docs")
+    listed, cases = entries(top / "docs"), cases_of_entries(top)
     found = {entry.code: entry for entry in listed}
     every = codes(top)
     rows = tables(top)
     wrong = [f"{entry.code} has two entries" for entry in listed if found[entry.code] is not entry]
     wrong += wrong_codes(every, rows, found)
-    wrong += [f"{entry.code} {why}" for entry in listed for why in wrong_of(top, entry)]
+    wrong += [f"{entry.code} {why}" for entry in listed for why in wrong_of(cases, entry)]
     wrong += wrong_definitions(top, found.keys())
     printed = {name: ["workflow-call"] if name in OF_JOBS else rows.get((name[0], variant), NO_ROW)[2] for name, variant in every}
     wrong += compare_index(top, BY_CODE, by_code(listed), write)

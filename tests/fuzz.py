@@ -24,7 +24,7 @@ import tempfile
 import time
 
 from calling_files import PATHS, File
-from run_cases import cases_in
+from case_files import read_cases
 from running import REPORT, SCRIPT, built_program, delete, put, wrong_line
 
 TOP = pathlib.Path(__file__).resolve().parent.parent
@@ -43,8 +43,8 @@ CALL_FAULT = re.compile(rb"\[(action|workflow-call)\]\n")
 def seeds():
     """Files to begin with: those of examples/, and those that the scripts of tests/cases put."""
     found = {path.read_bytes() for path in (TOP / "examples").rglob("*.y*ml")}
-    for script in cases_in(TOP / "tests" / "cases").values():
-        data, at = script.read_bytes(), 0
+    for script in read_cases(TOP / "tests/cases").values():
+        data, at = script.input, 0
         while found_put := PUT.match(data, at):
             size = int(found_put[2])
             found.add(data[found_put.end():found_put.end() + min(size, 4_000)])

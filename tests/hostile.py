@@ -15,7 +15,7 @@ import sys
 import termios
 import threading
 
-from products import ACTION, ACTION_FILE, AT, FOLDERS, INPUTS, STEPS, WORKFLOW, lacking
+from products import ACTION, ACTION_FILE, AT, FOLDERS, INPUTS, STEPS, WORKFLOW, WRONG, lacking, position_of, reads, with_wrong_property
 from running import (CALLED, CALLER, CLEAN, MISSING_INPUT, REPORT, SCRIPT, WORKFLOWS, delete, differences_of, each, edits_and_reports, line,
                      put, report, run_parts, show, wrong_line)
 
@@ -250,24 +250,32 @@ def held_to(told):
     return limits
 
 
+def reported_property(place, name, data):
+    """A file with a wrong property is put, and it is reported."""
+    fault = b'%s: property "%s" is not defined [expression]' % (position_of(data, WRONG), WRONG)
+    reported(place, name, data, fault, limits=held_back)
+
+
 def many_of_both(place):
     """Folders for which a lint could take time or memory in proportion to the product of two counts; steps that read all earlier steps,
     many inputs each of which is read, and jobs in a ring, each of which is reported with its need."""
     for name, make in FOLDERS.items():
         files, told = make()
+        assert told, f"a program that looks at nothing would pass {name}"
         place.fresh(files)
-        place.case(name, 1 if told else 0, told, NO, ["--oneline"], limits=held_to(told))
+        place.case(name, 1, told, NO, ["--oneline"], limits=held_to(told))
     place.fresh()
     before = lambda number: b" ".join(b"${{ steps.s%04d.outcome }}" % it for it in range(max(number - 4, 0), number)) or b"x"
     steps = b"".join(b"      - {id: s%04d, run: '%s'}\n" % (number, before(number)) for number in range(3_000))
-    reported(place, "3000-steps-that-read-the-4-before", STEPS + steps, limits=held_back)
+    reported_property(place, "3000-steps-that-read-the-4-before", STEPS + steps + reads(0, b"steps.s2999.outcome", b"outcome"))
     inputs = b"".join(b"      i%04d: {type: string}\n" % number for number in range(8_000))
     steps = b"".join(b"      - run: ${{ inputs.i%04d }}\n" % number for number in range(8_000))
     called = b"on:\n  workflow_call:\n    inputs:\n" + inputs + b"jobs:\n  a:\n    runs-on: u\n    steps:\n" + steps
-    reported(place, "8000-inputs-each-read", called, limits=held_back)
+    reported_property(place, "8000-inputs-each-read", called + reads(0, b"inputs.i7999", b"i7999"))
     job = b"  j%05d: {needs: j%05d, uses: o/r/.github/workflows/w.yml@v}\n"
     place.fresh({WORKFLOW: b"on: push\njobs:\n" + b"".join(job % (it, (it - 1) % 16_000) for it in range(16_000))})
-    told = b"".join(b'%s%d:19: "j%05d" needs "j%05d" in a cycle [job-needs]\n' % (AT, 3 + it, it, (it - 1) % 16_000) for it in range(16_000))
+    fault = b'%s%d:19: "j%05d" needs "j%05d" in a cycle [job-needs]\n'
+    told = b"".join(fault % (AT, 3 + it, it, (it - 1) % 16_000) for it in range(16_000))
     place.case("ring-of-16000-needs", 1, told, NO, ["--oneline"], limits=held_back)
 
 
@@ -324,10 +332,11 @@ def many_called_files(place):
 
 
 def calls_of_absent_files(place):
-    """A file of 759 KB whose steps call 33,000 actions, none of which exists."""
+    """A file of 759 KB whose steps call 33,000 actions, none of which exists, and then read a wrong property."""
     steps = b"".join(b"      - uses: ./a%05d\n" % number for number in range(33_000))
-    place.fresh({WORKFLOW: STEPS + steps})
-    place.case("33000-calls-of-absent-actions", 0, NO, NO, ["--oneline"], limits=held_to(NO))
+    files, told = with_wrong_property({WORKFLOW: STEPS + steps + reads(0, b"github.ref", b"ref")})
+    place.fresh(files)
+    place.case("33000-calls-of-absent-actions", 1, told, NO, ["--oneline"], limits=held_to(told))
 
 
 def linked(place, text):
@@ -346,8 +355,11 @@ def folder_of_links(place):
     place.case("four-links-to-a-file-of-300-kilobytes", 1, counted, NO, ["--oneline", *few], limits=held_to(NO))
     place.case("100-links-to-a-file-of-300-kilobytes", 3, NO, line(b"out of memory"), ["--oneline"], limits=held_to(NO))
     numbers = b"    strategy: {matrix: {n: [" + b",".join([b"1"] * 99_000) + b"]}}\n"
-    linked(place, STEPS.replace(b"    steps:\n", numbers + b"    steps:\n      - run: make\n"))
-    place.case("100-links-to-a-file-of-99000-numbers", 0, NO, NO, ["--oneline"], limits=held_to(NO))
+    text = STEPS.replace(b"    steps:\n", numbers + b"    steps:\n" + reads(0, b"matrix.n", b"n"))
+    fault = b'%s: property "%s" is not defined [expression]\n' % (position_of(text, WRONG), WRONG)
+    told = b"".join(b"%s/%03d.yml:%s" % (WORKFLOWS.encode(), number, fault) for number in range(100))
+    linked(place, text)
+    place.case("100-links-to-a-file-of-99000-numbers", 1, told, NO, ["--oneline"], limits=held_to(NO))
 
 
 # ---- input
@@ -484,5 +496,5 @@ def narrow_output(place):
 
 if __name__ == "__main__":
     sys.exit(run_parts(prefixes, limits, one_line, shared_nodes, equal_faults, folder_of_4096, ring_of_4096, calls_of_one_file,
-                       many_of_both, many_edits, many_called_files, calls_of_absent_files, folder_of_links, pieces_of_a_script, lines_of_input,
-                       input_without_end, narrow_output))
+                       many_of_both, many_edits, many_called_files, calls_of_absent_files, folder_of_links, pieces_of_a_script,
+                       lines_of_input, input_without_end, narrow_output))

@@ -8,7 +8,7 @@ import sys
 
 LINK = re.compile(r"!?\[[^\]]*\]\(([^()\s]+)\)")
 PATH = re.compile(r"`([\w.-]+/[\w*.{},/-]+)`")
-PLACES = {"specs", "src", "proofs", "must-fail", "more-edits"}
+PLACES = {"specs", "src", "proofs", "must-fail", "more.edits"}
 FOLDERS = {"bench", "clients", "crates", "docs", "examples", "tests", "tools"}
 CODE = re.compile(r"^```.*?^```$|`[^`\n]*`", re.DOTALL | re.MULTILINE)
 

@@ -204,8 +204,8 @@ def settings(crates):
     """Permissions with their values, shells, and kinds of actions."""
     text = (crates / SETTINGS).read_text()
     usings = names_of((crates / USINGS).read_text(), "runs_of using")
-    lists = {"`permissions`, its scopes": "permissions", "`permissions`, a scope": "scope_values", "`permissions` as a whole": "whole_values",
-             "`shell`": "shells"}
+    lists = {"`permissions`, its scopes": "permissions", "`permissions`, a scope": "scope_values",
+             "`permissions` as a whole": "whole_values", "`shell`": "shells"}
     rows = [(key, quoted(names_of(text, name))) for key, name in lists.items()]
     return table_of(("Key", "Names"), [*rows, ("`using`", quoted(usings))])
 
@@ -314,7 +314,8 @@ def limits(crates):
 def lists(crates):
     """All tables of the page."""
     takes = table_of(("Function", "Takes", "Gives"), [(f"`{name}`", *row) for name, row in functions(crates).items()])
-    return [it(crates) for it in (section_keys, events, input_types, settings, contexts, places)] + [takes, untrusted(crates), limits(crates)]
+    first = [it(crates) for it in (section_keys, events, input_types, settings, contexts, places)]
+    return [*first, takes, untrusted(crates), limits(crates)]
 
 
 def main(folder, *write):

@@ -2,11 +2,12 @@
 
     python3 tests/more_edits.py . al_expr_names
 
-Each file crates/NAME/more-edits/*.edit has the form of one in must-fail/: the prover must refuse the crate with it. --must-fail tries those
-of the gate instead, in a fraction of the time that the gate takes for them from scratch. Edits of different functions go into one check of
-a copy of the crate, on top of the work that `rt check` keeps in the crates' out/, so the crate has to be proved there first. An edit is
-refused if a goal of its function fails, or a proof below the folder of that function's own proofs; not if only a called function isn't
-proved, or if a proof names what the edit removed. An edit outside of functions (a table) goes into a check of its own, which must fail.
+The file crates/NAME/more.edits has edits in the form of those in must-fail/, each after a line `== NAME`: the prover must refuse the crate
+with it. --must-fail tries those of the gate instead, in a fraction of the time that the gate takes for them from scratch. Edits of
+different functions go into one check of a copy of the crate, on top of the work that `rt check` keeps in the crates' out/, so the crate has
+to be proved there first. An edit is refused if a goal of its function fails, or a proof below the folder of that function's own proofs; not
+if only a called function isn't proved, or if a proof names what the edit removed. An edit outside of functions (a table) goes into a check
+of its own, which must fail.
 Prints a line for each edit; the status is 1 if one isn't refused or can't be tried.
 """
 
@@ -33,6 +34,20 @@ WRONG = re.compile(r"^(?:note: )?(?:\./)?proofs/(\S+)/\w+\.antt:\d+:\d+: error(.
 # a proof that names what an edit removed says nothing about the contract
 TAKEN = re.compile(r"has no field|is not in scope|has no `|was not admitted")
 PARTS = ("src", "specs", "proofs")
+BEGINS_AN_EDIT = re.compile(r"^== (\w+)\n", re.MULTILINE)
+MORE = "more.edits"
+
+
+def edits_of_the_gate(crate):
+    """The texts of the edits that the gate tries in a crate, by name."""
+    return {it.stem: it.read_text() for it in sorted((crate / "must-fail").glob("*.edit"))}
+
+
+def edits_by_hand(crate):
+    """The texts of the edits that it doesn't try, by name."""
+    file = crate / MORE
+    _, *pieces = BEGINS_AN_EDIT.split(file.read_text() if file.is_file() else "")
+    return dict(zip(pieces[::2], pieces[1::2]))
 
 
 def pairs_of(text):
@@ -69,9 +84,9 @@ def function_at(source, file, at):
     return Function(file, module, (owner[2] or owner[1]).split("::")[-1] if owner else None, found[2], cycle and cycle[1])
 
 
-def read_edit(path, crate):
+def read_edit(name, text, crate):
     """An edit and the function that all of its changes are in, if there is one; the reason if it can't be applied."""
-    pairs, functions = [*pairs_of(path.read_text())], set()
+    pairs, functions = [*pairs_of(text)], set()
     for file, old, _ in pairs:
         if (crate / file).read_text().count(old) != 1 and old not in "".join(new for _, _, new in pairs):
             return f"an old text is not in {file} once"
@@ -79,7 +94,7 @@ def read_edit(path, crate):
         is_code = file.startswith("src/") and old in source
         functions.add(function_at(source, file, source.index(old)) if is_code else None)
     whole = functions - {None} if len(functions) == 2 and None in functions and len(pairs) > 2 else functions
-    return Edit(path.stem, pairs, whole.pop() if len(whole) == 1 else None)
+    return Edit(name, pairs, whole.pop() if len(whole) == 1 else None)
 
 
 def checks_of(edits):
@@ -154,18 +169,18 @@ def tried(name, crate, edits):
             yield edit, "NOT TRIED: " + (said.strip().splitlines() or ["the check said nothing"])[0]
 
 
-def try_crate(top, name, kind):
-    """Tries all edits of a kind in a crate and returns how many were not refused."""
+def try_crate(top, name, edits_of):
+    """Tries all edits of a crate that a function gives, and returns how many were not refused."""
     wrong, edits = 0, []
     with tempfile.TemporaryDirectory(prefix="more-edits-") as folder:
         room = pathlib.Path(folder)
         copy_into(top, name, room)
         crate = room / "crates" / name
-        for path in sorted((top / "crates" / name / kind).glob("*.edit")):
-            edit = read_edit(path, crate)
+        for called, text in edits_of(top / "crates" / name).items():
+            edit = read_edit(called, text, crate)
             if isinstance(edit, str):
                 wrong += 1
-                print(f"{name}/{path.stem}: NOT TRIED: {edit}")
+                print(f"{name}/{called}: NOT TRIED: {edit}")
             else:
                 edits.append(edit)
         for group in checks_of(edits):
@@ -177,13 +192,13 @@ def try_crate(top, name, kind):
 
 def main(folder, *words):
     top = pathlib.Path(folder).resolve()
-    kind = "must-fail" if "--must-fail" in words else "more-edits"
+    edits_of = edits_of_the_gate if "--must-fail" in words else edits_by_hand
     names = [it for it in words if it != "--must-fail"]
-    there = sorted(it.parent.name for it in (top / "crates").glob(f"*/{kind}"))
+    there = sorted(it.name for it in (top / "crates").iterdir() if edits_of(it))
     unknown = set(names) - set(there)
     if unknown:
         sys.exit(f"no edits of {', '.join(sorted(unknown))}")
-    sys.exit(1 if sum(try_crate(top, it, kind) for it in names or there) else 0)
+    sys.exit(1 if sum(try_crate(top, it, edits_of) for it in names or there) else 0)
 
 
 if __name__ == "__main__":

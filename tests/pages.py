@@ -1,7 +1,7 @@
 """Compares the pages with the sources: pages.py TOP [--write]. `--write` first rewrites what follows from the sources.
 
-Runs fault_pages.py, links.py, each NAME_page.py of this folder that doesn't need the built program, tidy.py and case_copies.py; those that
-can write have `--write` in their first line. Prints a line for each, and what is wrong. The status is 0 if all were as expected.
+Runs fault_pages.py, links.py, each NAME_page.py of this folder that doesn't need the built program, tidy.py and case_copies.py, and looks
+whether the changes of bench/changes can be made; those that can write have `--write` in their first line. Prints a line for each, and what is wrong. The status is 0 if all were as expected.
 """
 
 import pathlib
@@ -11,7 +11,7 @@ import sys
 HERE = pathlib.Path(__file__).resolve().parent
 PAGES = sorted({"fault_pages.py", "links.py", *(it.name for it in HERE.glob("*_page.py"))} - {"command_line_page.py"})
 TIDY = ["src", "specs", "proofs", "heads", "names", "kinds"]
-CASES = ["cases", "yaml-trees", "expressions", "chunks"]
+CASES = ["cases", "yaml-trees.cases", "expressions.cases", "chunks.cases"]
 
 
 def run(script, *words):
@@ -31,7 +31,8 @@ def main(top, *words):
         if can_write(script):
             run(script, top, "--write")
     runs = {script: [top] for script in PAGES}
-    runs |= {"tidy.py": [top, *TIDY], "case_copies.py": [str(pathlib.Path(top) / "tests" / it) for it in CASES]}
+    runs |= {"../bench/price.py": ["--check"], "tidy.py": [top, *TIDY]}
+    runs |= {"case_copies.py": [str(pathlib.Path(top) / "tests" / it) for it in CASES]}
     for script, its in runs.items():
         status, said = run(script, *its)
         print(f"case={script} output={'wrong' if status else 'expected'} status={status}")

@@ -1,5 +1,6 @@
 """Folders for which a lint could take time or memory in proportion to the product of two counts, and the report on each. tests/hostile.py
-compares the reports under a limit of memory, and bench/products.py measures them.
+compares the reports under a limit of memory, and bench/products.py measures them. Each folder has a fault, mostly in its last expression:
+a program that looks at nothing there reports nothing.
 """
 
 from itertools import islice, product
@@ -18,6 +19,30 @@ STEPS = CLEAN[: CLEAN.index(b"      - ")]
 CALLED_ELSEWHERE = b"uses: o/r/.github/workflows/w.yml@v"
 
 
+# a name that nothing in these folders has
+WRONG = b"nope"
+
+
+def position_of(data, text):
+    """The line and the column of a text that occurs once in a file of ASCII characters, with a colon between them."""
+    at = data.index(text)
+    assert data.count(text) == 1
+    return b"%d:%d" % (data.count(b"\n", 0, at) + 1, at - data.rfind(b"\n", 0, at))
+
+
+def with_wrong_property(files):
+    """The files of a folder whose workflow reads a property that isn't there, and the report about it."""
+    place = position_of(files[WORKFLOW], WRONG)
+    return files, AT + b'%s: property "%s" is not defined [expression]\n' % (place, WRONG)
+
+
+def reads(count, expression, name):
+    """Steps that read an expression, and a last one that reads a wrong property in place of this name in it."""
+    before, _, after = expression.rpartition(name)
+    step = b"      - run: ${{ %s }}\n"
+    return step % expression * count + step % (before + WRONG + after)
+
+
 def lacking(position, called, kind):
     """The report about a call at this line and column that gives nothing."""
     return b"".join(b'%s%s: required input "%s" of "%s" is missing [%s]\n' % (AT, position, name, called, kind) for name in INPUTS)
@@ -31,39 +56,35 @@ def with_outputs(count, jobs):
 
 def reading_outputs(steps):
     """A job with 10,000 outputs, and steps of a job that needs it."""
-    return with_outputs(10_000, b"  b:\n    needs: a\n    runs-on: u\n    steps:\n" + steps), b""
+    return with_wrong_property(with_outputs(10_000, b"  b:\n    needs: a\n    runs-on: u\n    steps:\n" + steps))
 
 
 def last_of_many_outputs():
     """Expressions that read the last of many outputs."""
-    steps = b"      - run: ${{ needs.a.outputs.o9999 }}\n" * 12_000
-    return reading_outputs(steps)
+    return reading_outputs(reads(12_000, b"needs.a.outputs.o9999", b"o9999"))
 
 
 def branches_with_many_outputs():
     """Expressions that read the last of the outputs that two branches have in common."""
-    steps = b"      - run: ${{ (needs.a.outputs || needs.a.outputs).o9999 }}\n" * 12_000
-    return reading_outputs(steps)
+    return reading_outputs(reads(12_000, b"(needs.a.outputs || needs.a.outputs).o9999", b"o9999"))
 
 
 def operands_with_many_outputs():
     """Expressions with many operands that are objects with many outputs, each of which reads the last output."""
     operands = b" || ".join([b"needs.a.outputs"] * 1_000)
-    steps = b"      - run: ${{ (%s).o9999 }}\n" % operands * 40
-    return reading_outputs(steps)
+    return reading_outputs(reads(40, b"(%s).o9999" % operands, b"o9999"))
 
 
 def fields_of_many_outputs(of):
     """Expressions on what all outputs of a job or of two branches have in common."""
-    steps = b"      - run: ${{ contains(%s.*, 'x') }}\n" % of * 12_000
-    return reading_outputs(steps)
+    return reading_outputs(reads(12_000, b"contains(%s.*, 'x')" % of, b"*"))
 
 
-def matrix_of(values, read=b"      - run: ${{ matrix.r.k00000 }} ${{ matrix.r.a.k09999 }}\n"):
+def matrix_of(values, read=b"      - run: ${{ matrix.r.k00000 }} ${{ matrix.r.a.k09999 }} ${{ matrix.r.a.%s }}\n" % WRONG):
     """A workflow with a matrix that has these values in one row, and steps: by default one that reads a field of the first value and one of
     the last."""
     start = b"on: push\njobs:\n  a:\n    strategy: {matrix: {%s}}\n    runs-on: u\n    steps:\n"
-    return {WORKFLOW: start % values + read}, b""
+    return with_wrong_property({WORKFLOW: start % values + read})
 
 
 def mappings_of_a_row():
@@ -75,25 +96,25 @@ def mappings_of_a_row():
 def last_of_mappings_of_a_row():
     """Expressions that read the key of the last mapping in a row."""
     values = b", ".join(b"{k%05d: 1}" % number for number in range(10_000))
-    return matrix_of(b"r: [%s]" % values, b"      - run: ${{ matrix.r.k09999 }}\n" * 12_000)
+    return matrix_of(b"r: [%s]" % values, reads(12_000, b"matrix.r.k09999", b"k09999"))
 
 
 def last_of_mappings_below_a_row():
     """Expressions that read a key of the last of many mappings, each one level below a value of a row."""
     values = b", ".join(b"{a: {k%05d: 1}}" % number for number in range(10_000))
-    return matrix_of(b"r: [%s]" % values, b"      - run: ${{ matrix.r.a.k09999 }}\n" * 12_000)
+    return matrix_of(b"r: [%s]" % values, reads(12_000, b"matrix.r.a.k09999", b"k09999"))
 
 
 def all_of_a_mapping(read):
     """Expressions on what all of many mappings inside one mapping have in common."""
     values = b", ".join(b"k%05d: {x: 1}" % number for number in range(16_000))
-    return matrix_of(b"a: [{%s}]" % values, b"      - run: ${{ contains(%s, '1') }}\n" % read * 10_000)
+    return matrix_of(b"a: [{%s}]" % values, reads(10_000, b"contains(%s, '1')" % read, b"x"))
 
 
 def all_of_two_mappings():
     """Expressions on what all of many mappings have in common, half of them in each of two rows."""
     rows = b", ".join(b"%c: [{%s}]" % (row, b", ".join(b"%c%05d: {x: 1}" % (row, number) for number in range(8_000))) for row in b"ab")
-    return matrix_of(rows, b"      - run: ${{ contains(matrix.*[0].*.x, '1') }}\n" * 10_000)
+    return matrix_of(rows, reads(10_000, b"contains(matrix.*[0].*.x, '1')", b"x"))
 
 
 def mappings_of_includes():
@@ -102,17 +123,17 @@ def mappings_of_includes():
     return matrix_of(b"r: [{k: 1}], include: [%s]" % combinations)
 
 
-def outputs_of_all_steps(count, reads):
+def outputs_of_all_steps(count, times):
     """Expressions on the last output of many steps, each of which calls an action with many outputs."""
     steps = b"".join(b"      - {id: s%04d, uses: ./a}\n" % number for number in range(count))
-    read = b"      - run: ${{ contains(steps.*.outputs.o9999, 'x') }}\n" * reads
-    return {WORKFLOW: STEPS + steps + read, ACTION: action_with_outputs()}, b""
+    read = reads(times, b"contains(steps.*.outputs.o9999, 'x')", b"o9999")
+    return with_wrong_property({WORKFLOW: STEPS + steps + read, ACTION: action_with_outputs()})
 
 
 def outputs_of_called_jobs():
     """Expressions on the last output of many needed jobs, each of which calls a workflow with many outputs."""
     call = b"uses: ./%s/b.yml" % WORKFLOWS.encode()
-    files, told = needed_jobs(4_000, call, b"contains(needs.*.outputs.o9999, 'x')")
+    files, told = needed_jobs(4_000, call, b"contains(needs.*.outputs.o9999, 'x')", b"o9999")
     return files | {f"{WORKFLOWS}/b.yml": workflow_with_outputs()}, told
 
 
@@ -124,7 +145,8 @@ def scripts_full_of_stars():
     first = b"  j000: {needs: &n [%s], runs-on: u, steps: [{run: x}]}\n" % names
     script = b"          ${{ github.ref }} %s\n" % (b"*" * 1_700)
     jobs = b"".join(b"  j%03d:\n    needs: *n\n    runs-on: u\n    steps:\n      - run: |\n%s" % (job, script) for job in range(1, 401))
-    return {WORKFLOW: b"on: push\njobs:\n" + needed + first + jobs}, b""
+    last = b"      - run: ${{ needs.n59.outputs.%s }}\n" % WRONG
+    return with_wrong_property({WORKFLOW: b"on: push\njobs:\n" + needed + first + jobs + last})
 
 
 def deep_in_common(read, depth=3, width=7, count=40):
@@ -134,7 +156,7 @@ def deep_in_common(read, depth=3, width=7, count=40):
             return b"{x: 1}"
         return b"{%s}" % b", ".join(b"%s%d: %s" % (name, number, mapping(depth - 1, b"%s%d_" % (name, number))) for number in range(width))
     rows = b", ".join(b"r%02d: [%s]" % (row, mapping(depth, b"k%02d_" % row)) for row in range(count))
-    return matrix_of(rows, b"      - run: ${{ contains(%s, '1') }}\n" % read * 9_000)
+    return matrix_of(rows, reads(9_000, b"contains(%s, '1')" % read, b"x"))
 
 
 def paths_that_differ(value, rest, count=5_000, values=10_000, beside=b""):
@@ -144,8 +166,9 @@ def paths_that_differ(value, rest, count=5_000, values=10_000, beside=b""):
     for _ in range(13):
         mapping = b"{a: %s, b: {%s}}" % (mapping, beside)
     paths = islice(product((b".a", b".*[0]"), repeat=13), count)
-    read = b"".join(b"      - run: ${{ contains(matrix.r%s%s, '1') }}\n" % (b"".join(path), rest) for path in paths)
-    return matrix_of(b"r: [%s]" % mapping, read)
+    expressions = [b"contains(matrix.r%s%s, '1')" % (b"".join(path), rest) for path in paths]
+    steps = b"".join(b"      - run: ${{ %s }}\n" % it for it in expressions)
+    return matrix_of(b"r: [%s]" % mapping, steps + reads(0, expressions[0], b"x"))
 
 
 def below(depth, value=b"{x: 1}"):
@@ -163,7 +186,7 @@ def paths_and_names(depth, values):
 def names_after_brackets(depth, values, last):
     """Expressions that read by names, ending with this one, after brackets around what all values of a matrix have in common."""
     mapping = b"{%s}" % b", ".join(b"k%04d: %s" % (number, below(depth)) for number in range(values))
-    return matrix_of(b"r: [%s]" % mapping, b"      - run: ${{ contains((matrix.r.*)%s%s, '1') }}\n" % (b".n" * depth, last) * 1_800)
+    return matrix_of(b"r: [%s]" % mapping, reads(1_800, b"contains((matrix.r.*)%s%s, '1')" % (b".n" * depth, last), last[1:] or b"n"))
 
 
 def many_steps(count):
@@ -173,48 +196,48 @@ def many_steps(count):
 
 def branches_of_many_steps():
     """Expressions that read an output of the last of many steps, in two branches that are all of them."""
-    steps = b"      - run: ${{ (steps || steps).s5999.outputs.x }}\n" * 10_000
-    return {WORKFLOW: many_steps(6_000) + steps}, b""
+    return with_wrong_property({WORKFLOW: many_steps(6_000) + reads(10_000, b"(steps || steps).s5999.outputs.x", b"outputs.x")})
 
 
 def steps_between_branches():
     """Steps each of which reads an output of the first one, in two branches that are all steps before it."""
     steps = b"".join(b"      - {id: t%04d, run: '${{ (steps || steps).s0000.outputs.x }}'}\n" % number for number in range(8_000))
-    return {WORKFLOW: many_steps(1) + steps}, b""
+    return with_wrong_property({WORKFLOW: many_steps(1) + steps + reads(0, b"(steps || steps).s0000.outputs", b"outputs")})
 
 
-def needed_jobs(count, job, expression, reads=None):
-    """Jobs of this kind, and another that needs all of them, with this many expressions, by default one for each job."""
+def needed_jobs(count, job, expression, name, times=None):
+    """Jobs of this kind, and another that needs all of them, with this many expressions, by default one for each job, and one that reads a
+    wrong property in place of this name."""
     names = [b"j%05d" % number for number in range(count)]
     jobs = b"".join(b"  %s: {%s}\n" % (name, job) for name in names)
-    steps = b"      - run: ${{ %s }}\n" % expression * (reads or count)
-    last = b"  z:\n    needs: [%s]\n    runs-on: u\n    steps:\n" % b", ".join(names) + steps
-    return {WORKFLOW: b"on: push\njobs:\n" + jobs + last}, b""
+    last = b"  z:\n    needs: [%s]\n    runs-on: u\n    steps:\n" % b", ".join(names) + reads(times or count, expression, name)
+    return with_wrong_property({WORKFLOW: b"on: push\njobs:\n" + jobs + last})
 
 
-def output_of_needed_jobs(expression, reads):
+def output_of_needed_jobs(expression, times, name=b"outputs.a"):
     """Expressions in a job that needs 6,000 jobs, each of which has an output with the same name."""
-    return needed_jobs(6_000, b"runs-on: u, outputs: {a: x}, steps: [{run: x}]", expression, reads)
+    return needed_jobs(6_000, b"runs-on: u, outputs: {a: x}, steps: [{run: x}]", expression, name, times)
 
 
 def outputs_of_needed_jobs(expression, first=b""):
     """Expressions on an output of the last of many needed jobs, each with an output of its own, preceded by a job of this kind."""
     names = [b"j%04d" % number for number in range(5_000)]
     jobs = b"".join(b"  %s: {runs-on: u, outputs: {o%s: x}, steps: [{run: x}]}\n" % (name, name) for name in names)
-    steps = b"      - run: ${{ contains(%s.outputs.oj4999, 'x') }}\n" % expression * 9_000
+    steps = reads(9_000, b"contains(%s.outputs.oj4999, 'x')" % expression, b"outputs.oj4999")
     last = b"  z:\n    needs: [a, %s]\n    runs-on: u\n    steps:\n" % b", ".join(names) + steps
-    return {WORKFLOW: b"on: push\njobs:\n  a: {%s}\n" % (first or b"runs-on: u, steps: [{run: x}]") + jobs + last}, b""
+    before = b"on: push\njobs:\n  a: {%s}\n" % (first or b"runs-on: u, steps: [{run: x}]")
+    return with_wrong_property({WORKFLOW: before + jobs + last})
 
 
 def outputs_of_many_steps():
     """Expressions on an output of all of many steps."""
-    return {WORKFLOW: many_steps(10_000) + b"      - run: ${{ contains(steps.*.outputs.x, 'y') }}\n" * 10_000}, b""
+    return with_wrong_property({WORKFLOW: many_steps(10_000) + reads(10_000, b"contains(steps.*.outputs.x, 'y')", b"outputs.x")})
 
 
 def steps_with_all_before(count):
     """Steps each of which reads an output of all steps before it."""
     steps = b"".join(b"      - {id: t%05d, run: \"${{ contains(steps.*.outputs.x, 'y') }}\"}\n" % number for number in range(count))
-    return {WORKFLOW: many_steps(1) + steps}, b""
+    return with_wrong_property({WORKFLOW: many_steps(1) + steps + reads(0, b"contains(steps.*.outputs.x, 'y')", b"outputs.x")})
 
 
 def steps_that_call_an_action_each(count):
@@ -222,40 +245,43 @@ def steps_that_call_an_action_each(count):
     called = b"name: A\ndescription: d\noutputs: {o%04d: {value: x}, p: {value: x}}\nruns: {using: composite, steps: []}\n"
     files = {f"a{number:04}/action.yml": called % number for number in range(count)}
     step = b"      - {id: s%04d, uses: ./a%04d}\n      - run: ${{ contains(steps.*.outputs.p, 'x') }}\n"
-    return files | {WORKFLOW: STEPS + b"".join(step % (number, number) for number in range(count))}, b""
+    last = reads(0, b"contains(steps.*.outputs.p, 'x')", b"p")
+    return with_wrong_property(files | {WORKFLOW: STEPS + b"".join(step % (number, number) for number in range(count)) + last})
 
 
 def all_of_many_inputs():
     """Expressions on what all of many inputs have in common."""
     inputs = b", ".join(b"i%05d: {type: string}" % number for number in range(16_000))
     start = b"on: {workflow_call: {inputs: {%s}}}\n" % inputs
-    return {WORKFLOW: start + STEPS[STEPS.index(b"jobs:"):] + b"      - run: ${{ contains(inputs.*, 'x') }}\n" * 10_000}, b""
+    return with_wrong_property({WORKFLOW: start + STEPS[STEPS.index(b"jobs:"):] + reads(10_000, b"contains(inputs.*, 'x')", b"*")})
 
 
 def jobs_with_an_expression(expression):
     """Jobs that need one with many outputs, each with an expression."""
     job = b"  b%04d: {needs: [a, A], runs-on: u, steps: [{run: '%s'}]}\n"
-    return with_outputs(4_000, b"".join(job % (number, expression) for number in range(4_000))), b""
+    jobs = [job % (number, expression) for number in range(4_000)] + [job % (4_000, b"${{ needs.a.outputs.%s }}" % WRONG)]
+    return with_wrong_property(with_outputs(4_000, b"".join(jobs)))
 
 
 def jobs_that_call():
     """Jobs that need one with many outputs and call a workflow of another repository."""
-    return with_outputs(10_000, b"".join(b"  b%05d: {needs: a, %s}\n" % (number, CALLED_ELSEWHERE) for number in range(13_000))), b""
+    jobs = b"".join(b"  b%05d: {needs: a, %s}\n" % (number, CALLED_ELSEWHERE) for number in range(13_000))
+    last = b"  z: {needs: a, runs-on: u, steps: [{run: '${{ needs.a.outputs.%s }}'}]}\n" % WRONG
+    return with_wrong_property(with_outputs(10_000, jobs + last))
 
 
 def last_key_of_a_mapping():
     """Expressions that read the last key of a mapping of a matrix."""
     keys = b", ".join(b"k%05d: 1" % number for number in range(20_000))
-    steps = b"      - run: ${{ matrix.a.k19999 }}\n" * 12_000
-    start = b"on: push\njobs:\n  b:\n    strategy: {matrix: {a: [{%s}]}}\n    runs-on: u\n    steps:\n" % keys
-    return {WORKFLOW: start + steps}, b""
+    return matrix_of(b"a: [{%s}]" % keys, reads(12_000, b"matrix.a.k19999", b"k19999"))
 
 
 def chain_of_needs():
     """Jobs each of which needs the previous one."""
     first = b"on: push\njobs:\n  j00000: {%s}\n" % CALLED_ELSEWHERE
     others = b"".join(b"  j%05d: {needs: j%05d, %s}\n" % (number, number - 1, CALLED_ELSEWHERE) for number in range(1, 16_000))
-    return {WORKFLOW: first + others}, b""
+    last = b"  z: {needs: j15999, runs-on: u, steps: [{run: '${{ needs.j15999.%s }}'}]}\n" % WRONG
+    return with_wrong_property({WORKFLOW: first + others + last})
 
 
 def calls_that_lack():
@@ -266,10 +292,13 @@ def calls_that_lack():
 
 
 def calls_of_many_optional_inputs(steps):
-    """Calls of an action with many optional inputs, in about as many nodes as a file can have."""
+    """Calls of an action with many optional inputs, in about as many nodes as a file can have; the last one gives another input."""
     inputs = b",".join(b"i%d:" % number for number in range(40_000))
     action = b"name: A\ndescription: d\ninputs: {%s}\nruns: {using: node20, main: m.js}\n" % inputs
-    return {WORKFLOW: b"on: push\njobs: {a: {runs-on: u, steps: [%s]}}\n" % b",".join(steps), ACTION: action}, b""
+    last = b"{uses: ./a, with: {%s: 1}}" % WRONG
+    workflow = b"on: push\njobs: {a: {runs-on: u, steps: [%s]}}\n" % b",".join([*steps, last])
+    told = b'%s%s: input "%s" is not defined in "A" [action]\n' % (AT, position_of(workflow, WRONG), WRONG)
+    return {WORKFLOW: workflow, ACTION: action}, told
 
 
 def aliases_of_a_call():
@@ -312,8 +341,7 @@ def steps_that_give_one_mapping():
 
 def all_of_many_outputs():
     """Expressions that are the object of many outputs."""
-    steps = b"      - run: ${{ toJSON(needs.a.outputs) }}\n" * 12_000
-    return reading_outputs(steps)
+    return reading_outputs(b"      - run: ${{ toJSON(needs.a.outputs) }}\n" * 12_000 + reads(0, b"toJSON(needs.a.outputs.x)", b"x"))
 
 
 def values(count):
@@ -334,13 +362,15 @@ def action_with_outputs():
 def jobs_that_call_one_with_many_outputs():
     """Jobs that call a workflow with many outputs, each with an expression."""
     jobs = b"".join(b"  b%04d: {uses: ./%s/b.yml, if: github.ref}\n" % (number, WORKFLOWS.encode()) for number in range(4_000))
-    return {WORKFLOW: b"on: push\njobs:\n" + jobs, f"{WORKFLOWS}/b.yml": workflow_with_outputs()}, b""
+    last = b"  z: {needs: b3999, runs-on: u, steps: [{run: '${{ needs.b3999.outputs.%s }}'}]}\n" % WRONG
+    return with_wrong_property({WORKFLOW: b"on: push\njobs:\n" + jobs + last, f"{WORKFLOWS}/b.yml": workflow_with_outputs()})
 
 
 def steps_that_call_one_with_many_outputs():
     """Steps that call a composite action with many outputs, each with an expression."""
     steps = b"".join(b"      - {id: s%04d, uses: ./a, if: github.ref}\n" % number for number in range(4_000))
-    return {WORKFLOW: STEPS + steps, ACTION: action_with_outputs()}, b""
+    last = reads(0, b"steps.s3999.outputs.x", b"x")
+    return with_wrong_property({WORKFLOW: STEPS + steps + last, ACTION: action_with_outputs()})
 
 
 # by name: a function that makes a folder's files, by path, and the lines of its report
@@ -375,13 +405,14 @@ FOLDERS = {
     "output-of-6000-needs-in-branches-in-brackets": lambda: output_of_needed_jobs(
         b"contains(((needs || needs).*).outputs.a, 'x')", 3_000),
     "output-of-6000-needs-and-a-small-object-in-turn": lambda: output_of_needed_jobs(
-        b"contains(needs.*.outputs.a || needs.*.outputs.a || needs.j00001.*, 'x')", 2_000),
+        b"contains(needs.*.outputs.a || needs.*.outputs.a || needs.j00001.*, 'x')", 2_000, b"*"),
     "1300-operands-over-13000-needs": lambda: needed_jobs(
-        13_000, CALLED_ELSEWHERE, b"(%s).outputs.a" % b"||".join([b"needs.*[0]"] * 1_300), 10),
-    "last-of-9000-needs-9000-times": lambda: needed_jobs(9_000, CALLED_ELSEWHERE, b"needs.j08999.result"),
-    "all-of-2000-needs-2000-times": lambda: needed_jobs(2_000, b"runs-on: u, steps: [{run: x}]", b"contains(needs.*.result, 'failure')"),
+        13_000, CALLED_ELSEWHERE, b"(%s).outputs.a" % b"||".join([b"needs.*[0]"] * 1_300), b"outputs.a", 10),
+    "last-of-9000-needs-9000-times": lambda: needed_jobs(9_000, CALLED_ELSEWHERE, b"needs.j08999.result", b"result"),
+    "all-of-2000-needs-2000-times": lambda: needed_jobs(
+        2_000, b"runs-on: u, steps: [{run: x}]", b"contains(needs.*.result, 'failure')", b"result"),
     "all-of-2000-needs-in-2000-branches": lambda: needed_jobs(
-        2_000, b"runs-on: u, steps: [{run: x}]", b"contains((needs || needs).*.result, 'failure')"),
+        2_000, b"runs-on: u, steps: [{run: x}]", b"contains((needs || needs).*.result, 'failure')", b"result"),
     "outputs-of-5000-needs-9000-times": lambda: outputs_of_needed_jobs(b"needs.*"),
     "outputs-of-5000-needs-in-9000-branches": lambda: outputs_of_needed_jobs(b"(needs || needs).*"),
     "outputs-of-5000-needs-and-of-a-call": lambda: outputs_of_needed_jobs(b"needs.*", CALLED_ELSEWHERE),
@@ -393,7 +424,7 @@ FOLDERS = {
     "all-of-16000-mappings-of-all-rows-10000-times": lambda: all_of_a_mapping(b"matrix.*[0].*.x"),
     "all-of-16000-mappings-of-two-rows-10000-times": all_of_two_mappings,
     "last-of-10000-mappings-below-a-row-12000-times": last_of_mappings_below_a_row,
-    "last-of-6000-needs-in-6000-branches": lambda: needed_jobs(6_000, CALLED_ELSEWHERE, b"(needs || needs).j05999.result"),
+    "last-of-6000-needs-in-6000-branches": lambda: needed_jobs(6_000, CALLED_ELSEWHERE, b"(needs || needs).j05999.result", b"result"),
     "last-of-6000-steps-in-10000-branches": branches_of_many_steps,
     "8000-steps-with-branches-of-those-before": steps_between_branches,
     "last-of-20000-keys-12000-times": last_key_of_a_mapping,

@@ -12,8 +12,7 @@ import socket
 import stat
 import sys
 
-from running import (CALLED, CALLER, CLEAN, EMPTY_REPORT, MISSING_INPUT, REPORT, SCRIPT, WORKFLOWS, delete, line, put, report, run_parts,
-                     show)
+from running import CALLED, CALLER, CLEAN, EMPTY_REPORT, MISSING_INPUT, REPORT, SCRIPT, WORKFLOWS, delete, line, put, run_parts
 
 EMPTY_SNIPPET = EMPTY_REPORT + b"  |\n1 | \n  | ^\n"
 

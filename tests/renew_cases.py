@@ -1,22 +1,25 @@
-"""Shows how a program's outputs differ from those in the cases of a folder, and rewrites them.
+"""Shows how a program's outputs differ from those in files of cases, and rewrites them.
 
-    python3 tests/renew_cases.py [--write] PROGRAM FOLDER [WORD..]
+    python3 tests/renew_cases.py [--write] PROGRAM CASES [WORD..]
 
-For use after an intended change, for instance of a message. For each case whose output or status has changed (cases are as in
+For use after an intended change, for instance of a message. For each case whose output or status has changed (CASES and WORDs are as in
 tests/run_cases.py) it prints the removed and the added lines, and finally how many cases differ and how often each pair of lines does.
 `--write` replaces the old outputs: read what is shown first, since from then on it is what is expected.
 """
 
 import collections
+import dataclasses
 import difflib
+import pathlib
 import sys
 
-from run_cases import cases_in, run, status_of
+from case_files import files_in, read_file, write_cases
+from run_cases import run
 
 
-def lines_of(data, status):
+def lines_of(output, status):
     """The lines of an output, and its status as one more."""
-    return [*data.decode(errors="backslashreplace").splitlines(), f"(the run's status: {status})"]
+    return [*output.decode(errors="backslashreplace").splitlines(), f"(the run's status: {status})"]
 
 
 def changes(old, new):
@@ -24,33 +27,39 @@ def changes(old, new):
     return [line for line in difflib.unified_diff(old, new, lineterm="", n=0) if line[:1] in "+-" and line[:3] not in ("+++", "---")]
 
 
-def renew(case, ran):
-    """Writes the new expected output of a case."""
-    case.with_name(case.name + ".stdout").write_bytes(ran.stdout)
-    status = case.with_name(case.name + ".status")
-    if ran.returncode or status.exists():
-        status.write_text(f"{ran.returncode}\n")
+class Renewal:
+    """What differs between the cases and the outputs of a program."""
 
+    def __init__(self, program, words):
+        self.program, self.words = program, words
+        self.differing, self.unended, self.often = 0, 0, collections.Counter()
 
-def main(program, folder, words, is_written):
-    differing, often, unended = 0, collections.Counter(), 0
-    for name, case in cases_in(folder).items():
-        ran = run(program, case, words)
+    def renewed(self, name, case):
+        """A case with the output and status of its run, after showing how they differ."""
+        ran = run(self.program, case, self.words)
         if ran is None:
             print(f"{name}: no end")
-            unended += 1
-            continue
-        old = case.with_name(case.name + ".stdout").read_bytes()
-        if (old, status_of(case)) == (ran.stdout, ran.returncode):
-            continue
-        changed = changes(lines_of(old, status_of(case)), lines_of(ran.stdout, ran.returncode))
+            self.unended += 1
+            return case
+        if (case.output, case.status) == (ran.stdout, ran.returncode):
+            return case
+        changed = changes(lines_of(case.output, case.status), lines_of(ran.stdout, ran.returncode))
         print(f"== {name}", *changed, sep="\n")
-        differing += 1
-        often[tuple(changed)] += 1
-        if is_written:
-            renew(case, ran)
-    print(f"{differing} cases differ, in {len(often)} ways{', and were written' if is_written and differing else ''}")
-    return 1 if unended else 0
+        self.differing += 1
+        self.often[tuple(changed)] += 1
+        return dataclasses.replace(case, output=ran.stdout, status=ran.returncode)
+
+
+def main(program, path, words, is_written):
+    renewal = Renewal(program, words)
+    for prefix, file in files_in(pathlib.Path(path)).items():
+        old = read_file(file)
+        new = {name: renewal.renewed(prefix + name, case) for name, case in old.items()}
+        if is_written and new != old:
+            write_cases(file, new)
+    told = ", and were written" if is_written and renewal.differing else ""
+    print(f"{renewal.differing} cases differ, in {len(renewal.often)} ways{told}")
+    return 1 if renewal.unended else 0
 
 
 if __name__ == "__main__":

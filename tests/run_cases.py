@@ -1,44 +1,25 @@
-"""Runs a built program over a folder of cases and compares what it prints.
+"""Runs a built program over cases and compares what it prints.
 
-    python3 tests/run_cases.py PROGRAM FOLDER [WORD..]
+    python3 tests/run_cases.py PROGRAM CASES [WORD..]
 
-A case is a file with the standard input of a run, in FOLDER or in a folder below it; its NAME is its path from there. Beside it are
-NAME.stdout, the exact output, and NAME.status, the status of the run (0 without it); NAME.args holds the arguments of its run, one per
-line; without it the run gets the WORDs. Prints a line for each case, sorted by path: `case=NAME output=expected status=N`, or how the
-output or the status differs. The status is 0 if there was a case and each was as expected.
+CASES is a file of cases (tests/case_files.py), or a folder with such files, where the name of a case begins with the path of its file. A
+case without arguments of its own gets the WORDs. Prints a line for each case: `case=NAME output=expected status=N`, or how the output or
+the status differs. The status is 0 if there was a case and each was as expected.
 """
 
-import pathlib
 import subprocess
 import sys
+
+from case_files import read_cases
 
 SECONDS = 60
 
 
-def words_of(case, words):
-    """The arguments of a case's run."""
-    own = case.with_name(case.name + ".args")
-    return own.read_text().splitlines() if own.exists() else words
-
-
-def status_of(case):
-    """The expected status of a case."""
-    own = case.with_name(case.name + ".status")
-    return int(own.read_text()) if own.exists() else 0
-
-
-def cases_in(folder):
-    """The cases of a folder and of those below it: the file of each by its name, sorted by path, part by part."""
-    top = pathlib.Path(folder)
-    found = sorted(it for it in top.rglob("*") if it.with_name(it.name + ".stdout").exists())
-    return {it.relative_to(top).as_posix(): it for it in found}
-
-
 def run(program, case, words):
     """Runs a case: its output, its status and its standard error; None if it doesn't end."""
+    own = words if case.words is None else case.words
     try:
-        with case.open("rb") as script:
-            return subprocess.run([program, *words_of(case, words)], stdin=script, capture_output=True, timeout=SECONDS, check=False)
+        return subprocess.run([program, *own], input=case.input, capture_output=True, timeout=SECONDS, check=False)
     except subprocess.TimeoutExpired:
         return None
 
@@ -55,21 +36,20 @@ def is_right(program, name, case, words):
     if ran is None:
         print(f"case={name} output=none, no end after {SECONDS} seconds")
         return False
-    wanted, status = case.with_name(case.name + ".stdout").read_bytes(), status_of(case)
-    if ran.stdout != wanted:
+    if ran.stdout != case.output:
         print(f"case={name} output=differs status={ran.returncode}")
-        print(f"  {difference(ran.stdout, wanted)}")
-    elif ran.returncode != status:
+        print(f"  {difference(ran.stdout, case.output)}")
+    elif ran.returncode != case.status:
         print(f"case={name} output=as-expected-but-the-status status={ran.returncode}")
-        print(f"  expected status {status}, standard error {ran.stderr[:200]!r}")
+        print(f"  expected status {case.status}, standard error {ran.stderr[:200]!r}")
     else:
         print(f"case={name} output=expected status={ran.returncode}")
         return True
     return False
 
 
-def main(program, folder, words):
-    right = [is_right(program, name, case, words) for name, case in cases_in(folder).items()]
+def main(program, path, words):
+    right = [is_right(program, name, case, words) for name, case in read_cases(path).items()]
     return 0 if right and all(right) else 1
 
 

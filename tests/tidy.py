@@ -24,8 +24,8 @@ BREAKS = r"\s.,;:(){}\[\]\"⌜⌝"
 # words of the definitions, and of the code
 WORDS = {".antt": [re.compile(f"[^{BREAKS}]+")], ".rt": [re.compile(f"[^{BREAKS}]+"), re.compile(r"\w+")]}
 # these are used without being named: a trait's methods, and lines of `do`
-UNSEEN = {"BufRead", "Context", "Error", "FromStr", "Hash", "Iterator", "Lint", "MetadataExt", "Model", "OpenFile", "Read", "Write", "WriteFault", "_",
-          "◌>>=◌"}
+UNSEEN = {"BufRead", "Context", "Error", "FromStr", "Hash", "Iterator", "Lint", "MetadataExt", "Model", "OpenFile", "Read", "Write",
+          "WriteFault", "_", "◌>>=◌"}
 
 
 def files_of(top, folder):

@@ -266,7 +266,8 @@ def test_missing_commands(copy):
     expect("which-of-one-that-does-not-run", copy.run("--which", PATH=both), status=3, out="", err=is_a_line_with("glibc 2.34"))
     (copy.top / "prebuilt/actionlint").write_text(CARRIED)
     (copy.top / "prebuilt/actionlint").chmod(0o644)
-    expect("carried-that-is-not-executable", copy.run("x", PATH=both), status=3, out="", err=is_a_line_with("isn't executable, as `chmod +x`"))
+    why = "isn't executable, as `chmod +x`"
+    expect("carried-that-is-not-executable", copy.run("x", PATH=both), status=3, out="", err=is_a_line_with(why))
     (copy.top / "prebuilt/actionlint").chmod(0o755)
     copy.source().write_text("// two\n")
     for name, path in (("python3", copy.without("python3")), ("rt", copy.without("rt")), ("python3 or rt", both)):

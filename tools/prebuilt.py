@@ -57,5 +57,5 @@ def compare():
 
 
 if __name__ == "__main__":
-    commands = {("--renew",): renew, ("--compare",): compare}
-    commands.get(tuple(sys.argv[1:]), lambda: sys.exit(__doc__))()
+    commands = {"--renew": renew, "--compare": compare}
+    commands.get(" ".join(sys.argv[1:]), lambda: sys.exit(__doc__))()

@@ -15,6 +15,9 @@ from repositories import CLIENTS, TOP
 from actionlint_client import entries, names, syntax
 from actionlint_client.report import parse_fault
 
+sys.path.append(str(TOP / "tests"))
+from case_files import read_cases
+
 CASES = Cases("tables")
 FAULT_LINE = re.compile(rb"^[^ :\n][^:\n]*:[0-9]+:[0-9]+: .*\[[a-z-]+\]$", re.M)
 CODE = re.compile(r"/// ([YKGXC][0-9]+): ")
@@ -24,8 +27,9 @@ LEAST_LINES = 1_000
 
 def printed_lines() -> list[bytes]:
     """The lines with faults in the expected outputs of the cases and the examples."""
-    files = [*sorted((TOP / "tests/cases").rglob("*.stdout")), *sorted((TOP / "examples").glob("*.oneline"))]
-    return [line for file in files for line in FAULT_LINE.findall(file.read_bytes())]
+    examples = [file.read_bytes() for file in sorted((TOP / "examples").glob("*.oneline"))]
+    outputs = [case.output for case in read_cases(TOP / "tests/cases").values()]
+    return [line for output in [*outputs, *examples] for line in FAULT_LINE.findall(output)]
 
 
 @CASES.case

@@ -1,0 +1,119 @@
+"""Measures what a change costs to prove: price.py [--check] [CHANGE ..], after `rt ci` of the sources as they are.
+
+CHANGEs, by default all, are the names of files in bench/changes. For each the change is made in a copy of the repository, and the kit's
+gate runs there (`rt ci`): on a machine that has proved the sources as they are, it proves only what changed and the crates above it, tries
+their edits, and builds and runs all tests and programs. Prints for each change how many crates were proved again, the processor minutes, and the
+minutes on at most four processors until the program was built and the tests had passed. --check only looks whether each change can be made.
+
+A change is a list of replacements, each of three parts: a pattern of paths, a text that occurs once in the files of those paths (`all:` if
+more often), and its new lines. Files that change get a comment with the time, since what was once proved is never proved again.
+"""
+
+from __future__ import annotations
+
+import argparse
+import os
+import pathlib
+import re
+import resource
+import sys
+import tempfile
+import time
+from dataclasses import dataclass
+
+from gate import Step, watch
+
+TOP = pathlib.Path(__file__).resolve().parent.parent
+sys.path.insert(0, str(TOP / "tests"))
+from copying import commit, copy_files
+
+CHANGES = TOP / "bench/changes"
+REPLACEMENT = re.compile(r"file: (.+)\n(old|all): (.+)\n((?:new: .*\n)+)")
+PROCESSORS = 4
+COMMENTS = {".rt": "//", ".antt": "--"}
+
+
+@dataclass(frozen=True)
+class Replacement:
+    """A text in the files of a pattern, and what stands there after the change."""
+
+    paths: str
+    old: str
+    new: str
+    is_everywhere: bool
+
+    def make(self, texts: dict[pathlib.Path, str]) -> None:
+        """Makes the replacement in the texts of changed files, to which it adds others."""
+        files = {it: texts.get(it) or it.read_text() for it in TOP.glob(self.paths)}
+        count = sum(text.count(self.old) for text in files.values())
+        if count != 1 and not (count and self.is_everywhere):
+            sys.exit(f"this occurs {count} times in {self.paths}: {self.old}")
+        texts.update({it: text.replace(self.old, self.new) for it, text in files.items() if self.old in text})
+
+
+def replacements(name: str) -> list[Replacement]:
+    """The replacements of a change."""
+    text = (CHANGES / f"{name}.change").read_text()
+    rows = REPLACEMENT.findall(text)
+    if not rows or REPLACEMENT.sub("", text):
+        sys.exit(f"bench/changes/{name}.change isn't a list of replacements")
+    return [Replacement(paths, old, new[5:-1].replace("\nnew: ", "\n"), how == "all") for paths, how, old, new in rows]
+
+
+def changed_texts(name: str) -> dict[pathlib.Path, str]:
+    """The files that a change changes, with their new texts."""
+    texts: dict[pathlib.Path, str] = {}
+    for it in replacements(name):
+        it.make(texts)
+    return texts
+
+
+def make(name: str, room: pathlib.Path) -> None:
+    """Makes a change in a copy."""
+    for file, text in changed_texts(name).items():
+        (room / file.relative_to(TOP)).write_text(f"{text}{COMMENTS[file.suffix]} {time.time_ns()}\n")
+
+
+def minutes_of(steps: dict[tuple[str, str], Step]) -> tuple[int, float]:
+    """How many crates were proved, and the processor minutes of all steps."""
+    return len({crate for crate, step in steps if step == "proof"}), sum(it.total() for it in steps.values()) / 60
+
+
+def measure(name: str) -> int:
+    """Makes a change in a copy, runs the kit's gate there and prints what it took; returns the gate's status."""
+    with tempfile.TemporaryDirectory(prefix="actionlint-price-") as folder:
+        room = pathlib.Path(folder)
+        copy_files(room)
+        make(name, room)
+        commit(room)
+        before = resource.getrusage(resource.RUSAGE_CHILDREN)
+        with open(room.parent / f"{room.name}.log", "wb") as log:
+            status, steps, elapsed = watch(["rt", "ci"], room, log)
+        after = resource.getrusage(resource.RUSAGE_CHILDREN)
+        whole = (after.ru_utime + after.ru_stime - before.ru_utime - before.ru_stime) / 60
+        crates, seen = minutes_of(steps)
+        print(f"| {name} | {crates} | {whole:.1f} ({seen:.1f} seen) | {elapsed / 60:.1f} |", flush=True)
+        if status:
+            print(f"{name}: rt ci ends with {status}; {log.name} has what it said", file=sys.stderr)
+        else:
+            os.remove(log.name)
+        return status
+
+
+def main() -> int:
+    every = sorted(it.stem for it in CHANGES.glob("*.change"))
+    parser = argparse.ArgumentParser(description="Measures what changes cost to prove.")
+    parser.add_argument("changes", nargs="*", metavar="CHANGE", default=every, help="one of " + ", ".join(every))
+    parser.add_argument("--check", action="store_true", help="looks whether each change can be made, and proves nothing")
+    given = parser.parse_args()
+    if given.check:
+        for name in given.changes:
+            changed_texts(name)
+        return 0
+    os.sched_setaffinity(0, sorted(os.sched_getaffinity(0))[:PROCESSORS])
+    print("| Change | Crates proved again | Processor minutes | Minutes |\n|---|--:|--:|--:|")
+    return max(measure(name) for name in given.changes)
+
+
+if __name__ == "__main__":
+    sys.exit(main())
