@@ -47,9 +47,11 @@ def symbols(program: bytes, kind: int) -> Iterator[Symbol]:
             yield Symbol(text, info >> 4 == WEAK, place != 0)
 
 
-def called_functions(program: bytes) -> set[str]:
-    """The functions of other libraries that a program calls; a weak one may be missing, and the program then does without."""
-    return {it.name for it in symbols(program, DYNAMIC_SYMBOLS) if it.name and not it.is_weak and not it.is_defined}
+def c_functions(program: bytes) -> set[str]:
+    """The C functions that a program calls: those of other libraries, but no weak ones, which may be missing; and those that the kit's C code
+    defines."""
+    called = {it.name for it in symbols(program, DYNAMIC_SYMBOLS) if it.name and not it.is_weak and not it.is_defined}
+    return called | {it.name for it in symbols(program, SYMBOLS) if it.name.startswith("rattle_")}
 
 
 def crates_in(program: bytes) -> set[str]:

@@ -115,7 +115,7 @@ def untold_libraries(page, program, built):
     """The C functions and the libraries that a program rests on and the page doesn't name, or the other way round."""
     trusted = section(page, "What is trusted")
     listed = {it for names in C_FUNCTIONS.findall(trusted) for it in re.findall(r"\w+", names)}
-    called = elf.called_functions(program)
+    called = elf.c_functions(program)
     yield from (f"the program calls {it}, which isn't listed" for it in sorted(called - listed))
     yield from (f"the program doesn't call {it}" for it in sorted(listed - called))
     libraries = {it for below in built.values() for it in below} | elf.crates_in(program)
