@@ -3,9 +3,10 @@
 Each clause in the table of promises belongs to the function that the table names, and README.md's table has exactly the numbered promises.
 Each crate of crates.txt that the program depends on, and `toy`, has rows in the table of crates; a row is about a public item of its crate,
 and the clauses in brackets after it are its own; a definition's file that a row names exists. If a clause is a record, its fields count as
-clauses. The table of tests names files and functions that exist. What is trusted is whole: the C functions that `prebuilt/actionlint` calls
-and the foreign crates in it, the libraries of crates.txt, and each `unsafe` block of the crates, none of which has an axiom or a foreign
-function. If the kit's `rt` is on the PATH, the trusted logic is the one with which that kit proves. Prints what isn't so.
+clauses. The table of tests names files and functions that exist. What is trusted is whole: the C functions that `prebuilt/actionlint` calls,
+the foreign crates in it, whose licences are in LICENSES, the libraries of crates.txt, and each `unsafe` block of the crates, none of which
+has an axiom or a foreign function. If the kit's `rt` is on the PATH, the trusted logic is the one with which that kit proves. Prints what
+isn't so.
 """
 
 import pathlib
@@ -123,6 +124,13 @@ def untold_libraries(page, program, built):
     yield from (f"{it} isn't named as a library" for it in sorted(libraries - set(built) - named))
 
 
+def untold_licences(top, program, built):
+    """The foreign crates whose licence LICENSES/ lacks."""
+    libraries = {it for below in built.values() for it in below} | elf.crates_in(program)
+    yield from (f"LICENSES has none of {it}" for it in sorted(libraries - set(built) - STANDARD)
+                if not (top / "LICENSES" / f"{it}.txt").exists())
+
+
 def untold_code(top, page):
     """The unsafe blocks that the page doesn't name, or names where there is none, and what no crate may have."""
     unsafe = {f"{it.relative_to(top / 'crates')}" for it in top.glob("crates/*/src/**/*.rt")
@@ -153,7 +161,8 @@ def differences(top):
     found += [f"no row of {it}" for it in sorted(wanted - set(listed))]
     found += [f"no crate {it}" for it in sorted(set(listed) - set(built))]
     program = (top / "prebuilt/actionlint").read_bytes()
-    found += [*wrong_tests(top, page), *untold_libraries(page, program, built), *untold_code(top, page)]
+    found += [*wrong_tests(top, page), *untold_libraries(page, program, built), *untold_licences(top, program, built)]
+    found += untold_code(top, page)
     found += [f"{name}: {it}" for name, of_crate in listed.items() for it in wrong_in(top / "crates" / name, of_crate, definitions)]
     if shutil.which("rt"):
         version = subprocess.run(["rt", "version"], capture_output=True, text=True, check=True).stdout.strip()

@@ -32,7 +32,7 @@ def failed(ran, status=0):
 
 def clone(folder, program=None):
     """A repository with the files of this tree in one commit, which is always the same; with the sources too if it carries a program."""
-    copy_files(folder, re.compile(rf"(docs|clients|tools{'|crates|prebuilt' * bool(program)})/|[^/]*$").match)
+    copy_files(folder, re.compile(rf"(docs|clients|LICENSES|tools{'|crates|prebuilt' * bool(program)})/|[^/]*$").match)
     if program:
         carry(folder, program)
     commit(folder)
@@ -58,7 +58,8 @@ def contents(archive):
     wrong += [] if len({it.mtime for it in members}) == 1 else ["times differ"]
     wrong += [] if [it.split("/") for it in names] == sorted(it.split("/") for it in names) else ["names are not in order"]
     base = names[0] if names else ""
-    needed = ["bin/actionlint", "share/actionlint/LICENSE", "share/actionlint/README.md", "share/actionlint/docs/FAULTS.md"]
+    needed = ["bin/actionlint", "share/actionlint/LICENSE", "share/actionlint/LICENSES/clap.txt", "share/actionlint/README.md",
+              "share/actionlint/docs/FAULTS.md"]
     needed += ["share/actionlint/clients/actionlint-lsp"] if (TOP / "clients/actionlint-lsp").exists() else []
     return wrong + [f"{it} is missing" for it in needed if f"{base}/{it}" not in names]
 
