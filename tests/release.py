@@ -15,7 +15,7 @@ import sys
 import tarfile
 import textwrap
 
-from copying import TOP, carry, commit, copy_files
+from copying import AS, TOP, carry, commit, copy_files
 from links import broken_links
 from running import CLEAN, NOBODY, WORKFLOWS, run_in_room, show
 
@@ -197,6 +197,18 @@ def reading_alone(folder, room):
     return wrong
 
 
+def undated(folder, program):
+    """What differs if ./release should refuse a version whose heading in CHANGELOG.md has no date."""
+    log = folder / "CHANGELOG.md"
+    version = (folder / "VERSION").read_text(encoding="utf-8").strip()
+    log.write_text(re.sub(r"(?m)^(## [0-9.]+), .*$", r"\1", log.read_text(encoding="utf-8")), encoding="utf-8")
+    run(["git", "-C", folder, *AS, "commit", "-qam", "no date"]).check_returncode()
+    ran = run([folder / "release", "--program", program, "--to", folder / "made"])
+    wrong = failed(ran, 1) + (["something was made"] if (folder / "made").exists() else [])
+    said = f"release: CHANGELOG.md has no heading with {version} and its date\n"
+    return wrong + ([] if ran.stderr.decode() == said else [show(ran.stderr)])
+
+
 def refused(folder, arguments, said):
     """What differs if ./release should refuse these arguments with status 2 and a line that says this before the usage."""
     ran = run([folder / "release", *arguments])
@@ -243,6 +255,7 @@ def cases(program, room):
     yield "clone-of-another-user", of_another(first, room)
     yield "clone-that-is-read-alone", reading_alone(clone(room / "c", program), room)
     yield "steps-of-the-page", steps_of_the_page(archive, room)
+    yield "version-without-a-date", undated(clone(room / "d"), program)
     yield "wrong-words", words(first, program, room)
 
 
