@@ -13,6 +13,7 @@ import shutil
 import sys
 import tempfile
 
+from copying import TOP
 from release import clone, failed, run
 from running import CALLED, CALLER, MISSING_INPUT, WORKFLOWS, run_in_room, write_files
 
@@ -95,6 +96,8 @@ def contents(package, version, room):
     wrong = failed(run(["dpkg-deb", "-x", package, root]))
     log = gzip.decompress((root / "usr/share/doc/juzbrost-actionlint/changelog.gz").read_bytes()).decode()
     wrong += [] if LOG.fullmatch(log) and f"({version})" in log else [f"the log is {log!r}"]
+    notices = (root / "usr/share/doc/juzbrost-actionlint/copyright").read_text(encoding="utf-8")
+    wrong += [f"no licence of {it.stem}" for it in sorted((TOP / "LICENSES").glob("*.txt")) if it.read_text(encoding="utf-8") not in notices]
     clients = sorted(it.name for it in (root / "usr/share/actionlint/clients").iterdir())
     return wrong + ([] if clients == CLIENTS else [f"the clients are {clients}"])
 

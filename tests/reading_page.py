@@ -1,67 +1,124 @@
-"""Makes docs/READING.md, or compares it: reading_page.py TOP [--write].
+"""Makes what docs/READING.md takes from the sources, or compares it: reading_page.py TOP [--write].
 
 The page lists the definitions that the public theorems depend on, each module after those it uses. They are found in the sources: the names
 in a function's contract, by the `use` lines of its file, and then the names that each of these definitions uses (`definitions.py`). None of
 them may be in `specs/Private`, which holds words of private contracts, except those that say how a type stores its value: the contracts of
 its methods say what the value is. If an `impl` names proofs of its trait's laws (`specs/Proofs`), the laws count, which the trait states.
 Modules that use one another are listed together, and the page says so. No two of these definitions have the same name.
+
+Four tables stand further up, each behind a comment with its name: README.md's promises with their theorems, the theorems, the definitions
+that name a fault code, and the files of the code's own types that definitions use. The page explains each word of a library and each form
+of notation in these definitions.
 """
 
 import pathlib
 import re
 import sys
+from typing import NamedTuple
 
 sys.path.insert(0, str(pathlib.Path(__file__).resolve().parent.parent / "tools"))
 from crates import crates_of
 from definitions import USE, Definitions, imports, words_of
+from fault_pages import codes
 
 PAGE = "docs/READING.md"
 MARK = "<!-- What follows is made by tests/reading_page.py. -->\n"
-# Each promise, with the crate, the file and the functions or blocks whose contracts make it.
+DECIDED = re.compile(r"^\| `(\w+/specs/[\w/]+)\.antt` \| (.*) \|$", re.MULTILINE)
+MADE = re.compile(r"(<!-- made by tests/reading_page\.py: (\w+) -->\n)(?:\|.*\n)*")
+PROMISE = re.compile(r"^\| (\d) \| (.*) \|$", re.MULTILINE)
+TYPE = re.compile(r"^(?:pub(?:\(crate\))? )?(?:struct|enum|trait|type) (\w+)", re.MULTILINE)
+# lines that are read in an hour, beside the standard
+SLOW, FAST = 60, 100
+
+
+class Contracts(NamedTuple):
+    """Contracts that make a theorem: the crate, the file, and the openings of the functions or blocks."""
+
+    crate: str
+    file: str
+    openings: tuple[str, ...]
+
+
+class Theorem(NamedTuple):
+    """What is promised, by which contracts; and the numbers of README.md's promises that rest on it."""
+
+    letter: str
+    promises: str
+    what: str
+    contracts: tuple[Contracts, ...]
+
+
 THEOREMS = (
-    ("R", "a scalar, and the tree of a file's bytes, or the one fault", (
-        ("al_scalar", "reader.rt", ("pub fn read_scalar",)),
-        ("al_yaml", "document.rt", ("pub fn read_yaml",)),
+    Theorem("W", "2", "what the arguments ask for", (Contracts("al_cli_words", "words.rt", ("pub fn parse_words",)),)),
+    Theorem("D", "4", "the files that a run takes", (Contracts("al_cli", "gathering.rt", ("pub fn load",)),)),
+    Theorem("F", "2 4 6", "the report and status of these files", (
+        Contracts("al_session", "builder.rt", ("pub fn put", "pub fn build")),
+        Contracts("al_cli", "linted.rt", ("pub fn write_report", "pub fn lint_all")),
     )),
-    ("P", "the chunks of a text, the tokens and the tree of an expression, or their fault", (
-        ("al_expr_grammar", "chunk.rt", ("pub fn chunks",)),
-        ("al_expr_grammar", "lexer.rt", ("pub fn lex",)),
-        ("al_expr_grammar", "expression.rt", ("pub fn parse_expr",)),
+    Theorem("S", "2 4 6", "the output and status of a script", (
+        Contracts("al_cli_scripts", "run.rt", ("pub fn run_commands", "pub fn run_session")),
+        Contracts("al_cli_scripts", "scripts.rt", ("pub fn script_laws",)),
     )),
-    ("T", "the type of an expression, and its faults", (("al_expr", "typing.rt", ("pub fn type_of",)),)),
-    ("U", "the faults by the rules of a tree", (("al_rules", "files.rt", ("pub fn rules",)),)),
-    ("L", "what the linter finds in any file, and its laws", (("al_check", "lint.rt", ("impl Lint for Actions",)),)),
-    ("E", "any edits, and then all as from scratch", (
-        ("al_session", "session.rt", (
+    Theorem("L", "2 3", "what the linter finds in any file, and its laws", (
+        Contracts("al_check", "lint.rt", ("impl Lint for Actions",)),
+        Contracts("al_lint", "lint.rt", ("pub trait Lint",)),
+    )),
+    Theorem("E", "2 3 4 5 6", "any edits, and then all as from scratch", (
+        Contracts("al_session", "session.rt", (
             "pub fn put", "pub fn delete", "pub fn missing", "pub fn faults", "pub fn bytes", "pub fn status", "pub fn report",
+            "pub fn sorted_paths", "pub fn edit_laws",
         )),
-        ("al_session", "changes.rt", ("pub fn apply_changes",)),
+        Contracts("al_session", "changes.rt", ("pub fn apply_changes",)),
     )),
-    ("W", "the words of the command line", (("al_cli_words", "words.rt", ("pub fn parse_words",)),)),
-    ("S", "the output of a script", (("al_cli_scripts", "run.rt", ("pub fn run_session", "pub fn run_commands")),)),
-    ("F", "the report and status of a folder", (("al_cli", "linted.rt", ("pub fn lint_all",)),)),
+    Theorem("M", "2", "laws: that definitions mean what they should", (
+        Contracts("al_expr_grammar", "law.rt", ("pub fn grammar",)),
+        Contracts("al_types", "law.rt", ("pub fn objects_fuse", "pub fn types_fuse")),
+        Contracts("al_graph", "laws.rt", ("pub fn walk_laws",)),
+    )),
+    Theorem("R", "", "library: a scalar, and the tree of a file's bytes, or the one fault", (
+        Contracts("al_scalar", "reader.rt", ("pub fn read_scalar",)),
+        Contracts("al_yaml", "document.rt", ("pub fn read_yaml",)),
+    )),
+    Theorem("P", "", "library: the chunks of a text, the tokens and the tree of an expression, or their fault", (
+        Contracts("al_expr_grammar", "chunk.rt", ("pub fn chunks",)),
+        Contracts("al_expr_grammar", "lexer.rt", ("pub fn lex",)),
+        Contracts("al_expr_grammar", "expression.rt", ("pub fn parse_expr",)),
+    )),
+    Theorem("T", "", "library: the type of an expression, and its faults", (Contracts("al_expr", "typing.rt", ("pub fn type_of",)),)),
+    Theorem("U", "", "library: the faults by the rules of a tree", (Contracts("al_rules", "files.rt", ("pub fn rules",)),)),
 )
 # the only name that two of the definitions share: what follows reading, with the remaining lines and with the known anchors
 SHARED = {"◌>>=◌"}
-# the trait whose laws a theorem's `impl` proves: its crate, its file, and its opening
-LAWS = {"L": ("al_lint", "lint.rt", ("pub trait Lint",))}
+# how the tree of an expression is computed needn't be read: a law, of the theorem M, says which tree it is
+BY_LAW = "al_expr_grammar.specs.Building"
+# what stands between reading and checking a file: whatever it means, the theorems are the same
+UNSEEN = re.compile(r"^ *ghost is_unit = \{.*?\};\n", re.MULTILINE | re.DOTALL)
+# the numbers and the messages of all codes
+NAME_ALL = ("al_base.specs.Codes", "al_text.specs.Wordings")
+# words that the language of definitions reserves or has built in, and names that the compiler makes for parts of the code's types
+RESERVED = set("data record deriving module where use mod pub package open as unfoldable abbrev axiom unfold unfolding ruleset mutual infix "
+               "infixl infixr elim let in do Type coe fcoe tcoe hcom com Unit tt".split())
+GENERATED = re.compile(r"[\w']+(?:-[\w']+)+")
+VALUE = re.compile(r"\.(?:now|old|new|entry|exit|items)\b")
+SYMBOL = re.compile(r"[^\s\w(){}\[\],;.\"']+")
+HEADER = re.compile(r"^ *(?:(?:pub )?mutual|module .*|infix[lr]? .*)$")
 
 
 def contract(source, opening):
     """The text of a contract: from its first words to the line that opens the body, or a whole `impl` or `trait`."""
     match = re.search(rf"^( *){re.escape(opening)}\b", source, re.MULTILINE)
     end = re.compile(rf"^{match[1]}\}}" if opening.startswith(("impl", "pub trait")) else rf"^{match[1]}\{{", re.MULTILINE)
-    return source[match.start():end.search(source, match.end()).start()]
+    return UNSEEN.sub("", source[match.start():end.search(source, match.end()).start()])
 
 
-def roots_of(top, definitions, crate, file, openings):
+def roots_of(top, definitions, contracts):
     """The definitions that the contracts name, and the parts of the crate's re-exported types that clauses can see: their values, but not
     their invariants."""
-    handed_on = words_of((top / "crates" / crate / "src" / "lib.rt").read_text())
-    source = (top / "crates" / crate / "src" / file).read_text()
-    words = set().union(*(words_of(contract(source, it)) for it in openings))
+    handed_on = words_of((top / "crates" / contracts.crate / "src" / "lib.rt").read_text())
+    source = (top / "crates" / contracts.crate / "src" / contracts.file).read_text()
+    words = set().union(*(words_of(contract(source, it)) for it in contracts.openings))
     yield from definitions.named(words, *imports(source.splitlines()))
-    for path in sorted((top / "crates" / crate / "src").rglob("*.rt")):
+    for path in sorted((top / "crates" / contracts.crate / "src").rglob("*.rt")):
         text = path.read_text()
         for match in re.finditer(r"^impl.* Model for (\w+).*?^\}", text, re.MULTILINE | re.DOTALL):
             if match[1] not in handed_on:
@@ -97,39 +154,93 @@ def in_order(modules, below):
 
 
 class Page:
-    """What follows the introduction: the theorems, and the modules that they depend on, crate by crate."""
+    """What the page has from the sources: the theorems, and what they depend on."""
 
     def __init__(self, top):
         self.top, self.definitions = top, Definitions(top)
-        self.found = {letter: self.rests_on(letter, contracts) for letter, _, contracts in THEOREMS}
+        self.found = {it.letter: self.rests_on(it) for it in THEOREMS}
         self.items = {}
         for found in self.found.values():
             for module, item in found:
                 self.items.setdefault(module, set()).add(item)
         self.below = {it: self.modules_below(it) for it in self.items}
 
-    def rests_on(self, letter, contracts):
-        roots = [it for one in contracts for it in roots_of(self.top, self.definitions, *one)]
-        if letter in LAWS:
-            roots += roots_of(self.top, self.definitions, *LAWS[letter])
-        found = self.definitions.below(roots)
+    def rests_on(self, theorem):
+        """The definitions that a theorem rests on, without those that a law stands for."""
+        roots = [it for one in theorem.contracts for it in roots_of(self.top, self.definitions, one)]
+        found, waiting = set(), [(module, it) for module, name in roots for it in module.items_of(name)]
+        while waiting:
+            one = waiting.pop()
+            if one not in found and one[0].name != BY_LAW:
+                found.add(one)
+                waiting += self.definitions.used_by(*one)
         if private := sorted({module.name for module, _ in found if ".Private." in module.name}):
-            sys.exit(f"the theorem {letter} rests on words of private contracts: {', '.join(private)}")
+            sys.exit(f"the theorem {theorem.letter} rests on words of private contracts: {', '.join(private)}")
         return found
 
     def modules_below(self, module):
         """The modules that the needed parts of a module use, in the order of its `use` lines."""
         used = {other for item in self.items[module] for other, _ in self.definitions.used_by(module, item)} - {module}
-        return sorted(used, key=lambda it: it.name)
+        return sorted((it for it in used if it in self.items), key=lambda it: it.name)
+
+    def promises(self):
+        """README.md's promises, with the theorems that each rests on."""
+        readme = (self.top / "README.md").read_text(encoding="utf-8").partition("## What it promises")[2].partition("\n## ")[0]
+        yield "| | Promise | Theorems |"
+        yield "|---|---|---|"
+        for number, promise in PROMISE.findall(readme):
+            letters = " ".join(it.letter for it in THEOREMS if number in it.promises.split())
+            yield f"| {number} | {promise} | {letters or 'the contract of each function'} |"
 
     def theorems(self):
-        yield "| | Promise | Contracts | Definitions | Their lines | Modules |"
+        yield "| | Theorem | Contracts | Definitions | Their lines | Modules |"
         yield "|---|---|---|--:|--:|--:|"
-        for letter, what, contracts in THEOREMS:
-            found = self.found[letter]
-            lines = sum(module.size([item]) for module, item in found)
+        for theorem in THEOREMS:
+            found = self.found[theorem.letter]
             modules = len({module for module, _ in found})
-            yield f"| {letter} | {what} | {'; '.join(map(place, contracts))} | {len(found)} | {lines:,} | {modules} |"
+            places = "; ".join(map(place, theorem.contracts))
+            yield f"| {theorem.letter} | {theorem.what} | {places} | {len(found)} | {lines_of(found):,} | {modules} |"
+        every = set().union(*self.found.values())
+        yield (f"| | all of these | | {len(every)} | {lines_of(every):,} | {len(self.items)} |")
+
+    def faults(self):
+        """The definitions of the program's theorems that name a fault code, file by file."""
+        known = {variant: name for name, variant in codes(self.top)}
+        needed = set().union(*(self.found[it.letter] for it in THEOREMS if it.promises))
+        yield "| File | Faults and definitions |"
+        yield "|---|---|"
+        for module in (it for it in dict.fromkeys(self.definitions.modules.values()) if it.name not in NAME_ALL):
+            named = {}
+            for item in (it for it in module.items if (module, it) in needed):
+                if found := tuple(sorted({known[it] for it in self.variants(module, item)}, key=in_page_order)):
+                    named.setdefault(found, []).append(item)
+            if named:
+                cells = (f"{', '.join(found)} {', '.join(f'`{it}`' for it in items)}" for found, items in named.items())
+                yield f"| `{module.name.replace('.', '/')}.antt` | {'; '.join(cells)} |"
+
+    def variants(self, module, item):
+        """The variants of fault codes that a definition names."""
+        for word in self.definitions.words(module, item):
+            alias, _, name = word.rpartition(".")
+            way = module.aliases.get(alias) if alias else module.imports.get(name)
+            if name and re.search(r"\.declared\.codes\.\w+Code\.TheVariants$", way or ""):
+                yield name
+
+    def types(self):
+        """The types of the code that the definitions use, by the file that declares them."""
+        files = {}
+        for module, items in self.items.items():
+            words = set().union(*(self.definitions.words(module, it) for it in items))
+            ways = [way for name, way in module.imports.items() if name in words]
+            ways += [way for alias, way in module.aliases.items() if any(it.startswith(f"{alias}.") for it in words)]
+            for crate, below in (way.split(".specs.declared.") for way in ways if ".specs.declared." in way):
+                *folders, name = [it for it in below.split(".") if not it.startswith("The")]
+                file = self.top / "crates" / crate / "src" / "/".join(folders)
+                if (file := file.with_suffix(".rt")).exists() and name in TYPE.findall(file.read_text(encoding="utf-8")):
+                    files.setdefault(f"{crate}/src/{'/'.join(folders)}.rt", set()).add(name)
+        yield "| File | Types |"
+        yield "|---|---|"
+        yield from (f"| `{file}` | {', '.join(f'`{it}`' for it in sorted(names))} |" for file, names in sorted(files.items()))
 
     def crate(self, crate):
         """The table of a crate's modules, each after those it uses."""
@@ -166,10 +277,29 @@ class Page:
                 if way.partition(".")[0] not in own and ".declared." not in way and parts and all(it in words for it in parts):
                     yield from parts
 
+    def notation(self):
+        """The reserved words, the symbols and the names made by the compiler in the definitions, and in the lines that open a group of them."""
+        for module, items in self.items.items():
+            lines = [line for it in items for line in module.items[it].lines] + [it for it in module.lines if HEADER.match(it)]
+            for line in lines:
+                code = re.sub(r'"(?:\\.|[^"\\])*"', "", line.partition("--")[0])
+                yield from RESERVED & set(re.findall(r"\w+", code))
+                yield from SYMBOL.findall(code.replace("◌", " "))
+                yield from VALUE.findall(code)
+            yield from (it for it in module.imports if GENERATED.fullmatch(it) and any(it in line for line in lines))
+
     def tables(self):
-        yield from self.theorems()
-        for crate in crates_of(self.top):
-            yield from self.crate(crate)
+        """The tables that stand behind a comment with their name."""
+        return {it.__name__: "".join(f"{row}\n" for row in it()) for it in (self.promises, self.theorems, self.faults, self.types)}
+
+
+def in_page_order(code):
+    return "YKGXC".index(code[0]), int(code[1:])
+
+
+def lines_of(found):
+    """The number of lines of some definitions."""
+    return sum(module.size([item]) for module, item in found)
 
 
 def short(module):
@@ -178,27 +308,55 @@ def short(module):
 
 
 def place(contracts):
-    crate, file, openings = contracts
-    names = ", ".join(f"`{it.rpartition(' ')[2] if it.startswith('pub') else it}`" for it in openings)
-    return f"{names} (`{crate}/src/{file}`)"
+    names = ", ".join(f"`{it.rpartition(' ')[2] if it.startswith('pub') else it}`" for it in contracts.openings)
+    return f"{names} (`{contracts.crate}/src/{contracts.file}`)"
+
+
+def hours(lines):
+    """How long it takes to read so many lines."""
+    return f"{lines // FAST} to {lines // SLOW} hours"
+
+
+def unexplained(head, found):
+    """The words and forms that the page uses and doesn't explain."""
+    notation = head.partition("## The notation")[2].partition("## Which definitions")[0].replace("\\|", "|")
+    explained = set(re.split(r"[\s◌,]+", " ".join(re.findall(r"`([^`]+)`", notation))))
+    if missing := sorted(set(found.library_words()) - explained):
+        yield f"{PAGE} doesn't say what these words of libraries mean: {' '.join(missing)}"
+    if missing := sorted(set(found.notation()) - explained):
+        yield f"{PAGE} doesn't say what this notation means: {' '.join(missing)}"
+    for letters, lines in (("all", set().union(*found.found.values())), ("F", found.found["F"])):
+        if hours(lines_of(lines)) not in head:
+            yield f"{PAGE} doesn't say that {letters} takes {hours(lines_of(lines))}"
+
+
+def unneeded(head, found):
+    """The definitions that the page says decide a fault, and on which no theorem rests."""
+    needed = {(module.name, item) for module, items in found.items.items() for item in items}
+    for file, row in DECIDED.findall(head):
+        for name in re.findall(r"`(\w+)`", row):
+            if (file.replace("/", "."), name) not in needed:
+                yield f"{PAGE} names {name} of {file}, which no theorem needs"
 
 
 def main(folder, option=None):
     top = pathlib.Path(folder)
     page = top / PAGE
-    text = page.read_text()
+    text = page.read_text(encoding="utf-8")
     head, mark, _ = text.partition(MARK)
-    made_of = Page(top)
-    if shared := sorted(made_of.shared_names()):
+    found = Page(top)
+    if shared := sorted(found.shared_names()):
         sys.exit(f"these names stand for two definitions: {' '.join(shared)}")
-    notation = head.partition("## The notation")[2].replace("\\|", "|")
-    explained = set(re.split(r"[\s◌,]+", " ".join(re.findall(r"`([^`]+)`", notation))))
-    if missing := sorted(set(made_of.library_words()) - explained):
-        sys.exit(f"{PAGE} doesn't say what these words of libraries mean: {' '.join(missing)}")
-    made = head + mark + "\n" + "\n".join(made_of.tables()) + "\n"
+    tables = found.tables()
+    if missing := tables.keys() - {it[2] for it in MADE.finditer(head)}:
+        sys.exit(f"{PAGE} has no place for these tables: {' '.join(sorted(missing))}")
+    made = MADE.sub(lambda it: it[1] + tables[it[2]], head) + mark
+    made += "\n".join(line for crate in crates_of(top) for line in found.crate(crate)) + "\n"
     if option == "--write":
-        page.write_text(made)
-    elif made != text:
+        page.write_text(made, encoding="utf-8")
+    if wrong := [*unexplained(head, found), *unneeded(head, found)]:
+        sys.exit("\n".join(wrong))
+    if option != "--write" and made != text:
         sys.exit(f"{PAGE} isn't what the sources give: python3 tests/reading_page.py . --write renews it")
 
 

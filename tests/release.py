@@ -15,7 +15,7 @@ import sys
 import tarfile
 import textwrap
 
-from copying import TOP, carry, commit, copy_files
+from copying import AS, TOP, carry, commit, copy_files
 from links import broken_links
 from running import CLEAN, NOBODY, WORKFLOWS, run_in_room, show
 
@@ -32,7 +32,7 @@ def failed(ran, status=0):
 
 def clone(folder, program=None):
     """A repository with the files of this tree in one commit, which is always the same; with the sources too if it carries a program."""
-    copy_files(folder, re.compile(rf"(docs|clients|tools{'|crates|prebuilt' * bool(program)})/|[^/]*$").match)
+    copy_files(folder, re.compile(rf"(docs|clients|LICENSES|tools{'|crates|prebuilt' * bool(program)})/|[^/]*$").match)
     if program:
         carry(folder, program)
     commit(folder)
@@ -58,7 +58,8 @@ def contents(archive):
     wrong += [] if len({it.mtime for it in members}) == 1 else ["times differ"]
     wrong += [] if [it.split("/") for it in names] == sorted(it.split("/") for it in names) else ["names are not in order"]
     base = names[0] if names else ""
-    needed = ["bin/actionlint", "share/actionlint/LICENSE", "share/actionlint/README.md", "share/actionlint/docs/FAULTS.md"]
+    needed = ["bin/actionlint", "share/actionlint/LICENSE", "share/actionlint/LICENSES/clap.txt", "share/actionlint/README.md",
+              "share/actionlint/docs/FAULTS.md"]
     needed += ["share/actionlint/clients/actionlint-lsp"] if (TOP / "clients/actionlint-lsp").exists() else []
     return wrong + [f"{it} is missing" for it in needed if f"{base}/{it}" not in names]
 
@@ -196,6 +197,18 @@ def reading_alone(folder, room):
     return wrong
 
 
+def undated(folder, program):
+    """What differs if ./release should refuse a version whose heading in CHANGELOG.md has no date."""
+    log = folder / "CHANGELOG.md"
+    version = (folder / "VERSION").read_text(encoding="utf-8").strip()
+    log.write_text(re.sub(r"(?m)^(## [0-9.]+), .*$", r"\1", log.read_text(encoding="utf-8")), encoding="utf-8")
+    run(["git", "-C", folder, *AS, "commit", "-qam", "no date"]).check_returncode()
+    ran = run([folder / "release", "--program", program, "--to", folder / "made"])
+    wrong = failed(ran, 1) + (["something was made"] if (folder / "made").exists() else [])
+    said = f"release: CHANGELOG.md has no heading with {version} and its date\n"
+    return wrong + ([] if ran.stderr.decode() == said else [show(ran.stderr)])
+
+
 def refused(folder, arguments, said):
     """What differs if ./release should refuse these arguments with status 2 and a line that says this before the usage."""
     ran = run([folder / "release", *arguments])
@@ -242,6 +255,7 @@ def cases(program, room):
     yield "clone-of-another-user", of_another(first, room)
     yield "clone-that-is-read-alone", reading_alone(clone(room / "c", program), room)
     yield "steps-of-the-page", steps_of_the_page(archive, room)
+    yield "version-without-a-date", undated(clone(room / "d"), program)
     yield "wrong-words", words(first, program, room)
 
 
