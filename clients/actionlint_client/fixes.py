@@ -78,9 +78,10 @@ def fixes(words: list[str], timeout: float, project: Project, faults: Iterable[F
 
 
 def _to_show(found: list[Repair]) -> list[Repair]:
-    """The first repair with each title. Last resorts only if there are no others."""
+    """The first repair with each title: safe ones, guesses, and guesses that delete something. Last resorts only if there are no others."""
     better = [repair for repair in found if not repair.is_last_resort]
-    by_title = {repair.title: repair for repair in reversed(better or found)}
+    in_order = sorted(better or found, key=lambda repair: (not repair.is_safe, repair.deletes))
+    by_title = {repair.title: repair for repair in reversed(in_order)}
     return list(by_title.values())[::-1][:MAX_SHOWN]
 
 

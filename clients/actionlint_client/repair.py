@@ -31,12 +31,16 @@ class Edit(NamedTuple):
 
 @dataclass(frozen=True)
 class Repair:
-    """What can be done about a fault: edits by file, and new files. A last resort is offered only if nothing else repairs the fault."""
+    """What can be done about a fault: edits by file, and new files. A safe one means what was written, or is the only reading that the fault
+    leaves; any other is a guess. One that deletes something comes after all others. A last resort is offered only if nothing else repairs
+    the fault."""
 
     title: str
     edits: dict[str, tuple[Edit, ...]]
     new_files: dict[str, str] = field(default_factory=dict)
     is_last_resort: bool = False
+    is_safe: bool = False
+    deletes: bool = False
 
 
 class Found(NamedTuple):
