@@ -48,11 +48,12 @@ def repairs(project: Project, fault: Fault) -> list[Repair]:
     return list({repr((one.edits, one.new_files)): one for one in reversed(found)}.values())[::-1][:MAX_TRIED]
 
 
-def fixes(words: list[str], timeout: float, project: Project, faults: Iterable[Fault], earlier: Iterable[Fault] = ()) -> list[Fix]:
+def fixes(words: list[str], timeout: float, project: Project, faults: Iterable[Fault], earlier: Iterable[Fault] = (),
+          seconds: float = MAX_SECONDS) -> list[Fix]:
     """For the first 20 faults, the repairs after which the linter no longer reports the fault, and none that it didn't report before, as
-    many as can be tried in a second, and at least one. `words` start the linter. While a file isn't valid YAML, `earlier` are the faults
-    that it had when it last was; these may come back."""
-    deadline = time.monotonic() + MAX_SECONDS
+    many as can be tried in some seconds, and at least one. `words` start the linter. While a file isn't valid YAML, `earlier` are the
+    faults that it had when it last was; these may come back."""
+    deadline = time.monotonic() + seconds
     mended: list[Fix] = []
     trial = None
     try:
