@@ -8,13 +8,14 @@ from __future__ import annotations
 import argparse
 import os
 import sys
-from typing import BinaryIO
+from typing import BinaryIO, Iterable
 
 from . import library, shellcheck
+from .advice import FirstFixes
 from .characters import terminal_text
 from .console import add_help_and_version
 from .entries import entries, explained
-from .forms import Annotations, CodeQuality, Form, JsonLines, Outcome
+from .forms import Annotations, CodeQuality, Form, JsonLines, OneLine, Outcome
 from .ignoring import Ignored, WrongRule, rules_in
 from .lint_run import CANNOT_GO_ON, CannotStart, LintRun, ReportTooLong
 from .output import STANDARD_OUTPUT, report_output
@@ -26,8 +27,10 @@ from .sarif import Sarif, left_out_line
 from .terminal import Text, has_color
 
 WRONG_WORDS = 2
+# What scripts and trees of files are read with.
+LIBRARY = "yaml.cyaml"
 FORMS: dict[str, type[Form]] = {
-    "sarif": Sarif, "codequality": CodeQuality, "jsonl": JsonLines, "github": Annotations, "text": Text}
+    "sarif": Sarif, "codequality": CodeQuality, "jsonl": JsonLines, "github": Annotations, "oneline": OneLine, "text": Text}
 
 
 class NoReport(Exception):
@@ -39,8 +42,11 @@ def main(words: list[str] | None = None) -> int:
     try:
         if options.explain is not None:
             return explain(options.explain)
-        if options.shellcheck and (said := library.missing(["yaml.cyaml"])):
-            return _fail(said)
+        lacks = library.missing([LIBRARY]) if options.shellcheck or FORMS[options.form].shows_fixes else ""
+        if options.shellcheck and lacks:
+            return _fail(lacks)
+        # Without the library a report has no fixes.
+        options.shows_fixes = FORMS[options.form].shows_fixes and not lacks
         ignored = Ignored([*map(path_of_word, options.ignore), *(rule for file in options.ignore_file for rule in rules_in(file))])
         with report_output(options.out) as out:
             form, outcome = _report(options, ignored, out)
@@ -85,8 +91,7 @@ def _write(options: argparse.Namespace, ignored: Ignored, out: BinaryIO, snippet
     form.begin()
     unread: set[str] = set()
     with LintRun(options.program, options.root, options.files, snippets) as run:
-        for reported in run:
-            problem = problem_of(reported.fault, reported.snippet)
+        for problem in _problems(options, run):
             if problem.code.startswith("Y"):
                 unread.add(problem.fault.path)
             _tell(problem, form, ignored, outcome)
@@ -99,6 +104,12 @@ def _write(options: argparse.Namespace, ignored: Ignored, out: BinaryIO, snippet
         outcome.status = 1 if outcome.files else 0
     form.end(outcome)
     return form, outcome
+
+
+def _problems(options: argparse.Namespace, run: LintRun) -> Iterable[Problem]:
+    """The faults of a run, with fixes if they are to be shown."""
+    problems = (problem_of(reported.fault, reported.snippet) for reported in run)
+    return FirstFixes(options.program, options.root).add_to(problems) if options.shows_fixes else problems
 
 
 def _tell(problem: Problem, form: Form, ignored: Ignored, outcome: Outcome) -> None:

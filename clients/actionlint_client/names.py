@@ -7,8 +7,6 @@ from functools import lru_cache
 from pathlib import Path
 from typing import Iterable
 
-from .entries import argument_of, entry_of
-
 TABLE = Path(__file__).parent / "names.json"
 # Three fifths aren't enough: `main` would be like `matrix`.
 LEAST_LIKENESS = 0.61
@@ -30,11 +28,3 @@ def near(wrong: str, known: Iterable[str], count: int = 3, likeness: float = LEA
         return []
     plain = {name.lower().replace("_", "-"): name for name in known if name != wrong}
     return [plain[name] for name in difflib.get_close_matches(wrong.lower().replace("_", "-"), plain, count, likeness)]
-
-
-def near_name(message: str) -> str | None:
-    """The name most similar to the one in the message; None if it isn't about a known list, or no name is similar."""
-    entry, wrong = entry_of(message), argument_of(message)
-    if entry is None or entry.code not in LISTS or wrong is None:
-        return None
-    return next(iter(near(wrong, names()[LISTS[entry.code]], 1)), None)
