@@ -8,7 +8,7 @@ from __future__ import annotations
 import argparse
 import os
 import sys
-from typing import BinaryIO, Iterable
+from typing import TYPE_CHECKING, BinaryIO, Iterable
 
 from . import library, shellcheck
 from .advice import FirstFixes
@@ -26,6 +26,9 @@ from .report import BadReport
 from .sarif import Sarif, left_out_line
 from .terminal import Text, has_color
 
+if TYPE_CHECKING:
+    from .applying import Request
+
 WRONG_WORDS = 2
 # What scripts and trees of files are read with.
 LIBRARY = "yaml.cyaml"
@@ -42,12 +45,16 @@ def main(words: list[str] | None = None) -> int:
     try:
         if options.explain is not None:
             return explain(options.explain)
-        lacks = library.missing([LIBRARY]) if options.shellcheck or FORMS[options.form].shows_fixes else ""
-        if options.shellcheck and lacks:
+        is_needed = options.shellcheck or options.diff or options.fix
+        lacks = library.missing([LIBRARY]) if is_needed or FORMS[options.form].shows_fixes else ""
+        if is_needed and lacks:
             return _fail(lacks)
         # Without the library a report has no fixes.
         options.shows_fixes = FORMS[options.form].shows_fixes and not lacks
         ignored = Ignored([*map(path_of_word, options.ignore), *(rule for file in options.ignore_file for rule in rules_in(file))])
+        if options.diff:
+            return _diff(options, ignored)
+        fixed_all = not options.fix or _fix(options, ignored)
         with report_output(options.out) as out:
             form, outcome = _report(options, ignored, out)
             if not (outcome.is_known() or form.tells_failure):
@@ -63,7 +70,39 @@ def main(words: list[str] | None = None) -> int:
     except OSError as error:
         return _fail(f"cannot write {options.out or 'standard output'}: {error.strerror}")
     _say(form, outcome)
-    return outcome.status
+    return outcome.status if fixed_all else CANNOT_GO_ON
+
+
+def _request(options: argparse.Namespace, ignored: Ignored) -> Request:
+    from .applying import Request
+
+    return Request(options.program, options.root, options.files, ignored, options.guesses)
+
+
+def _diff(options: argparse.Namespace, ignored: Ignored) -> int:
+    """Writes what the fixes would change. The status is that of the files as they are."""
+    from .applying import find_changes, write_diff
+
+    found = find_changes(_request(options, ignored), _print)
+    sys.stderr.write("".join(terminal_text(line) + "\n" for line in found.errors.splitlines()))
+    if found.status in (0, 1):
+        with report_output(options.out) as out:
+            write_diff(found, out, options.out is None and os.isatty(STANDARD_OUTPUT))
+        return 1 if found.faults else 0
+    return found.status
+
+
+def _fix(options: argparse.Namespace, ignored: Ignored) -> bool:
+    """Writes what the fixes change. Whether all of it could be written. (The report says if the linter can't go on.)"""
+    from .applying import find_changes, write_files
+
+    found = find_changes(_request(options, ignored), _print)
+    write_files(found, options.root, _print)
+    return not found.not_written
+
+
+def _print(line: str) -> None:
+    print(f"actionlint-report: {terminal_text(line)}", file=sys.stderr)
 
 
 def explain(code: str) -> int:
@@ -152,6 +191,10 @@ def _options(words: list[str]) -> argparse.Namespace:
     parser.add_argument("--ignore-file", metavar="FILE", action="append", default=[],
                         help="a file with a CODE[:PATH] on each line; may be repeated")
     parser.add_argument("--shellcheck", action="store_true", help="also show shellcheck's notes on scripts")
+    change = parser.add_mutually_exclusive_group()
+    change.add_argument("--diff", action="store_true", help="print what the safe fixes would change, as a patch, in place of a report")
+    change.add_argument("--fix", action="store_true", help="write what the safe fixes change, and report what is left")
+    parser.add_argument("--guesses", action="store_true", help="with --diff or --fix, take the first guess where no fix is safe")
     parser.add_argument("--explain", metavar="CODE", help="explain a fault, and lint nothing")
     parser.add_argument("files", nargs="*", metavar="FILE",
                         help="workflows and actions below DIR (default: all workflows, and what they call)")
@@ -160,6 +203,8 @@ def _options(words: list[str]) -> argparse.Namespace:
     options.files += words[end + 1:]
     if options.out == "":
         parser.error("argument --out: it names no file")
+    if options.guesses and not (options.diff or options.fix):
+        parser.error("argument --guesses: it needs --diff or --fix")
     options.program = find_program(options.program)
     options.docs = options.docs and options.docs.rstrip("/")
     return options
