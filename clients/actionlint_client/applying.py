@@ -10,7 +10,6 @@ from .fixing import Change, Choice, Fixing
 from .folder import Program
 from .ignoring import Ignored
 from .lint_run import LintRun
-from .problems import problem_of
 from .report import Fault
 from .rewriting import NotWritten, rewrite
 from .unified_diff import unified_diff
@@ -47,10 +46,10 @@ def find_changes(request: Request, say: Callable[[str], None]) -> Applied:
     with LintRun(request.program, request.root, request.files, False) as run:
         for reported in run:
             paths.add(reported.fault.path)
-            count += not request.ignored.has(problem_of(reported.fault))
+            count += not request.ignored.has_fault(reported.fault)
     found = Applied(run.status, run.errors, count, {})
     if found.faults and run.status == 1:
-        takes: Callable[[Fault], bool] = lambda fault: fault.path in paths and not request.ignored.has(problem_of(fault))
+        takes: Callable[[Fault], bool] = lambda fault: fault.path in paths and not request.ignored.has_fault(fault)
         fixing = Fixing(Program([request.program], SECONDS_OF_AN_ANSWER), os.fsencode(request.root or "."),
                         Choice(takes, request.with_guesses), say)
         found.changes = fixing.changes(sorted(paths))

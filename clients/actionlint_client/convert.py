@@ -16,7 +16,7 @@ from .characters import terminal_text
 from .console import add_help_and_version
 from .entries import entries, explained
 from .forms import Annotations, CodeQuality, Form, JsonLines, OneLine, Outcome
-from .ignoring import Ignored, WrongRule, rules_in
+from .ignoring import Ignored, Rule, WrongRule, is_note, rules_in
 from .lint_run import CANNOT_GO_ON, CannotStart, LintRun, ReportTooLong
 from .output import STANDARD_OUTPUT, report_output
 from .paths import path_of_word
@@ -141,6 +141,7 @@ def _write(options: argparse.Namespace, ignored: Ignored, out: BinaryIO, snippet
             _tell(note, form, ignored, outcome)
     if outcome.is_known():
         outcome.status = 1 if outcome.files else 0
+        outcome.warnings += [f"{rule} ignores nothing" for rule in ignored.unused() if _could_be_used(rule, options)]
     form.end(outcome)
     return form, outcome
 
@@ -159,6 +160,13 @@ def _tell(problem: Problem, form: Form, ignored: Ignored, outcome: Outcome) -> N
         form.add(problem)
 
 
+def _could_be_used(rule: Rule, options: argparse.Namespace) -> bool:
+    """Whether a rule would have ignored something if there was anything that it is about."""
+    if is_note(rule.code) and not options.shellcheck:
+        return False
+    return not options.files or rule.path in map(path_of_word, options.files)
+
+
 def _form(options: argparse.Namespace, out: BinaryIO) -> Form:
     if options.form != "text":
         return FORMS[options.form](out, options.docs)
@@ -169,6 +177,8 @@ def _say(form: Form, outcome: Outcome) -> None:
     """Prints to standard error what the report doesn't say."""
     if not form.tells_errors:
         sys.stderr.write("".join(terminal_text(line) + "\n" for line in outcome.errors.splitlines()))
+        for warning in outcome.warnings:
+            _print(warning)
     if form.left_out:
         print(f"actionlint-report: {left_out_line(form.left_out)}", file=sys.stderr)
     if outcome.ignored and not form.tells_count:

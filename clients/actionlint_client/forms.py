@@ -13,11 +13,12 @@ from .problems import Problem
 
 @dataclass
 class Outcome:
-    """The result of a run: its status, what was printed on standard error, and how many faults and notes of shellcheck were reported, in
-    which files, and ignored."""
+    """The result of a run: its status, what was printed on standard error, what the user should know beside it, and how many faults and
+    notes of shellcheck were reported, in which files, and ignored."""
 
     status: int = 0
     errors: str = ""
+    warnings: list[str] = field(default_factory=list)
     faults: int = 0
     notes: int = 0
     ignored: int = 0
@@ -51,7 +52,7 @@ class Outcome:
 class Form:
     """Writes problems as they come. `docs` is the address of the pages of faults."""
 
-    # Whether the report has fixes, what was on standard error, the count, and the fact that the linter could not go on.
+    # Whether the report has fixes, what was on standard error and the warnings, the count, and the fact that the linter could not go on.
     shows_fixes = True
     tells_errors = False
     tells_count = False
@@ -143,6 +144,8 @@ class Annotations(Form):
     def end(self, outcome: Outcome) -> None:
         for line in outcome.errors.splitlines():
             self._command("error", {"title": "actionlint"}, line)
+        for warning in outcome.warnings:
+            self._command("warning", {"title": "actionlint"}, warning)
         self.write(outcome.count_line() + "\n")
 
     def _command(self, name: str, properties: dict[str, object], text: str) -> None:

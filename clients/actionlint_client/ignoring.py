@@ -2,10 +2,11 @@
 from __future__ import annotations
 
 import re
-from typing import Iterable
+from typing import Iterable, NamedTuple
 
 from .entries import entries
-from .problems import Problem
+from .problems import Problem, problem_of
+from .report import Fault
 
 NOTE = re.compile(r"SC\d{4}")
 MAX_FILE_BYTES = 1_048_576
@@ -15,27 +16,55 @@ class WrongRule(Exception):
     """A rule without a valid code or path, or a file of rules that can't be read."""
 
 
+class Rule(NamedTuple):
+    """A code, and the path of the only file in which its faults are ignored, or nothing for all files."""
+
+    code: str
+    path: str
+
+    def __str__(self) -> str:
+        return f"{self.code}:{self.path}" if self.path else self.code
+
+
 class Ignored:
     """Rules CODE and CODE:PATH. The code is in any case; the path is written as in a report."""
 
     def __init__(self, rules: Iterable[str]):
-        self._rules = set()
-        for rule in rules:
-            named, colon, path = rule.partition(":")
-            code = named.upper()
-            if not is_code(code):
-                raise WrongRule(f"{named!r} is not a fault code")
-            if colon and not path:
-                raise WrongRule(f"{rule!r} names no file")
-            self._rules.add((code, path))
+        self._rules = dict.fromkeys(map(_rule, rules))
+        self._used: set[Rule] = set()
 
     def has(self, problem: Problem) -> bool:
-        return (problem.code, "") in self._rules or (problem.code, problem.fault.path) in self._rules
+        """Whether a rule ignores the problem. The rules that do are no longer unused."""
+        found = {Rule(problem.code, ""), Rule(problem.code, problem.fault.path)} & self._rules.keys()
+        self._used |= found
+        return bool(found)
+
+    def has_fault(self, fault: Fault) -> bool:
+        return bool(self._rules) and self.has(problem_of(fault))
+
+    def unused(self) -> list[Rule]:
+        """The rules that have ignored nothing so far."""
+        return [rule for rule in self._rules if rule not in self._used]
+
+
+def _rule(text: str) -> Rule:
+    named, colon, path = text.partition(":")
+    code = named.upper()
+    if not is_code(code):
+        raise WrongRule(f"{named!r} is not a fault code")
+    if colon and not path:
+        raise WrongRule(f"{text!r} names no file")
+    return Rule(code, path)
+
+
+def is_note(code: str) -> bool:
+    """Whether it is the code of a note of shellcheck."""
+    return NOTE.fullmatch(code) is not None
 
 
 def is_code(text: str) -> bool:
     """Whether a text is the code of an entry or of a note of shellcheck."""
-    return NOTE.fullmatch(text) is not None or any(entry.code == text for entry in entries())
+    return is_note(text) or any(entry.code == text for entry in entries())
 
 
 def rules_in(file: str) -> list[str]:

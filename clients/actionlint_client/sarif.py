@@ -43,8 +43,8 @@ class Sarif(Form):
     def end(self, outcome: Outcome) -> None:
         invocation: dict[str, object] = {"executionSuccessful": outcome.is_known(), "exitCode": outcome.status}
         notifications = [{"level": "error", "message": _message(outcome.errors.strip())}] if outcome.errors else []
-        if self.left_out:
-            notifications.append({"level": "warning", "message": _message(left_out_line(self.left_out))})
+        warnings = outcome.warnings + ([left_out_line(self.left_out)] if self.left_out else [])
+        notifications += [{"level": "warning", "message": _message(warning)} for warning in warnings]
         if notifications:
             invocation["toolExecutionNotifications"] = notifications
         driver: dict[str, object] = {"name": "actionlint", "rules": list(self._rules.values())}
