@@ -1,10 +1,12 @@
 """Ignored faults: by code, in all files or in one."""
 from __future__ import annotations
 
+import os
 import re
-from typing import Iterable, NamedTuple
+from typing import Callable, Iterable, NamedTuple
 
 from .entries import entries
+from .faults import NO_FAULTS, FileFaults
 from .problems import Problem, problem_of
 from .report import Fault
 
@@ -42,6 +44,13 @@ class Ignored:
     def has_fault(self, fault: Fault) -> bool:
         return bool(self._rules) and self.has(problem_of(fault))
 
+    def without(self, found: FileFaults) -> FileFaults:
+        """The faults of a file that aren't ignored. Of those beyond the first ones only the number is known."""
+        if not self._rules:
+            return found
+        kept = tuple(fault for fault in found.faults if not self.has_fault(fault))
+        return FileFaults(kept, found.more) if kept or found.more else NO_FAULTS
+
     def unused(self) -> list[Rule]:
         """The rules that have ignored nothing so far."""
         return [rule for rule in self._rules if rule not in self._used]
@@ -62,6 +71,37 @@ def is_note(code: str) -> bool:
     return NOTE.fullmatch(code) is not None
 
 
+class IgnoreFiles:
+    """The rules of some files, which are read again once they changed. If one can't be used, nothing is ignored."""
+
+    def __init__(self, say: Callable[[str], None]):
+        self.files: list[str] = []
+        self._say = say
+        self._stamps: list[tuple[int, ...]] = []
+        self._rules = Ignored(())
+
+    def rules(self) -> Ignored:
+        """The rules of the files as they are now, the same object as before if no file changed."""
+        stamps = list(map(_stamp, self.files))
+        if stamps != self._stamps:
+            self._stamps = stamps
+            try:
+                self._rules = Ignored(rule for file in self.files for rule in rules_in(file))
+            except WrongRule as error:
+                self._rules = Ignored(())
+                self._say(f"no fault is ignored: {error}")
+        return self._rules
+
+
+def _stamp(file: str) -> tuple[int, ...]:
+    """What differs once a file changed. Empty if it can't be looked at."""
+    try:
+        found = os.stat(file)
+    except (OSError, ValueError):
+        return ()
+    return found.st_mtime_ns, found.st_ctime_ns, found.st_size, found.st_dev, found.st_ino
+
+
 def is_code(text: str) -> bool:
     """Whether a text is the code of an entry or of a note of shellcheck."""
     return is_note(text) or any(entry.code == text for entry in entries())
@@ -75,6 +115,6 @@ def rules_in(file: str) -> list[str]:
         if len(data) > MAX_FILE_BYTES:
             raise WrongRule(f"{file} has more than {MAX_FILE_BYTES} bytes")
         lines = data.decode("utf-8-sig").splitlines()
-    except (OSError, UnicodeDecodeError) as error:
+    except (OSError, ValueError) as error:
         raise WrongRule(f"cannot read {file}: {getattr(error, 'strerror', None) or 'it is not UTF-8'}") from error
     return [line.strip() for line in lines if line.strip() and not line.lstrip().startswith("#")]
