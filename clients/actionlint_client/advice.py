@@ -1,4 +1,4 @@
-"""What to do about a fault, for all reports: the first fix that the language server would offer, and the sentence of the entry that fits."""
+"""What to do about a fault, for all reports: the first fix that the language server would offer, and the sentence that fits."""
 from __future__ import annotations
 
 import os
@@ -22,7 +22,7 @@ MAX_TRIED = 200
 SECONDS_OF_A_FILE = 60.0
 SECONDS_OF_AN_ANSWER = 20.0
 # The names before a property, the first of them a context. Only so much before the fault is looked at.
-CHAIN = re.compile(r"([A-Za-z_][\w-]*)((?:\s*\.\s*[\w*-]+|\s*\[[^\[\]]*\])*)\s*(?:\.|\[\s*')\s*$")
+CHAIN = re.compile(r"([A-Za-z_][\w-]*)((?:\s*\.\s*[\w*-]+|\s*\[[^\[\]]*\])*)\s*(?:\.|\[\s*'?)\s*$")
 MAX_LOOKED_AT = 300
 KEY_BEFORE_COLON = re.compile(r"\s*(?:- +)*[\w.-]+")
 DASH_AND_KEY = re.compile(r"\s*-[^\s-]")
@@ -151,9 +151,10 @@ SLIPS = (
     Slip("Y13", lambda problem: OF_A_MERGE.match(problem.line()) is not None,
          "Lines that begin with `<<<<<<<`, `=======` or `>>>>>>>` are left from a merge: keep one of the two sides."),
     Slip("Y13", _is_colon_of_key,
-         "If the place is the colon of a key, look at the line above: its colon has no space after it, or it has a value and this line is "
-         "indented more, or a bracket or a quote isn't closed."),
-    Slip("Y17", lambda problem: problem.line()[problem.fault.column - 1:].startswith("{{"), "An expression has a dollar before its braces."),
+         "If the place is the colon of a key, look at the line above: its colon has no space after it, or it has a value and this line "
+         "is indented more, or a bracket or a quote isn't closed."),
+    Slip("Y17", lambda problem: _character(problem) == "{" and _before(problem).endswith("{"),
+         "An expression has a dollar before its braces."),
     Slip("K1", lambda problem, key: key == "<<", "`<<` doesn't merge anything; an alias stands for a whole value."),
     Slip("K2", lambda problem, key: key in ("run", "uses"), "A step needs `run` or `uses`."),
     Slip("K4", _wants("list"), "A list is expected, with each entry on its own line after a dash."),
@@ -170,7 +171,8 @@ SLIPS = (
     Slip("X13", _is_of("needs"), "A job must list in its own `needs` each job whose results it reads."),
     Slip("X13", _is_of("steps"), "To read the outputs of a step, give the step an `id`, and read them after it."),
     Slip("X13", _is_of("matrix"),
-         "`matrix` has only the rows of the job's own matrix and what `include` adds to them: add the property there, or read another one."),
+         "`matrix` has only the rows of the job's own matrix and what `include` adds to them: add the property there, or read another "
+         "one."),
     Slip("X13", _is_of("inputs"), "An input has to be declared by the event or the action."),
     Slip("C7", _lacks_ref, "An action or a workflow in another repository needs `@REF` at its end: a branch, a tag or a commit."),
 )

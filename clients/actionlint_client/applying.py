@@ -30,8 +30,8 @@ class Request:
 
 @dataclass
 class Applied:
-    """The status of the linter before anything was fixed, what it printed on standard error, how many faults counted, what the fixes change,
-    and what could not be written."""
+    """The status of the linter before anything was fixed, what it printed on standard error, how many faults counted, what the fixes
+    change, and whether something could not be written."""
 
     status: int
     errors: str

@@ -77,8 +77,8 @@ class Form:
 
 
 class JsonLines(Form):
-    """A line of JSON for each problem. Lines and columns count from 1, in characters; `end_column` is one past the last. `fix` is the title of
-    the first fix."""
+    """A line of JSON for each problem. Lines and columns count from 1, in characters; `end_column` is one past the last. `fix` is the title
+    of the first fix."""
 
     def add(self, problem: Problem) -> None:
         fault = problem.fault

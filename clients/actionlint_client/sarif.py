@@ -77,7 +77,8 @@ def _artifact(path: str) -> dict:
 
 def _fix(repair: Repair) -> dict:
     """A fix (3.55), which replaces texts of files (3.57)."""
-    changes = [{"artifactLocation": _artifact(path), "replacements": list(map(_replacement, edits))} for path, edits in repair.edits.items()]
+    changes = [{"artifactLocation": _artifact(path), "replacements": list(map(_replacement, edits))}
+               for path, edits in repair.edits.items()]
     return {"description": _message(repair.title), "artifactChanges": changes}
 
 

@@ -8,6 +8,7 @@ from __future__ import annotations
 import json
 import os
 import pty
+import re
 import subprocess
 import sys
 import tempfile
@@ -17,7 +18,7 @@ from cases import Cases
 from repositories import CLIENTS, FILE, FILES, RIGHT, TOP, WORKFLOWS, write
 
 from actionlint_client.entries import entries, plain_text
-from actionlint_client.problems import SLIPS, first_sentence
+from actionlint_client.advice import SLIPS, first_sentence
 from actionlint_client.sarif import MAX_RESULTS
 
 CASES = Cases("report-forms")
@@ -26,31 +27,36 @@ DOCS = "https://example.org/docs"
 BROKEN = """.github/workflows/release.yml:4:5: unexpected key "branch" [syntax-check, K1]
   4 |     branch: [main]
     |     ^~~~~~
-  did you mean "branches"?
+  Fix: change to "branches"
   Look for the key in its section: it is misspelled, or it is one level too high or too deep.
 
 .github/workflows/release.yml:11:13: condition is always true [if-cond, G18]
   11 |         if: ${{ github.event_name == 'push' }} && success()
      |             ^~~~~~~~~~~~~~~~~~~~~~~~~~~~~~~~~~~~~~~~~~~~~~~
+  Fix: put all of it into one pair of braces
   Put the whole condition into the braces, or leave them out: a condition needs none.
 
 .github/workflows/release.yml:13:13: job "tests" is not defined [job-needs, G8]
   13 |     needs: [tests]
      |             ^~~~~
+  Fix: change to "test"
   Write the key of a job of this file (not its `name`), or delete the entry.
 
 .github/workflows/release.yml:20:30: property "versoin" is not defined [expression, X13]
   20 |           VERSION: ${{ steps.versoin.outputs.number }}
      |                              ^~~~~~~
-  Write a property that the context has here.
+  Fix: change to "version"
+  To read the outputs of a step, give the step an `id`, and read them after it.
 
 .github/workflows/release.yml:21:15: required input "channel" of "Announce" is missing [action, C3]
   21 |       - uses: ./announce
      |               ^~~~~~~~~~
+  Guess: add "channel"
   Set the input under `with`, or give it a `default` in the called file if it can be left out.
 
 5 faults in 1 file
 """
+IS_FIX = re.compile(" +(Fix|Guess): ")
 STEP = "on: push\njobs:\n  a:\n    runs-on: ubuntu-latest\n    steps:\n      - "
 # The most common mistakes, each with the advice shown first.
 ADVICE = {
@@ -58,7 +64,28 @@ ADVICE = {
     "on: push\njobs:\n  a:\n    if: !cancelled()\n": "Y8: Text that begins with `!` needs quotes, such as a pattern",
     "on: push\nname: {x} y\n": "Y13: Text that begins with `[`, `{`, `*`, `@`, `%` or a backtick, or contains `: `, needs quotes, and",
     "on:\n  push:\n    branches:\n      - *\n": "Y13: Text that begins with `[`, `{`, `*`, `@`, `%` or a backtick, or contains `: `, needs",
-    "on: push\nname: a\n  b: c\n": "Y13: Text that begins with `[`, `{`, `*`, `@`, `%` or a backtick, or contains `: `, needs quotes, and",
+    "on: push\nname: a\n  b: c\n": "Y13: If the place is the colon of a key, look at the line above: its colon has no space after it, or it",
+    "on: push\njobs:\n  a:\n    runs-on:x\n    steps:\n": "Y13: If the place is the colon of a key, look at the line above: its colon",
+    "on: push\nname: 'a\njobs: {}\nenv: {A: 'b'}\n": "Y13: Text that begins with `[`, `{`, `*`, `@`, `%` or a backtick, or contains",
+    "on: push\n<<<<<<< HEAD\njobs: {}\n": "Y13: Lines that begin with `<<<<<<<`, `=======` or `>>>>>>>` are left from a merge: keep one",
+    "on: push\njobs:\n  a:\n    runs-on: x\n    steps:\n      - run: a\n      -run: b\n": "Y4: A dash before an entry needs a space after it.",
+    "on: push\njobs:\n  a:\n    runs-on: x\n     steps: []\n": "Y13: If the place is the colon of a key, look at the line above: its",
+    "on: push\nname: x\njobs: {}\n  env: {}\n": "Y4: Give the line the same indentation as the entries it belongs with.",
+    "on: push\njobs: {}\nenv:\n  A: {{ github.ref }}\n": "Y17: An expression has a dollar before its braces.",
+    "on: push\njobs: {}\n[a, b]: c\n": "Y17: Write the key as a scalar on one line, and its value after the colon.",
+    "on: push\njobs:\n  a: &a {runs-on: x, steps: []}\n  b: {<<: *a}\n": "K1: `<<` doesn't merge anything; an alias stands for a whole value.",
+    "on: push\njobs:\n  a: {runs-on: x, steps: [], if: always}\n": "X7: A function needs parentheses after its name, as in `always()`.",
+    "on: push\njobs:\n  a: {runs-on: x, steps: [], if: github.ref == main}\n": "X7: Write the name of a context, or put a string in single",
+    STEP + "run: echo ${{ github.run_number + 1 }}\n": "X1: Do arithmetic in a step's script.",
+    STEP + "run: echo ${{ matrix.os }}\n": "X13: `matrix` has only the rows of the job's own matrix and what `include` adds to them: add the",
+    STEP + "run: echo ${{ matrix['os'] || 'x' }}\n": "X13: `matrix` has only the rows of the job's own matrix and what `include` adds",
+    "on: push\njobs: {a: {runs-on: x, strategy: {matrix: {os: [{a: b}]}}, steps: [{run: 'echo ${{ matrix.os.c }}'}]}}\n":
+        "X13: `matrix` has only the rows of the job's own matrix and what `include` adds to them: add the property there,",
+    STEP + "run: echo ${{ steps.x.outputs.y }}\n": "X13: To read the outputs of a step, give the step an `id`, and read them after it.",
+    "on: {workflow_call: {inputs: {x: {type: string}}}}\njobs: {a: {runs-on: x, steps: [{run: 'echo ${{ inputs.y }}'}]}}\n":
+        "X13: An input has to be declared by the event or the action.",
+    "on: push\njobs: {a: {runs-on: x, steps: []}, b: {runs-on: x, needs: a, steps: [{run: 'echo ${{ needs.a.outputs.o }}'}]}}\n":
+        "X13: A job must declare the `outputs` that others read.",
     "on: push\n&x jobs: {}\n": "Y7: Text that begins with `*` or `&` needs quotes.",
     STEP + 'run: echo ${{ github.ref == "a" }}\n': "X1: Write a string in single quotes, a choice as `TEST && THIS || THAT`, and equality as `==`.",
     STEP + "run: echo ${{ needs.build.result }}\n": "X13: A job must list in its own `needs` each job whose results it reads.",
@@ -115,7 +142,7 @@ def advice(program: str) -> None:
         for file, expected in ADVICE.items():
             write(folder, {FILE: file})
             paragraphs = run(program, folder, "--form", "text")[1].split("\n\n")[:-1]
-            found = [f"{lines[0].rpartition(', ')[2][:-1]}: " + " ".join(line.strip() for line in lines[3:] if "did you mean" not in line)
+            found = [f"{lines[0].rpartition(', ')[2][:-1]}: " + " ".join(line.strip() for line in lines[3:] if not IS_FIX.match(line))
                      for lines in (one.splitlines() for one in paragraphs)]
             assert any(one.startswith(expected) for one in found), (file, expected, found)
 
