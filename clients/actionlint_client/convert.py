@@ -8,6 +8,7 @@ from __future__ import annotations
 import argparse
 import os
 import sys
+import textwrap
 from typing import TYPE_CHECKING, BinaryIO, Iterable
 
 from . import library, shellcheck
@@ -24,7 +25,7 @@ from .problems import Problem, problem_of
 from .program import WHICH, find_program
 from .report import BadReport
 from .sarif import Sarif, left_out_line
-from .terminal import Text, has_color
+from .terminal import WIDTH, Text, has_color
 
 if TYPE_CHECKING:
     from .applying import Request
@@ -111,7 +112,11 @@ def explain(code: str) -> int:
     if entry is None:
         return _fail(f"{code!r} is not a fault code", WRONG_WORDS)
     with report_output(None) as out:
-        out.write(explained(entry).encode() + b"\n")
+        paragraphs = explained(entry).split("\n\n")
+        # (an example has several lines, or is indented)
+        wrapped = [one if "\n" in one or one.startswith(" ") else textwrap.fill(one, WIDTH, break_long_words=False, break_on_hyphens=False)
+                   for one in paragraphs]
+        out.write("\n\n".join(wrapped).encode() + b"\n")
     return 0
 
 

@@ -2,6 +2,7 @@
 from __future__ import annotations
 
 import os
+from collections import Counter
 from dataclasses import dataclass
 from typing import Callable, Iterable
 
@@ -30,7 +31,7 @@ class Change:
 
 @dataclass(frozen=True)
 class Choice:
-    """Which fixes are taken: of the faults that this says, the first safe one, or with guesses the first one."""
+    """Which fixes are taken: of the faults that this says, the first safe one; with guesses, the first one of those that are left."""
 
     takes: Callable[[Fault], bool]
     with_guesses: bool
@@ -48,6 +49,7 @@ class Fixing:
         # What was tried of each file: its bytes and its faults. The faults whose fixes together cause others are given up.
         self._tried: dict[str, tuple[bytes | None, FileFaults]] = {}
         self._given_up: set[Fault] = set()
+        self._takes_guesses = False
 
     def changes(self, paths: Iterable[str]) -> dict[str, Change]:
         """The files that the fixes change. `paths` are those that were linted; others of the folder are linted too."""
@@ -57,13 +59,18 @@ class Fixing:
                 if data is not None:
                     self._folder.edit(path, data)
             self._go_on()
+            if self._choice.with_guesses:
+                # What a safe fix repairs is no longer there to be guessed.
+                self._takes_guesses = True
+                self._tried.clear()
+                self._go_on()
         finally:
             self._folder.close()
         after = {path: self._folder.read(path) or b"" for path in self._before}
         return {path: Change(before, after[path]) for path, before in sorted(self._before.items()) if after[path] != before}
 
     def _go_on(self) -> None:
-        """Applies fixes until there are none that leave fewer faults. One that doesn't do so alone is given up."""
+        """Applies fixes until there are none that leave fewer faults and no other ones. One that doesn't do so alone is given up."""
         faults = self._faults()
         is_cautious = False
         for _ in range(MAX_ROUNDS):
@@ -73,7 +80,7 @@ class Fixing:
             taken = dict(list(found.items())[:1]) if is_cautious else found
             texts = self._apply(taken.values())
             after = self._faults()
-            if after is not None and _count(after) < _count(faults):
+            if after is not None and _is_better(after, faults):
                 faults, is_cautious = after, False
                 continue
             for path, data in texts.items():
@@ -112,7 +119,7 @@ class Fixing:
         for start in range(0, len(faults), MAX_FAULTS):
             some = faults[start:start + MAX_FAULTS]
             for fault, repair in fixes(self._program.words, self._program.timeout, self._project, some, seconds=SECONDS_OF_A_FILE):
-                if (repair.is_safe or self._choice.with_guesses) and not repair.new_files and all(map(self._can_change, repair.edits)):
+                if (repair.is_safe or self._takes_guesses) and not repair.new_files and all(map(self._can_change, repair.edits)):
                     found.setdefault(fault, repair)
         return found
 
@@ -158,5 +165,15 @@ def _touch(one: Edit, other: Edit) -> bool:
     return one.span.start <= other.span.end and other.span.start <= one.span.end
 
 
+def _is_better(after: dict[str, FileFaults], before: dict[str, FileFaults]) -> bool:
+    """Whether there are fewer faults, and none that wasn't there. Places aren't compared, since they move."""
+    return _count(after) < _count(before) and not _messages(after) - _messages(before)
+
+
 def _count(faults: dict[str, FileFaults]) -> int:
     return sum(len(of_file.faults) + of_file.more for of_file in faults.values())
+
+
+def _messages(faults: dict[str, FileFaults]) -> Counter[tuple[str, str]]:
+    """How often each file has each message. Of a file with too many faults only the first ones are known, so it has none here."""
+    return Counter((path, fault.message) for path, of_file in faults.items() if not of_file.more for fault in of_file.faults)

@@ -148,18 +148,6 @@ def advice(program: str) -> None:
 
 
 @CASES.case
-def near_names(program: str) -> None:
-    """The most similar name of a list, unless none is similar."""
-    with tempfile.TemporaryDirectory(prefix="actionlint-test-") as folder:
-        for condition, near in (("sucess()", "success"), ("failed()", "failure"), ("gihub.ref == 'a'", "github"),
-                                ("github.ref == main", None), ("github.event_nam == 'a'", "event_name"), ("zzzzz()", None)):
-            write(folder, {FILE: STEP + f"{{run: x, if: {condition}}}\n"})
-            said = run(program, folder, "--form", "text")[1]
-            asked = [line.strip() for line in said.splitlines() if "did you mean" in line]
-            assert asked == ([f'did you mean "{near}"?'] if near else []), (condition, said)
-
-
-@CASES.case
 def sentences_of_entries(program: str) -> None:
     """What is printed in place of the first sentence is in the entry too, and every entry has a sentence."""
     by_code = {entry.code: plain_text(entry.repair).lower() for entry in entries()}
@@ -209,7 +197,7 @@ def github(program: str) -> None:
     lines = said.splitlines()
     assert (status, errors, len(lines), lines[-1]) == (1, "", 6, "5 faults in 1 file"), said
     assert lines[0] == ('::error file=.github/workflows/release.yml,line=4,endLine=4,col=5,endColumn=11,title=K1::unexpected key "branch" '
-                        '[syntax-check]%0Adid you mean "branches"?%0ALook for the key in its section: it is misspelled, or it is one '
+                        '[syntax-check]%0AFix: change to "branches"%0ALook for the key in its section: it is misspelled, or it is one '
                         "level too high or too deep."), lines[0]
 
 
@@ -260,6 +248,7 @@ def explain(program: str) -> None:
     """The entry of a code; any other text is a wrong argument."""
     status, said, errors = run(program, "/", "--explain", "x13")
     assert (status, errors) == (0, "") and said.startswith('X13: property ".." is not defined\n\n'), said
+    assert "(the list in docs/LISTS.md)" in said and max(map(len, said.splitlines())) <= 100, said
     assert "\n\nRepair: Write a property" in said and "\n    on: push\n" in said and "```" not in said and "](" not in said, said
     assert all(run(program, "/", "--explain", code)[0] == 0 for code in ("Y1", "K7", "C9"))
     assert run(program, "/", "--explain", "X99") == (2, "", "actionlint-report: 'X99' is not a fault code\n")
@@ -276,8 +265,9 @@ def ignored_faults(program: str) -> None:
                 (["--ignore-file", "kept"], 1, "1 fault in 1 file, 2 ignored"),
                 (["--ignore-file", "kept", "--ignore", "X13"], 0, "0 faults, 3 ignored"),
                 (["--ignore", "X13:b.yml"], 1, "3 faults in 3 files")):
-            found, said, _ = run(program, folder, "--form", "text", *words)
+            found, said, errors = run(program, folder, "--form", "text", *words)
             assert (found, said.splitlines()[-1]) == (status, count), (words, said)
+            assert errors == ("actionlint-report: X13:b.yml ignores nothing\n" if "X13:b.yml" in words else ""), (words, errors)
         found, said, errors = run(program, folder, "--form", "jsonl", "--ignore-file", "kept")
         assert (found, errors) == (1, "actionlint-report: 1 fault in 1 file, 2 ignored\n") and len(said.splitlines()) == 1, (said, errors)
         # A run that could not go on is reported as such, whatever is ignored.
@@ -289,14 +279,33 @@ def ignored_faults(program: str) -> None:
 
 
 @CASES.case
-def without_libraries(program: str) -> None:
-    """Reports need only python3."""
+def rules_that_ignore_nothing(program: str) -> None:
+    """They are told in each form, if what they are about was looked at, and change no status."""
+    b, said = WORKFLOWS + "b.yml", "ignores nothing"
     with tempfile.TemporaryDirectory(prefix="actionlint-test-") as folder:
-        for module in ("yaml", "pylsp_jsonrpc"):
-            Path(folder, f"{module}.py").write_text("raise ImportError\n", encoding="utf-8")
-        words = [sys.executable, REPORT, "--program", program, "--form", "text", "--root", str(TOP / "examples/broken")]
-        done = subprocess.run(words, stdout=subprocess.PIPE, stderr=subprocess.PIPE, env={**os.environ, "PYTHONPATH": folder}, check=False)
-    assert done.returncode == 1 and b"5 faults in 1 file" in done.stdout and done.stderr == b"", done
+        write(folder, {FILE: FILES[FILE], b: RIGHT, "kept": f"x13:{FILE}\nX13:{b}\nK1\nSC2086\n"})
+        for words, expected in (([], [f"X13:{b}", "K1"]), ([FILE], []), ([b], [f"X13:{b}"]), (["no.yml"], [])):
+            for form in ("text", "jsonl", "oneline", "codequality"):
+                status, _, errors = run(program, folder, "--form", form, "--ignore-file", "kept", "--", *words)
+                told = [line for line in errors.splitlines() if said in line]
+                assert (status, told) == (3 if words == ["no.yml"] else 0, [f"actionlint-report: {rule} {said}" for rule in expected]), errors
+        _, found, errors = run(program, folder, "--form", "github", "--ignore", "K1", "--", FILE)
+        assert said not in found + errors
+        _, found, errors = run(program, folder, "--form", "github", "--ignore", f"K1:{FILE}")
+        assert f"::warning title=actionlint::K1:{FILE} {said}\n" in found and not errors, (found, errors)
+        (log,) = json.loads(run(program, folder, "--ignore", "K1")[1])["runs"]
+        assert log["invocations"] == [{"executionSuccessful": True, "exitCode": 1, "toolExecutionNotifications": [
+            {"level": "warning", "message": {"text": f"K1 {said}"}}]}], log
+
+
+@CASES.case
+def without_libraries(program: str) -> None:
+    """Reports need only python3, and then have no fixes."""
+    # (without its folders of packages, and without looking for a Python that has them)
+    words = [sys.executable, "-S", "-E", REPORT, "--program", program, "--form", "text", "--root", str(TOP / "examples/broken")]
+    done = subprocess.run(words, stdout=subprocess.PIPE, stderr=subprocess.PIPE, check=False)
+    lines = [line for line in BROKEN.splitlines(keepends=True) if not IS_FIX.match(line)]
+    assert (done.returncode, done.stdout.decode(), done.stderr) == (1, "".join(lines), b""), done
 
 
 if __name__ == "__main__":
