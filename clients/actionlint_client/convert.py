@@ -103,7 +103,8 @@ def _fix(options: argparse.Namespace, ignored: Ignored) -> bool:
 
 
 def _print(line: str) -> None:
-    print(f"actionlint-report: {terminal_text(line)}", file=sys.stderr)
+    """Prints a line on standard error at once, since other programs may print there too."""
+    sys.stderr.write(f"actionlint-report: {terminal_text(line)}\n")
 
 
 def explain(code: str) -> int:
@@ -185,9 +186,9 @@ def _say(form: Form, outcome: Outcome) -> None:
         for warning in outcome.warnings:
             _print(warning)
     if form.left_out:
-        print(f"actionlint-report: {left_out_line(form.left_out)}", file=sys.stderr)
+        _print(left_out_line(form.left_out))
     if outcome.ignored and not form.tells_count:
-        print(f"actionlint-report: {outcome.count_line()}", file=sys.stderr)
+        _print(outcome.count_line())
 
 
 def _options(words: list[str]) -> argparse.Namespace:
@@ -226,5 +227,5 @@ def _options(words: list[str]) -> argparse.Namespace:
 
 
 def _fail(why: str, status: int = CANNOT_GO_ON) -> int:
-    print(f"actionlint-report: {why}", file=sys.stderr)
+    _print(why)
     return status
