@@ -124,20 +124,20 @@ class Case:
     @property
     def key(self) -> Found | None:
         """The entry whose key begins at the fault."""
-        return self._nodes.keys.get(self.span.start)
+        return self.nodes.keys.get(self.span.start)
 
     @property
     def value(self) -> Found | None:
         """The outermost node that begins at the fault."""
-        return self._nodes.values.get(self.span.start)
+        return self.nodes.values.get(self.span.start)
 
     @property
     def scalar(self) -> Found | None:
         """The scalar value that contains the fault."""
-        return self._nodes.scalar_at(self.span.start)
+        return self.nodes.scalar_at(self.span.start)
 
     @cached_property
-    def _nodes(self) -> Nodes:
+    def nodes(self) -> Nodes:
         known = self.project.memory.get(("nodes", self.file))
         if not isinstance(known, Nodes) or known.tree is not self.tree:
             known = self.project.memory["nodes", self.file] = Nodes(self.tree)

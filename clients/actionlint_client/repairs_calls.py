@@ -6,10 +6,11 @@ from collections import Counter
 from typing import Callable, Iterable
 
 from . import project as files
-from .names import likely
+from .names import likely, misspelled
 from .paths import ACTION_NAMES, WORKFLOWS, is_workflow
 from .repair import Case, Edit, Found, Repair, as_scalar, entries_of, is_within_flow, next_entry, without_entry
 from .repairs_keys import deleted, moved_below
+from .repairs_names import as_secret
 from .repairs_kinds import as_flag, as_number
 from .text import Point, Span
 from .tree import Node, Path
@@ -98,9 +99,9 @@ def required(what: str) -> Callable[[Case], Iterable[Repair]]:
         one = next((one for one in declared if one.name.lower() == case.arguments[0].lower()), None)
         given = {name.lower() for name in node.names(below)}
         lacking = [other for other in declared if other.is_required and other.name.lower() not in given]
-        key, value = (node.key(one.name), node.get(one.name)) if one else (None, None)
-        if key and value:
-            yield from moved_below(case, Found((*_path_of(case), key.value), key, value, node))
+        there = list(_written_elsewhere(case, node, below, one.name)) if one else []
+        yield from there
+        if there:
             return
         if one:
             yield from _given(case, node, below, [one])
@@ -109,6 +110,41 @@ def required(what: str) -> Callable[[Case], Iterable[Repair]]:
         if what == "secrets" and of_job:
             yield from _all_secrets(case, node)
     return repairs
+
+
+def _written_elsewhere(case: Case, node: Node, below: str, name: str) -> Iterable[Repair]:
+    """What is missing, if it is there: beside `uses`, misspelled, or a secret among the inputs."""
+    path = _path_of(case)
+    key, value = node.key(name), node.get(name)
+    if key and value:
+        yield from moved_below(case, Found((*path, name), key, value, node))
+    around = node.get(below)
+    for key, _ in around.entries if around else ():
+        if misspelled(key.value, [name]):
+            yield case.replace(f'change "{key.value}" to "{name}"', name, key.span, is_safe=True)
+    inputs = node.get("with")
+    key, value = (inputs.key(name), inputs.get(name)) if inputs and below == "secrets" else (None, None)
+    if inputs and key and value:
+        yield from as_secret(case, Found((*path, "with", name), key, value, inputs))
+
+
+def declared_as_secret(case: Case) -> Iterable[Repair]:
+    """An input of a called workflow that is one of its secrets, moved to `secrets`."""
+    node, callee, of_job = _call(case)
+    here = case.key
+    if node and callee and of_job and here:
+        declared = files.declarations(callee, case.project.good_tree(callee), "secrets", True)
+        if case.arguments[0].lower() in [one.name.lower() for one in declared]:
+            yield from as_secret(case, here)
+
+
+def action_of_job(case: Case) -> Iterable[Repair]:
+    """An action that a job with steps calls, called from a step."""
+    here = case.key
+    uses = here.parent.get("uses") if here else None
+    key = here.parent.key("uses") if here else None
+    if here and uses and key and len(here.path) == 3 and here.path[0] == "jobs" and ".github/workflows/" not in uses.value:
+        yield from _called_from_step(case, Found((*here.path[:-1], "uses"), key, uses, here.parent))
 
 
 def _all_secrets(case: Case, job: Node) -> Iterable[Repair]:
@@ -263,7 +299,8 @@ def without_step(case: Case) -> Iterable[Repair]:
 
 REPAIRS: dict[str, tuple[Callable[[Case], Iterable[Repair]], ...]] = {
     "C1": (near_file,),
-    "C2": (near_declared("inputs"),),
+    "K6": (action_of_job,),
+    "C2": (declared_as_secret, near_declared("inputs"),),
     "C3": (required("inputs"),),
     "C4": (other_type,),
     "C5": (near_declared("secrets"),),

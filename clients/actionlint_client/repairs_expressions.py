@@ -298,7 +298,8 @@ def without_character(case: Case) -> Iterable[Repair]:
 
 def inner_braces(case: Case) -> Iterable[Repair]:
     """Braces around a part of what is in braces already are taken away."""
-    match = next((match for match in NESTED_BRACES.finditer(case.line) if match.start() <= case.span.start.column < match.end()), None)
+    column = case.span.start.column
+    match = next((match for match in NESTED_BRACES.finditer(case.line) if match.start() <= column < match.end() or case.code == "G18"), None)
     if match:
         span = Span.on_line(case.span.start.line, match.start(), match.end())
         yield case.replace("take away the inner braces", "${{" + match[1] + match[2].strip() + match[3] + "}}", span, is_safe=True)
@@ -377,15 +378,18 @@ def is_in_condition(case: Case) -> bool:
 
 def compared_part(case: Case) -> Iterable[Repair]:
     """What of a needed job, a step or an event is compared with a text, in place of all of it."""
-    chain, span = whole_chain(case)
-    here = [name.lower() for name in chain]
     if case.code == "X18" and not is_in_condition(case):
         return
-    if here == ["github", "event"]:
-        yield case.replace("change to github.event_name", "github.event_name", span)
-    elif here and here[0] in COMPARED and len(here) == (1 if here[0] == "job" else 2):
-        name = COMPARED[here[0]]
-        yield case.replace(f'compare its "{name}"', f"{case.slice(span)}.{name}", span)
+    for match in CHAIN.finditer(case.line):
+        span = Span.on_line(case.span.start.line, match.start(), match.end())
+        if not is_compared(case.line[:match.start()], case.line[match.end():]) and not span.holds(case.span.start):
+            continue
+        here = [name.lower() for name in links(match[0])]
+        if here == ["github", "event"]:
+            yield case.replace("change to github.event_name", "github.event_name", span)
+        elif here[0] in COMPARED and len(here) == (1 if here[0] == "job" else 2):
+            name = COMPARED[here[0]]
+            yield case.replace(f'compare its "{name}"', f"{match[0]}.{name}", span)
 
 
 def all_results(case: Case) -> Iterable[Repair]:
@@ -471,6 +475,8 @@ def right_format(case: Case) -> Iterable[Repair]:
     for title, changed in tries:
         if changed != [text, *arguments]:
             yield case.replace(title, ", ".join(changed), span)
+            if changed[0] == _numbered(text, len(arguments)):
+                return
     if unused and unused == list(range(unused[0], len(arguments))):
         yield case.replace(f"delete {', '.join(arguments[unused[0]:])}", ", ".join([text, *arguments[:unused[0]]]), span, deletes=True)
 
@@ -507,5 +513,5 @@ REPAIRS: dict[str, tuple[Callable[[Case], Iterable[Repair]], ...]] = {
     "X17": (right_format,),
     "X18": (as_json, compared_part),
     "X20": (closed_braces,),
-    "G18": (one_pair,),
+    "G18": (inner_braces, one_pair),
 }

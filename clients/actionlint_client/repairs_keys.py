@@ -6,10 +6,11 @@ from typing import Callable, Iterable
 
 from .names import likely, misspelled
 from .paths import is_workflow
+from .repairs_levels import moves
 from .repair import Case, Edit, Found, Repair, entries_of, first_entry, indented, next_entry, quoted, tight, without_entry
 from .syntax import shape_at, table
 from .text import Point, Span
-from .tree import Node, last_line
+from .tree import Node, Path
 
 JOB = "build:\n  runs-on: ubuntu-latest\n  steps:\n    - run: make"
 # The values of missing keys.
@@ -52,9 +53,13 @@ def one_level_deeper(case: Case) -> Iterable[Repair]:
     here = case.key
     if here is None:
         return
-    of_run, of_strategy = (table()["shapes"][shape]["keys"] for shape in ("RunDefaults", "Strategy"))
+    of_run, of_strategy, of_step = (table()["shapes"][shape]["keys"] for shape in ("RunDefaults", "Strategy", "Step"))
     if here.path[-2:-1] == ("defaults",) and here.path[-1] in of_run:
         yield from _below(case, here, "run", lambda key: key in of_run)
+    elif len(here.path) == 3 and case.job and here.path[-1] in of_strategy and here.parent.get("strategy") is None:
+        yield from _below(case, here, "strategy", lambda key: key in of_strategy)
+    elif len(here.path) == 3 and case.job and here.path[-1] in of_step and not here.parent.get("steps") and not here.parent.get("uses"):
+        yield from _as_step(case, here)
     elif here.path[-2:-1] == ("strategy",) and here.parent.get("matrix") is None:
         yield from _below(case, here, "matrix", lambda key: key not in of_strategy)
     elif here.key and case.job and len(here.path) == 3 and here.path[-1] in of_run and here.parent.get("defaults") is None:
@@ -102,6 +107,19 @@ def moved_below(case: Case, here: Found) -> Iterable[Repair]:
         text = case.slice(Span(here.key.span.start, tight(case, here.value).end))
         added = next_entry(case, around, around.entries[-1][0].value, text.replace("\n" + " " * here.key.span.start.column, "\n"))
         yield case.of(f'put it below "{target}"', without_entry(case, here.parent, here.key), added)
+
+
+def _as_step(case: Case, here: Found) -> Iterable[Repair]:
+    """Consecutive keys of a job without steps that only a step has, as its step."""
+    known = table()["shapes"]["Job"]["keys"]
+    entries = [(key, value) for key, value in here.parent.entries if key.value not in known]
+    if here.parent.is_flow or not {"run", "uses"} & {key.value for key, _ in entries} or not here.key:
+        return
+    column = here.key.span.start.column
+    first = entries[0][0].span.start
+    start = Edit(Span.at(first), "steps:\n" + " " * (column + 2) + "- ")
+    edits = [*indented(case, entries, "    ")][1:]
+    yield case.of("make it a step", start, *edits)
 
 
 def part_of_value(case: Case) -> Iterable[Repair]:
@@ -190,9 +208,9 @@ def missing_key(case: Case) -> Iterable[Repair]:
     row = shape["keys"].get(name, {}) if shape and "keys" in shape else {}
     wanted = [name, row["need"]] if isinstance(row.get("need"), str) else [name]
     unknown = [key for key, _ in here.value.entries if shape and key.value not in shape.get("keys", ())]
-    renamed = list(_renamed(case, unknown, wanted))
-    yield from renamed
-    if not renamed:
+    found = [*_renamed(case, unknown, wanted), *_moved_here(case, here.path, wanted)]
+    yield from found
+    if not found:
         yield from _joined(case, here)
         yield from _added(case, here, name)
 
@@ -205,6 +223,14 @@ def _renamed(case: Case, unknown: list[Node], wanted: list[str]) -> Iterable[Rep
         name = meant or (other if other in wanted else None)
         if name:
             yield case.replace(f'change "{key.value}" to "{name}"', name, key.span, is_safe=meant is not None)
+
+
+def _moved_here(case: Case, path: Path, wanted: list[str]) -> Iterable[Repair]:
+    """A missing key that stands in another section, which doesn't have it."""
+    for found in case.nodes.keys.values():
+        if found.key and found.key.value in wanted and found.path[:-1] != path:
+            if not found.key.value in case.known_keys(found.path[:-1]):
+                yield from (repair for goal, repair in moves(case, found) if goal == path)
 
 
 def _joined(case: Case, here: Found) -> Iterable[Repair]:
@@ -259,6 +285,8 @@ def _first_value(case: Case, here: Found, name: str) -> str | None:
         if default and not default.style and default.value in ("true", "false"):
             return "boolean"
         return "number" if default and not default.style and re.fullmatch(r"-?\d+(?:\.\d+)?", default.value) else "string"
+    if name == "description":
+        return here.value.text("name") or MISSING[name]
     return MISSING.get(name)
 
 

@@ -45,13 +45,14 @@ def other_kind(case: Case) -> Iterable[Repair]:
     yield from _of_its_section(case, here)
     value, text = here.value, case.slice(here.value.span)
     if value.kind == "scalar" and value.style not in ("|", ">") and value.value:
-        with_key = list(_with_key(case, value))
+        with_key = list(_with_key(case, here))
         yield from with_key
         if with_key:
             return
         yield case.replace("make it a list", f"[{text}]", value.span)
-        is_call = CALL.fullmatch(value.value) is not None
-        yield case.replace(f'make it a step with "{"uses" if is_call else "run"}"', f"{'uses' if is_call else 'run'}: {text}", value.span)
+        if here.path[-2:-1] == ("steps",):
+            name = "uses" if CALL.fullmatch(value.value) else "run"
+            yield case.replace(f'make it a step with "{name}"', f"{name}: {text}", value.span)
         pair = re.fullmatch(r"([\w-]+)[=:]\s*(.+)", value.value)
         if pair:
             yield case.replace("make it a mapping", "{%s: %s}" % (pair[1], quoted(pair[2])), value.span)
@@ -66,16 +67,19 @@ def other_kind(case: Case) -> Iterable[Repair]:
         yield from _scalars_as_other(case, here)
 
 
-def _with_key(case: Case, value: Node) -> Iterable[Repair]:
-    """A text that begins with a key of a step, whose colon or the space after it is missing or isn't a plain one."""
+def _with_key(case: Case, here: Found) -> Iterable[Repair]:
+    """A text that begins with a key, whose colon or the space after it is missing or isn't a plain one."""
+    value = here.value
     if value.style:
         return
-    keys, text = table()["shapes"]["Step"]["keys"], case.slice(value.span)
+    text = case.slice(value.span)
+    path = here.path[:-1] if isinstance(here.path[-1:], int) else here.path
+    keys = table()["shapes"]["Step"]["keys"] if path[-2:-1] == ("steps",) else None
     if ODD_SPACE.search(text):
         yield case.replace("write plain spaces", ODD_SPACE.sub(" ", text), value.span, is_safe=True)
     for pattern, sign, title in ((COLON_LACKS_SPACE, " ", "add a space after the colon"), (KEY_LACKS_COLON, ":", "add a colon")):
         match = pattern.match(text)
-        if match and match[1] in keys:
+        if match and (keys is None or match[1] in keys):
             end = Point(value.span.start.line, value.span.start.column + match.end())
             yield case.replace(title + (f' after "{match[1]}"' if sign == ":" else ""), sign, Span.at(end), is_safe=sign == " ")
 
@@ -118,6 +122,8 @@ def _of_its_section(case: Case, here: Found) -> Iterable[Repair]:
         yield case.replace("make it a mapping", "{" + entries + "}", value.span)
     elif here.path[-2:-1] == ("inputs",) and is_text:
         yield case.replace("make it a mapping", "{type: string}", value.span)
+    elif here.path[:-1] == ("jobs",) and here.path[-1] in table()["shapes"]["Job"]["keys"]:
+        yield from _keys_beside_job(case, here)
     elif here.path[:-1] == ("jobs",) and here.key and value.kind == "scalar":
         yield from _indented_keys(case, here)
         run = value.value or "make"
@@ -139,6 +145,21 @@ def _settings_of_event(case: Case, here: Found) -> Iterable[Repair]:
     if here.key and all(item.value for item in items) and takes_filter(event, key):
         texts = ", ".join(case.slice(item.span) for item in items)
         yield case.replace(f'put it below "{key}"', f": {{{key}: [{texts}]}}", Span(here.key.span.end, tight(case, value).end))
+
+
+def _keys_beside_job(case: Case, here: Found) -> Iterable[Repair]:
+    """A key of a job beside it, moved below it with the others."""
+    before = [(key, value) for key, value in here.parent.entries if here.key and key.span.start < here.key.span.start]
+    jobs = [(key, value) for key, value in before if key.value not in table()["shapes"]["Job"]["keys"]]
+    if jobs:
+        yield from _indented_keys(case, Found((*here.path[:-1], jobs[-1][0].value), jobs[-1][0], jobs[-1][1], here.parent))
+
+
+def jobs_below(case: Case) -> Iterable[Repair]:
+    """Jobs that are beside an empty `jobs`, moved below it."""
+    here = case.key
+    if here and len(here.path) == 1 and here.value.kind == "mapping" and here.value.get("steps"):
+        yield from _indented_jobs(case)
 
 
 def _indented_keys(case: Case, here: Found) -> Iterable[Repair]:
@@ -192,7 +213,7 @@ def _spaced_dashes(case: Case) -> Iterable[Repair]:
         if match and match.end() - 1 == case.span.start.column:
             edits.append(Edit(Span.at(Point(number, match.end())), " "))
     if edits:
-        yield case.of("add a space after the dash", *edits)
+        yield case.of("add a space after the dash", *edits, is_safe=True)
 
 
 def _first_job(case: Case) -> Iterable[Repair]:
@@ -289,6 +310,7 @@ def skeleton(case: Case) -> Iterable[Repair]:
 
 
 REPAIRS: dict[str, tuple[Callable[[Case], Iterable[Repair]], ...]] = {
+    "K1": (jobs_below,),
     "K4": (other_kind,),
     "K5": (other_type,),
     "K7": (skeleton,),

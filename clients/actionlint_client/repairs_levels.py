@@ -27,7 +27,8 @@ def moved_line(case: Case) -> Iterable[Repair]:
     found = []
     for column in nearest:
         path, rank = _section(case, number, column)
-        found.append((rank, abs(column - own), -column if rank == 0 else 0, moved(case, f"move it {_destination(case, path, column)}", lines, column - own)))
+        title = f"move it {_destination(case, path, column)}"
+        found.append((rank, abs(column - own), -column if rank == 0 else 0, moved(case, title, lines, column - own)))
     # Of those where a section knows it, only the nearest are likely.
     reach = min((distance for rank, distance, _, _ in found if rank == 0), default=None)
     likely = [one for one in found if reach is None or one[0] == 0 and one[1] == reach]
@@ -83,14 +84,19 @@ def moved(case: Case, title: str, lines: Iterable[int], by: int) -> Repair:
 def another_level(case: Case) -> Iterable[Repair]:
     """A key that its section doesn't have, moved to a section that has it: one in the value before it, the innermost first, or one around
     it."""
-    here = case.key
-    if here is None or here.key is None or here.parent.is_flow or case.line[:here.key.span.start.column].strip():
+    if case.key:
+        yield from (repair for _, repair in moves(case, case.key))
+
+
+def moves(case: Case, here: Found) -> Iterator[tuple[Path, Repair]]:
+    """The sections that have a key, and the repairs that move it there."""
+    if here.key is None or here.parent.is_flow or case.lines[here.key.span.start.line][:here.key.span.start.column].strip():
         return
     lines = range(here.key.span.start.line, last_line(here.value, case.lines) + 1)
     for path, names, column in (*_sections_before(case, here), *_sections_around(case, here)):
         if here.key.value in case.known_keys(path, names):
-            by = column - here.key.span.start.column
-            yield moved(case, f"move it {_destination(case, path, column)}", lines, by)
+            title = f'move "{here.key.value}" {_destination(case, path, column)}'
+            yield path, moved(case, title, lines, column - here.key.span.start.column)
 
 
 def _sections_before(case: Case, here: Found) -> list[tuple[Path, list[str], int]]:

@@ -10,7 +10,7 @@ from .names import likely, names
 from .operators import parts
 from .paths import is_workflow
 from .report import Fault
-from .repair import Case, Edit, Repair, first_entry, levels_of, next_entry, quoted, without_entry
+from .repair import Case, Edit, Found, Repair, first_entry, levels_of, next_entry, quoted, without_entry
 from .repairs_expressions import choice_by_call, expression_of, in_yaml, is_compared, is_operand, whole_chain
 from .syntax import table
 from .text import Point, Span
@@ -226,6 +226,8 @@ def declared_input(case: Case) -> Iterable[Repair]:
     if not chain or chain[0].lower() != "inputs" or case.tree is None:
         return
     name = case.arguments[0]
+    if any(is_slip for _, is_slip in likely(name, _properties_before(case))):
+        return
     ways = [("on", "workflow_dispatch"), ("on", "workflow_call")] if is_workflow(case.file) else [()]
     for way in ways:
         yield from _declaring(case, way, name, f'declare the input "{name}"')
@@ -295,8 +297,14 @@ def _input_for_secret(case: Case, chain: tuple[str, ...], span: Span) -> Iterabl
 
 def _passed_as_secret(case: Case) -> Iterable[Repair]:
     """A secret under `with` of a called workflow, moved to `secrets`."""
-    here, job = case.scalar, case.at("jobs", case.job) if case.job else None
-    if here is None or here.key is None or job is None or here.path[2:3] != ("with",) or len(here.path) != 4:
+    if case.scalar and case.job:
+        yield from as_secret(case, case.scalar)
+
+
+def as_secret(case: Case, here: Found) -> Iterable[Repair]:
+    """An entry of `with` of a called workflow, moved to `secrets`."""
+    job = case.at(*here.path[:2])
+    if here.key is None or job is None or here.path[2:3] != ("with",) or len(here.path) != 4:
         return
     secrets, text = job.get("secrets"), f"{here.key.value}: {case.slice(here.value.span)}"
     removed = without_entry(case, here.parent, here.key) if len(here.parent.entries) > 1 else without_entry(case, job, job.key("with"))
@@ -398,6 +406,8 @@ def declared_output(case: Case) -> Iterable[Repair]:
     if job is None:
         return
     name = case.arguments[0]
+    if any(is_slip for _, is_slip in likely(name, _properties_before(case))):
+        return
     callee = case.project.callee(job.text("uses"), True)
     if callee:
         yield from _declared_by(case, callee, name)

@@ -63,8 +63,11 @@ def near_listed(case: Case) -> Iterable[Repair]:
     known, wrong = _listed(case), case.arguments[0]
     found = likely(wrong, known)
     meant = OTHER_VALUES.get(wrong.lower())
+    if case.code == "G12" and wrong in INTERPRETERS:
+        return
     if meant in known and not any(is_slip for _, is_slip in found):
         yield in_its_quotes(case, str(meant))
+        return
     yield from (in_its_quotes(case, name, is_slip) for name, is_slip in found)
 
 
@@ -125,7 +128,7 @@ def schedule(case: Case) -> Iterable[Repair]:
     if len(fields) == 6:
         yield case.replace("delete the seconds", quoted(" ".join(fields[1:])), here.value.span, deletes=True)
         yield case.replace("delete the year", quoted(" ".join(fields[:5])), here.value.span, deletes=True)
-    if len(fields) < 4 or not any(sign.isdigit() or sign == "*" for sign in text) and text not in PRESETS:
+    if not 4 <= len(fields) <= 5 or not any(sign.isdigit() or sign == "*" for sign in text) and text not in PRESETS:
         return
     fields += ["*"] * (5 - len(fields))
     fields = [WORD_OF_CRON.sub(lambda match: match[0][:3].upper(), field) for field in fields]
@@ -308,7 +311,8 @@ def output_value(case: Case) -> Iterable[Repair]:
     value = "${{ steps.%s.outputs.%s }}" % (ids[-1], here.key.value) if ids else "''"
     title = 'add "value", ' + (f'from the step "{ids[-1]}"' if ids else "empty")
     if here.value.kind == "mapping" and here.value.entries:
-        yield case.of(title, next_entry(case, here.value, here.value.entries[-1][0].value, f"value: {value}"))
+        text = quoted(value) if ids and here.value.is_flow else value
+        yield case.of(title, next_entry(case, here.value, here.value.entries[-1][0].value, f"value: {text}"))
     else:
         text = quoted(value) if ids else value
         yield case.of(title, Edit(Span(here.key.span.end, here.value.span.end), ": {value: %s}" % text))

@@ -105,7 +105,12 @@ def _uses(case: Case, place: Place, name: str) -> list[Edit]:
         used = f"%{name}%"
     else:
         used = _in_bash(place, name, after) if place.shell in POSIX else None
-    return [] if used is None else [Edit(place.span, _in_style(used, place))]
+    if used is None:
+        return []
+    span = place.span
+    if used == f"'\"${name}\"'" and place.before.endswith("'") and after.startswith("'") and place.script.value.style != "'":
+        used, span = f'"${name}"', Span.on_line(span.start.line, span.start.column - 1, span.end.column + 1)
+    return [Edit(span, _in_style(used, place))]
 
 
 def _in_style(text: str, place: Place) -> str:
@@ -185,7 +190,7 @@ def _appended(match: re.Match, command: str, shell: str) -> str | None:
     if shell == "pwsh":
         return f"echo {quote}{text}{quote} >> $env:{file}"
     if shell == "powershell":
-        return f"{quote}{text}{quote} | Out-File -FilePath $env:{file} -Encoding utf8 -Append"
+        return f"echo {quote}{text}{quote} | Out-File -FilePath $env:{file} -Encoding utf8 -Append"
     if shell == "cmd":
         # a digit before `>>` would be the number of a stream
         return f"(echo {text})>>%{file}%" if text[-1:].isdigit() else f"echo {text}>>%{file}%"

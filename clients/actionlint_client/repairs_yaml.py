@@ -53,7 +53,7 @@ def _takes_texts(case: Case, span: Span) -> bool:
     shape = shape_at(case.file, place.path, (*place.around, {}))
     text = case.slice(span)
     is_text = shape is not None and not shape["items"] and not shape["free"] and "keys" not in shape and shape["scalars"] == "AnyScalar"
-    return is_text and place.path[-1:] not in (("if",), ("uses",)) and "?" not in text and not IS_PAIR.match(text)
+    return is_text and text[:1] not in ("|", ">") and place.path[-1:] not in (("if",), ("uses",)) and "?" not in text and not IS_PAIR.match(text)
 
 
 def as_schedule(case: Case) -> Iterable[Repair]:
@@ -190,6 +190,8 @@ def script_in_lines(case: Case) -> Iterable[Repair]:
         number -= 1
     line = case.outline.lines[number] if number >= 0 else None
     if line is None or not line.elements or line.elements[-1].name != "run" or not line.rest or line.rest[0] in "|>":
+        return
+    if case.outline.lines[case.span.start.line].elements:
         return
     indent = " " * (line.elements[-1].column + 2)
     last = case.span.start.line
