@@ -181,7 +181,7 @@ def what_is_left_alone(program: str) -> None:
 def modes_and_links(program: str) -> None:
     """A mode stays; a link isn't replaced, nor is what it leads to, and neither is a file in a linked folder."""
     link, linked = WORKFLOWS + "link.yml", "linked/action.yml"
-    action = FILES[ACTION].replace("node20", "node2O").replace("required: true", "required: false")
+    action = FILES[ACTION].replace("inputs:", "inpts:").replace("required: true", "required: false")
     caller = FILES[CALLED].replace("./a", "./linked")
     with new_folder({FILE: WRONG, "elsewhere/w.yml": WRONG, "actions/action.yml": action, CALLED: caller}) as folder:
         os.chmod(os.path.join(folder, FILE), 0o640)

@@ -87,7 +87,7 @@ def in_each_form(program: str) -> None:
     (one,) = (one for one in faults(program, str(TOP / "examples/broken")) if one["code"] == "X13")
     assert (one["fix"], one["fix_is_safe"]) == ('change to "version"', True), one
     said = {form: report(program, str(TOP / "examples/broken"), form) for form in ("text", "github", "codequality", "sarif", "oneline")}
-    assert '\n  Fix: change to "version"\n' in said["text"] and '\n  Guess: add "channel"\n' in said["text"]
+    assert '\n  Fix: change to "version"\n' in said["text"] and '\n  Guess: add "channel' in said["text"]
     assert '[expression]%0AFix: change to "version"%0A' in said["github"]
     bodies = [each["content"]["body"] for each in json.loads(said["codequality"])]
     assert bodies[3].startswith('Fix: change to "version"\n\nTo read'), bodies
@@ -109,7 +109,7 @@ def names_of_other_places(program: str) -> None:
             write(folder, {FILE: text})
             shown = report(program, folder, "text")
             assert "did you mean" not in shown and f'change to "{wrong}"' not in shown, shown
-            assert (right is None) == ("Fix: " not in shown) and (right is None or f'Fix: change to "{right}"\n' in shown), shown
+            assert (right is None) == ("change to" not in shown) and (right is None or f': change to "{right}"\n' in shown), shown
 
 
 @CASES.case

@@ -51,7 +51,7 @@ BROKEN = """.github/workflows/release.yml:4:5: unexpected key "branch" [syntax-c
 .github/workflows/release.yml:21:15: required input "channel" of "Announce" is missing [action, C3]
   21 |       - uses: ./announce
      |               ^~~~~~~~~~
-  Guess: add "channel"
+  Guess: add "channel: ''"
   Set the input under `with`, or give it a `default` in the called file if it can be left out.
 
 5 faults in 1 file
