@@ -32,39 +32,42 @@ OF_A_MERGE = re.compile(r"<<<<<<<|=======|>>>>>>>")
 class FirstFixes:
     """The fixes for the files on disk, each tried as in the language server."""
 
-    def __init__(self, program: str, root: str | None):
+    def __init__(self, program: str, root: str | None, files: Iterable[str]):
+        """`files` are those that were named, which the server would have open."""
         # Reports without fixes need no PyYAML.
         from .actions_on_disk import actions_below
         from .files import Files
         from .project import Project
 
         folder = os.fsencode(root or ".")
-        self._program, self._left = program, MAX_TRIED
+        self._program, self._left, self._named = program, MAX_TRIED, files
         self._files = Files(folder, lambda _: None, False)
-        self._is_read = False
         self._project = Project(self._files.read, lambda: list(self._files.wanted), lambda: actions_below(folder))
 
     def add_to(self, problems: Iterable[Problem]) -> Iterator[Problem]:
         """The same problems, the first ones of each file with the first fix that would be offered."""
         from .fixes import MAX_FAULTS
 
+        is_read = False
         for path, of_file in groupby(problems, key=lambda problem: problem.fault.path):
             first = list(islice(of_file, min(MAX_FAULTS, self._left)))
             self._left -= len(first)
+            if first and not is_read:
+                is_read = True
+                self._read_files()
             found = self._first_fixes(path, [problem.fault for problem in first]) if first else {}
             yield from chain((replace(problem, fix=found.get(problem.fault)) for problem in first), of_file)
+
+    def _read_files(self) -> None:
+        for path in self._named:
+            data = self._files.read(path.removeprefix("./"))
+            if data is not None:
+                self._files.edit(path.removeprefix("./"), data)
+        self._files.update()
 
     def _first_fixes(self, path: str, faults: list[Fault]) -> dict[Fault, Repair]:
         from .fixes import fixes
 
-        if not self._is_read:
-            self._is_read = True
-            self._files.update()
-        data = self._files.read(path)
-        if data is not None and path not in self._files.wanted:
-            # A file that is linted since it was named: the server would have it open.
-            self._files.edit(path, data)
-            self._files.update()
         found: dict[Fault, Repair] = {}
         try:
             for fix in fixes([self._program], SECONDS_OF_AN_ANSWER, self._project, faults, seconds=SECONDS_OF_A_FILE):

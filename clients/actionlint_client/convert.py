@@ -155,7 +155,8 @@ def _write(options: argparse.Namespace, ignored: Ignored, out: BinaryIO, snippet
 def _problems(options: argparse.Namespace, run: LintRun) -> Iterable[Problem]:
     """The faults of a run, with fixes if they are to be shown."""
     problems = (problem_of(reported.fault, reported.snippet) for reported in run)
-    return FirstFixes(options.program, options.root).add_to(problems) if options.shows_fixes else problems
+    named = list(map(path_of_word, options.files))
+    return FirstFixes(options.program, options.root, named).add_to(problems) if options.shows_fixes else problems
 
 
 def _tell(problem: Problem, form: Form, ignored: Ignored, outcome: Outcome) -> None:

@@ -154,6 +154,9 @@ def guesses(program: str) -> None:
         assert contents(folder)[CALLED].decode() == FILES[CALLED]
         assert report(program, folder, "--fix", "--guesses", "--form", "oneline") == (0, b"", [f"{CALLED}: fixed"])
         assert contents(folder)[CALLED].decode() == given and contents(folder)[ACTION].decode() == FILES[ACTION]
+        write(folder, {CALLED: FILES[CALLED].replace("\n", "\r\n")})
+        assert report(program, folder, "--fix", "--guesses", "--form", "oneline") == (0, b"", [f"{CALLED}: fixed"])
+        assert contents(folder)[CALLED].decode() == given.replace("\n", "\r\n")
 
 
 @CASES.case
@@ -285,7 +288,8 @@ def fixes_that_never_end(program: str) -> None:
     """Fixes that leave as many faults as before are given up, and the text is what it was."""
     text = "on: push\njobs: {}\nk0: 1\n"
     with new_folder({FILE: text}) as folder:
-        to = {f'unexpected key "k{number}"': [replacing(2, 0, 2, f"k{1 - number}")] for number in (0, 1)}
+        # (of 100 rounds, the last one wouldn't lead back to the first text)
+        to = {f'unexpected key "k{number}"': [replacing(2, 0, 2, f"k{(number + 1) % 7}")] for number in range(7)}
         assert changes(program, folder, to) == {}
 
 

@@ -10,10 +10,16 @@ import os
 import subprocess
 import sys
 import tempfile
+from unittest import mock
 
 from cases import Cases
 from editor import Editor
 from repositories import CLIENTS, FILE, FILES, TOP, WORKFLOWS, reported, write
+
+from actionlint_client import fixes
+from actionlint_client.advice import FirstFixes
+from actionlint_client.problems import problem_of
+from actionlint_client.report import Fault
 
 CASES = Cases("first-fixes")
 REPORT = str(CLIENTS / "actionlint-report")
@@ -132,10 +138,37 @@ def an_edit_of_sarif(program: str) -> None:
 
 @CASES.case
 def files_that_are_named(program: str) -> None:
-    """An action that nothing calls has fixes too."""
+    """An action that nothing calls has fixes too, but none that breaks a named file, which no workflow calls."""
+    broken = "name: A\ndescription: d\ninpts: {who: {required: true}}\nruns: {using: node20, main: m.js}\n"
+    caller = "name: A\ndescription: d\nruns: {using: composite, steps: [{uses: ./y}]}\n"
     with tempfile.TemporaryDirectory(prefix="actionlint-test-") as folder:
         write(folder, {"x/action.yml": "name: A\ndescription: d\ninput: {}\nruns: {using: node20, main: m.js}\n"})
         assert [one["fix"] for one in faults(program, folder, "--", "x/action.yml")] == ['change to "inputs"']
+        write(folder, {"x/action.yml": caller, "y/action.yml": broken})
+        assert [one["fix"] for one in faults(program, folder, "--", "y/action.yml")] == ['change to "inputs"']
+        (one,) = faults(program, folder, "--", "./x/action.yml")
+        assert one["path"] == "y/action.yml" and one["fix"] != 'change to "inputs"', one
+
+
+@CASES.case
+def a_new_file(program: str) -> None:
+    """SARIF can't say that a file is made, so it has no such fix; nor is one made by --fix."""
+    with tempfile.TemporaryDirectory(prefix="actionlint-test-") as folder:
+        write(folder, {FILE: ON + "jobs: {a: {uses: ./.github/workflows/zz.yml}}\n"})
+        (one,) = faults(program, folder)
+        assert one["fix"] == 'create the file ".github/workflows/zz.yml"' and not one["fix_is_safe"], one
+        assert "fixes" not in json.loads(report(program, folder, "sarif"))["runs"][0]["results"][0]
+        report(program, folder, "text", "--fix", "--guesses")
+        assert os.listdir(folder + "/.github/workflows") == ["a.yml"]
+
+
+@CASES.case
+def a_repair_that_fails(program: str) -> None:
+    """The faults are reported without fixes."""
+    with tempfile.TemporaryDirectory(prefix="actionlint-test-") as folder, mock.patch.object(fixes, "fixes", side_effect=KeyError("x")):
+        write(folder, {FILE: FILES[FILE]})
+        problem = problem_of(Fault(FILE, 6, 30, 'property "reff" is not defined', "expression", 4))
+        assert list(FirstFixes(program, folder, []).add_to([problem])) == [problem]
 
 
 @CASES.case

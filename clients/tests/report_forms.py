@@ -107,6 +107,8 @@ ADVICE = {
     "on:\njobs: {}\n": "K5: `on` needs an event.",
     "on: {push: {paths: [./src]}}\njobs: {}\n": "G3: Paths begin at the repository's root, without `./` in front.",
     "on: {push: {branches: ['a b']}}\njobs: {}\n": "G3: Write the pattern as in GitHub's cheat sheet: `*` matches any text without a slash,",
+    "name: x\njobs: {}\n": "K2: Add the key to the mapping that begins at this place.",
+    STEP + "run: echo ${{ MATRIX.os }}\n": "X13: `matrix` has only the rows of the job's own matrix and what `include` adds",
     STEP + "name: x\n": "K2: A step needs `run` or `uses`.",
     "on: push\njobs: {a: {steps: []}}\n": "K2: Add the key to the mapping that begins at this place.",
 }
