@@ -13,6 +13,7 @@ import stat
 import subprocess
 import sys
 import tempfile
+from dataclasses import replace
 from pathlib import Path
 from unittest import mock
 
@@ -135,6 +136,7 @@ def patches_by_chance(_: str) -> None:
         lines = [chance.choice(("a", "b", "c", "")) + chance.choice(("\n", "\n", "\n", "\r\n")) for _ in range(chance.randrange(40))]
         changed = [one for line in lines for one in chance.choice(([line],) * 12 + ([], ["x\n"], [line, "y\n"]))]
         before[f"{number} x"], after[f"{number} x"] = ("".join(some)[:chance.choice((None, None, -1))].encode() for some in (lines, changed))
+    assert unified_diff("x", b"", b"a\n") == b"--- a/x\t\n+++ b/x\t\n@@ -0,0 +1,1 @@\n+a\n"
     long = [b"%d\n" % (number % 9) for number in range(3 * MAX_COMPARED_LINES)]
     before["long"], after["long"] = b"".join(long), b"first\n" + b"".join(long[1:-1]) + b"last"
     patch = b"".join(unified_diff(path, data, after[path]) for path, data in before.items())
@@ -275,12 +277,23 @@ def fixes_that_do_not_go_together(program: str) -> None:
 
 @CASES.case
 def fixes_that_touch(program: str) -> None:
-    """Of two that change the same text, one is taken in the first round, and the other by the text of the second."""
-    text = "on: push\nname: ${{ github.reff }}${{ github.reff }}\njobs: {}\nkey: 1\n"
+    """Of two that change the same text, one is taken in the first round, and the other, as its places are then, in the second."""
+    text = "on: push\nname: ${{ github.reff }}\njobs: {}\nkey: 1\n"
     with new_folder({FILE: text}) as folder:
-        whole = Repair("", {FILE: (Edit(Span.on_line(1, 6, len(text.split(chr(10))[1])), "x"),)})
-        found = changes(program, folder, {'property "reff" is not defined': [whole], 'unexpected key "key"': [replacing(3, 0, 6, "#")]})
-        assert found == {FILE: "on: push\nname: x\njobs: {}\n#\n"}, found
+        first = replacing(1, 6, 24, "x")
+        second = Repair("", {FILE: (Edit(Span.on_line(3, 0, 6), "#"), Edit(Span.on_line(1, 7, 7), "y"))})
+        found = changes(program, folder, {'property "reff" is not defined': [first], 'unexpected key "key"': [second]})
+        assert found == {FILE: "on: push\nname: xy\njobs: {}\n#\n"}, found
+
+
+@CASES.case
+def what_a_safe_fix_repairs(program: str) -> None:
+    """It isn't guessed at the same time."""
+    text = "on: push\njobs: {}\nenv: {A: '${{ github.reff }} ${{ github.shaa }}'}\n"
+    with new_folder({FILE: text}) as folder:
+        guess, safe = replacing(0, 8, 8, " # guess"), replace(replacing(2, 5, 46, "{}"), is_safe=True)
+        found = changes(program, folder, {'property "reff" is not defined': [guess], 'property "shaa" is not defined': [safe]})
+        assert found == {FILE: "on: push\njobs: {}\nenv: {}\n"}, found
 
 
 @CASES.case

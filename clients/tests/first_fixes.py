@@ -95,7 +95,7 @@ def in_each_form(program: str) -> None:
     said = {form: report(program, str(TOP / "examples/broken"), form) for form in ("text", "github", "codequality", "sarif", "oneline")}
     assert '\n  Fix: change to "version"\n' in said["text"] and '\n  Guess: add "channel' in said["text"]
     assert '[expression]%0AFix: change to "version"%0A' in said["github"]
-    bodies = [each["content"]["body"] for each in json.loads(said["codequality"])]
+    bodies = [each.get("content", {}).get("body", "") for each in json.loads(said["codequality"])]
     assert bodies[3].startswith('Fix: change to "version"\n\nTo read'), bodies
     results = json.loads(said["sarif"])["runs"][0]["results"]
     (fix,) = results[3]["fixes"]
@@ -165,7 +165,7 @@ def a_new_file(program: str) -> None:
 @CASES.case
 def a_repair_that_fails(program: str) -> None:
     """The faults are reported without fixes."""
-    with tempfile.TemporaryDirectory(prefix="actionlint-test-") as folder, mock.patch.object(fixes, "fixes", side_effect=KeyError("x")):
+    with tempfile.TemporaryDirectory(prefix="actionlint-test-") as folder, mock.patch.object(fixes, "fixes", side_effect=AssertionError("x")):
         write(folder, {FILE: FILES[FILE]})
         problem = problem_of(Fault(FILE, 6, 30, 'property "reff" is not defined', "expression", 4))
         assert list(FirstFixes(program, folder, []).add_to([problem])) == [problem]

@@ -64,6 +64,7 @@ ADVICE = {
     "on: push\njobs:\n  a:\n    if: !cancelled()\n": "Y8: Text that begins with `!` needs quotes, such as a pattern",
     "on: push\nname: {x} y\n": "Y13: Text that begins with `[`, `{`, `*`, `@`, `%` or a backtick, or contains `: `, needs quotes, and",
     "on:\n  push:\n    branches:\n      - *\n": "Y13: Text that begins with `[`, `{`, `*`, `@`, `%` or a backtick, or contains `: `, needs",
+    "on: push\nname: a: b\n": "Y13: Text that begins with `[`, `{`, `*`, `@`, `%` or a backtick, or contains `: `, needs quotes, and",
     "on: push\nname: a\n  b: c\n": "Y13: If the place is the colon of a key, look at the line above: its colon has no space after it, or it",
     "on: push\njobs:\n  a:\n    runs-on:x\n    steps:\n": "Y13: If the place is the colon of a key, look at the line above: its colon",
     "on: push\nname: 'a\njobs: {}\nenv: {A: 'b'}\n": "Y13: Text that begins with `[`, `{`, `*`, `@`, `%` or a backtick, or contains",
@@ -141,12 +142,15 @@ def text(program: str) -> None:
 def advice(program: str) -> None:
     """For the most common mistakes, the text below the fault's line is the sentence that helps."""
     with tempfile.TemporaryDirectory(prefix="actionlint-test-") as folder:
-        for file, expected in ADVICE.items():
-            write(folder, {FILE: file})
-            paragraphs = run(program, folder, "--form", "text")[1].split("\n\n")[:-1]
-            found = [f"{lines[0].rpartition(', ')[2][:-1]}: " + " ".join(line.strip() for line in lines[3:] if not IS_FIX.match(line))
-                     for lines in (one.splitlines() for one in paragraphs)]
-            assert any(one.startswith(expected) for one in found), (file, expected, found)
+        write(folder, {f"{WORKFLOWS}{number}.yml": file for number, file in enumerate(ADVICE)})
+        found: dict[str, list[str]] = {}
+        for paragraph in run(program, folder, "--form", "text")[1].split("\n\n")[:-1]:
+            head, *lines = paragraph.splitlines()
+            said = " ".join(line.strip() for line in lines[2:] if not IS_FIX.match(line))
+            found.setdefault(head.partition(":")[0], []).append(f"{head.rpartition(', ')[2][:-1]}: {said}")
+        for number, (file, expected) in enumerate(ADVICE.items()):
+            of_file = found.get(f"{WORKFLOWS}{number}.yml", [])
+            assert any(one.startswith(expected) for one in of_file), (file, expected, of_file)
 
 
 @CASES.case
