@@ -289,9 +289,9 @@ def fixes_that_touch(program: str) -> None:
 @CASES.case
 def what_a_safe_fix_repairs(program: str) -> None:
     """It isn't guessed at the same time."""
-    text = "on: push\njobs: {}\nenv: {A: '${{ github.reff }} ${{ github.shaa }}'}\n"
-    with new_folder({FILE: text}) as folder:
-        guess, safe = replacing(0, 8, 8, " # guess"), replace(replacing(2, 5, 46, "{}"), is_safe=True)
+    both = "{A: '${{ github.reff }} ${{ github.shaa }}'}"
+    with new_folder({FILE: f"on: push\njobs: {{}}\nenv: {both}\n"}) as folder:
+        guess, safe = replacing(0, 8, 8, " # guess"), replace(replacing(2, 5, 5 + len(both), "{}"), is_safe=True)
         found = changes(program, folder, {'property "reff" is not defined': [guess], 'property "shaa" is not defined': [safe]})
         assert found == {FILE: "on: push\njobs: {}\nenv: {}\n"}, found
 
