@@ -9,11 +9,12 @@ import tempfile
 from case_files import Case, WrongCases, files_in, read_cases, read_file, write_cases
 
 # what a text may hold that a file of cases writes otherwise
-PIECES = [b"a", b" ", b"\t", b"\n", b"\r", b"\x00", b"\x7f", b"\xff", b"\\", b"\\n", b"\\x41", b"}", b"{3:a}", b"\\{3:a}", b"== a\n",
-          b"-- input\n", b"\n-- output\n", b"\xc3\xa9", b"\xe2\x80\xa8", b"\xef\xbb\xbf", b"status 1\n", b"ab" * 1_500, b"x}\n" * 900,
-          b"\xc3\xa9" * 1_200]
+PIECES = [b"a", b" ", b"\t", b"\n", b"\r", b"\x00", b"\x7f", b"\xff", b"\\", b"\\n", b"\\x41", b"}", b"{3:a}", b"\\{3:a}",
+          b"== a\n", b"-- input\n", b"\n-- output\n", b"\xc3\xa9", b"\xe2\x80\xa8", b"\xef\xbb\xbf", b"status 1\n", b"ab" * 1_500,
+          b"x}\n" * 900, b"\xc3\xa9" * 1_200]
 WRONG_FILES = ["-- input\n", "== a\nx\n-- input\n-- output\n", "== a\n-- input\n", "== a\n-- input\n-- output, escaped\n\\y\n",
-               "== a\n-- input\n-- input\n-- output\n", "== a\n-- input\n-- output\n== a\n-- input\n-- output\n", "== a\n-- inputs\n-- output\n"]
+               "== a\n-- input\n-- input\n-- output\n", "== a\n-- input\n-- output\n== a\n-- input\n-- output\n",
+               "== a\n-- inputs\n-- output\n"]
 
 
 def copies(path):
