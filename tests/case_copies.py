@@ -14,7 +14,7 @@ PIECES = [b"a", b" ", b"\t", b"\n", b"\r", b"\x00", b"\x7f", b"\xff", b"\\", b"\
           b"x}\n" * 900, b"\xc3\xa9" * 1_200]
 WRONG_FILES = ["-- input\n", "== a\nx\n-- input\n-- output\n", "== a\n-- input\n", "== a\n-- input\n-- output, escaped\n\\y\n",
                "== a\n-- input\n-- input\n-- output\n", "== a\n-- input\n-- output\n== a\n-- input\n-- output\n",
-               "== a\n-- inputs\n-- output\n"]
+               "== a\n-- inputs\n-- output\n", "== a\n-- input\n-- output\n-- more\n"]
 
 
 def copies(path):
