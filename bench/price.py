@@ -2,8 +2,9 @@
 
 CHANGEs, by default all, are the names of files in bench/changes. For each the change is made in a copy of the repository, and the kit's
 gate runs there (`rt ci`): on a machine that has proved the sources as they are, it proves only what changed and the crates above it, tries
-their edits, and builds and runs all tests and programs. Prints for each change how many crates were proved again, the processor minutes, and the
-minutes on at most four processors until the program was built and the tests had passed. --check only looks whether each change can be made.
+their edits, and builds and runs all tests and programs. Prints for each change how many crates were proved again, the processor minutes,
+and the minutes on at most four processors until the program was built and the tests had passed. --check only looks whether each change can
+be made.
 
 A change is a list of replacements, each of three parts: a pattern of paths, a text that occurs once in the files of those paths (`all:` if
 more often), and its new lines. Files that change get a comment with the time, since what was once proved is never proved again.

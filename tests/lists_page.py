@@ -1,6 +1,7 @@
 """Compares the tables of docs/LISTS.md with the definitions, or writes them: lists_page.py TOP [--write].
 
-Each list is a table of the page, found by its header. clients/make_tables.py reads the definitions with the same functions.
+Each list is a table of the page, found by its header. clients/make_tables.py reads the definitions with the same functions. Numbers that
+other pages say in words are those of the definitions too.
 """
 
 import itertools
@@ -52,6 +53,14 @@ WANTED = {
 FUNCTION = re.compile(r'^function_name function\.(\w+) = codes "(\w+)"', re.MULTILINE)
 SIGNATURE = re.compile(r"^signature function\.(\w+) = giving \(?(\w+)((?: wants\.\w+)*)\)? returns\.(\w+)$", re.MULTILINE)
 PARAMETERS = {"Zero": "", "One": "{0}", "Two": "{0}, {1}", "OneOrTwo": "{0}, optional {1}", "OneOrMore": "{0}, {1}.."}
+# Numbers in words, and where pages say one: the page, the words around it and what it counts.
+NUMBERS = ("zero one two three four five six seven eight nine ten eleven twelve thirteen fourteen fifteen sixteen seventeen eighteen "
+           "nineteen twenty").split()
+COUNTED = (
+    ("README.md", r"activity types of all but (\w+) events", "events"),
+    ("README.md", r"a function outside \[its (\w+)\]", "functions"),
+    ("docs/FAULTS-EXPRESSIONS.md", r"beyond these (\w+) are reported", "functions"),
+)
 # What each limit counts, and the code of the fault or refusal beyond it.
 LIMITED = {
     "largest_file": ("bytes of a file", "E3"),
@@ -318,7 +327,20 @@ def lists(crates):
     return [*first, takes, untrusted(crates), limits(crates)]
 
 
+def wrong_numbers(top):
+    """Where a page says another number in words than the definitions have."""
+    counts = {"events": sum(map(bool, activity_types(top / "crates").values())), "functions": len(functions(top / "crates"))}
+    for page, words, what in COUNTED:
+        found = re.search(words.replace(" ", r"\s+"), (top / page).read_text())
+        if not found or NUMBERS[counts[what]] != found[1]:
+            said = f"says {found[1]!r}" if found else f"doesn't say {words!r}"
+            yield f"{page} {said}, and the definitions have {counts[what]} {what}"
+
+
 def main(folder, *write):
+    wrong = [*wrong_numbers(pathlib.Path(folder))]
+    if wrong:
+        sys.exit("\n".join(wrong))
     path = pathlib.Path(folder) / "docs" / "LISTS.md"
     text = path.read_text()
     for table in lists(pathlib.Path(folder) / "crates"):

@@ -1,7 +1,8 @@
 """Compares the pages with the sources: pages.py TOP [--write]. `--write` first rewrites what follows from the sources.
 
 Runs fault_pages.py, links.py, each NAME_page.py of this folder that doesn't need the built program, tidy.py and case_copies.py, and looks
-whether the changes of bench/changes can be made; those that can write have `--write` in their first line. Prints a line for each, and what is wrong. The status is 0 if all were as expected.
+whether the changes of bench/changes can be made; those that can write have `--write` in their first line. Prints a line for each, and what
+is wrong. The status is 0 if all were as expected.
 """
 
 import pathlib

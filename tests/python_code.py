@@ -1,4 +1,4 @@
-"""Checks the Python of tests/, tools/ and bench/ by flake8 (.flake8) and mypy (mypy.ini): python_code.py TOP.
+"""Checks the Python of tests/, tools/ and bench/ by flake8 and mypy, as setup.cfg says: python_code.py TOP.
 
 Prints a line for each; what isn't installed is skipped.
 """

@@ -118,7 +118,9 @@ class Runner:
     def __init__(self) -> None:
         self.child: subprocess.Popen[bytes] | None = None
         for number in SIGNALS:
-            signal.signal(number, self.end)
+            # (nohup has one ignored)
+            if signal.getsignal(number) != signal.SIG_IGN:
+                signal.signal(number, self.end)
 
     def end(self, number: int, _: object) -> None:
         """Passes a signal on to the command and its processes, waits for it, and ends this program."""
