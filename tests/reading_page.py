@@ -193,15 +193,15 @@ class Page:
             yield f"| {number} | {promise} | {letters or 'the contract of each function'} |"
 
     def theorems(self):
-        yield "| | Theorem | Contracts | Definitions | Their lines | Modules |"
-        yield "|---|---|---|--:|--:|--:|"
+        yield "| | Theorem | Contracts | Definitions | Their lines | Modules | Hours |"
+        yield "|---|---|---|--:|--:|--:|--:|"
         for theorem in THEOREMS:
             found = self.found[theorem.letter]
             modules = len({module for module, _ in found})
             places = "; ".join(map(place, theorem.contracts))
-            yield f"| {theorem.letter} | {theorem.what} | {places} | {len(found)} | {lines_of(found):,} | {modules} |"
+            yield f"| {theorem.letter} | {theorem.what} | {places} | {len(found)} | {lines_of(found):,} | {modules} | {hours(found)} |"
         every = set().union(*self.found.values())
-        yield (f"| | all of these | | {len(every)} | {lines_of(every):,} | {len(self.items)} |")
+        yield f"| | all of these | | {len(every)} | {lines_of(every):,} | {len(self.items)} | {hours(every)} |"
 
     def faults(self):
         """The definitions of the program's theorems that name a fault code, file by file."""
@@ -312,9 +312,9 @@ def place(contracts):
     return f"{names} (`{contracts.crate}/src/{contracts.file}`)"
 
 
-def hours(lines):
-    """How long it takes to read so many lines."""
-    return f"{lines // FAST} to {lines // SLOW} hours"
+def hours(found):
+    """How many hours it takes to read some definitions."""
+    return f"{-(-lines_of(found) // FAST)} to {-(-lines_of(found) // SLOW)}"
 
 
 def unexplained(head, found):
@@ -325,9 +325,6 @@ def unexplained(head, found):
         yield f"{PAGE} doesn't say what these words of libraries mean: {' '.join(missing)}"
     if missing := sorted(set(found.notation()) - explained):
         yield f"{PAGE} doesn't say what this notation means: {' '.join(missing)}"
-    for letters, lines in (("all", set().union(*found.found.values())), ("F", found.found["F"])):
-        if hours(lines_of(lines)) not in head:
-            yield f"{PAGE} doesn't say that {letters} takes {hours(lines_of(lines))}"
 
 
 def unneeded(head, found):

@@ -1,5 +1,5 @@
-//! The texts of workflows and actions that have expressions, each with its place: which contexts and functions are
-//! available there, and where it is.
+//! The texts of workflows and actions that have expressions, each with its place: which contexts
+//! and functions are available there, and where it is.
 #![tactic(auto)]
 
 mod laws;

@@ -5,7 +5,8 @@ use Rattle.al_expr_names.specs.contracts.names.ContextPartialEq.TheImpl as conte
 use Rattle.al_expr_names.specs.contracts.names.FunctionPartialEq.TheImpl as functions
 use Rattle.al_expr_names.specs.declared.names.Context.{Context}
 use Rattle.al_expr_names.specs.declared.names.Function.{Function}
-use Rattle.al_expr_names.specs.declared.names.Function.TheVariants.{Always, Cancelled, Failure, HashFiles, Success}
+use Rattle.al_expr_names.specs.declared.names.Function.TheVariants.{Always, Cancelled, Failure}
+use Rattle.al_expr_names.specs.declared.names.Function.TheVariants.{HashFiles, Success}
 use Rattle.al_expr_names.specs.declared.scope.Available as code
 use Rattle.al_types.specs.Types.{Type'}
 

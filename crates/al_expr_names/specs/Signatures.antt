@@ -5,11 +5,13 @@ use Rattle.al_expr_names.specs.declared.names.Function.TheVariants as function
 use Rattle.al_expr_names.specs.declared.signatures.Wanted.{Wanted}
 use Rattle.al_expr_names.specs.declared.signatures.Wanted.TheVariants as wants
 use Rattle.al_expr_names.specs.declared.signatures.Parameters.{Parameters}
-use Rattle.al_expr_names.specs.declared.signatures.Parameters.TheVariants.{Zero, One, Two, OneOrTwo, OneOrMore}
+use Rattle.al_expr_names.specs.declared.signatures.Parameters.TheVariants.{Zero, One, Two, OneOrTwo}
+use Rattle.al_expr_names.specs.declared.signatures.Parameters.TheVariants.{OneOrMore}
 use Rattle.al_expr_names.specs.declared.signatures.Returned.{Returned}
 use Rattle.al_expr_names.specs.declared.signatures.Returned.TheVariants as returns
 use Rattle.al_expr_names.specs.declared.signatures.Signature.{Signature}
-use Rattle.al_types.specs.Types.{Type', Any, Bool', String, assignable_type, is_array, is_object, is_collection}
+use Rattle.al_types.specs.Types.{Type', Any, Bool', String, assignable_type, is_array, is_object}
+use Rattle.al_types.specs.Types.{is_collection}
 
 abbrev pub giving : Parameters → Returned → Signature
 giving ps r = record { parameters = ps; returned = r }

@@ -1,4 +1,5 @@
-//! The names of contexts and functions, what a place makes available, and what functions take and return.
+//! The names of contexts and functions, what a place makes available, and what functions take and
+//! return.
 #![tactic(auto)]
 
 mod names;

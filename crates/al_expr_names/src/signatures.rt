@@ -47,7 +47,8 @@ pub struct Signature {
     pub returned: Returned,
 }
 
-/// The signature of the function with a name, ignoring ASCII case; `None` if there is no such function.
+/// The signature of the function with a name, ignoring ASCII case; `None` if there is no such
+/// function.
 pub fn signature_of(name: &str) -> Option<Signature>
     ensures { result ≡ option_map signature (function_of name.now) }
 {

@@ -14,9 +14,11 @@ pub record Meaning (I : Type 0) : Type 0 where
   pub calls : List ℕ → List ℕ → List Target
   -- the interface that callers of a file see, by its path and bytes
   pub interface : List ℕ → List ℕ → I
-  -- the faults of a file in order, each once, by its path, its bytes and the answer of each of its calls
+  -- the faults of a file in order, each once, by its path, its bytes and the answer of each of its
+  -- calls
   pub faults : List ℕ → List ℕ → List (Option I) → List Fault
-  -- the fault of each call of a file, to be reported if the call is on a call cycle, in order, by its path and bytes
+  -- the fault of each call of a file, to be reported if the call is on a call cycle, in order, by
+  -- its path and bytes
   pub sites : List ℕ → List ℕ → List Fault
 
 -- the candidates of a call, in order
@@ -28,7 +30,8 @@ candidates (FirstOf p q) = p ∷ q ∷ []
 abbrev pub is_candidate : List Target → List ℕ → Bool
 is_candidate ts c = list_any (λ t. list_any (bytes_eq c) (candidates t)) ts
 
--- Answers of a folder's calls, one for each in order: calls with the same target have the same answer.
+-- Answers of a folder's calls, one for each in order: calls with the same target have the same
+-- answer.
 pub record AreAnswers {I : Type 0} (targets : List Target) (given : List (Option I)) : Type 0 where
   pub answer : Target → Option I
   pub are : given ≡ map answer targets

@@ -1,6 +1,7 @@
 //! What a session requires of a linter, and why an edit of the folder is refused.
 
-ghost use Rattle.std.specs.Prelude.{◌≡◌, ℕ, ◌≤◌, ◌<◌, List, Option, Some, length, map, slice_get, true, IfOk};
+ghost use Rattle.std.specs.Prelude.{◌≡◌, ℕ, ◌≤◌, ◌<◌, List, Option, Some, length, map, slice_get};
+ghost use Rattle.std.specs.Prelude.{true, IfOk};
 ghost use Rattle.std.specs.Option.{option_copied};
 ghost use Rattle.std.specs.List.{AllByRecursion};
 ghost use Rattle.std.specs.List.Sorted.{IsStrictlySortedBy};
@@ -79,8 +80,9 @@ pub enum Refused {
 
 /// A linter of files that may call one another.
 ///
-/// Its [`Unit`](Lint::Unit) is the result of reading a file, its [`Iface`](Lint::Iface) the interface that callers of
-/// a file see. The faults of a file depend only on its path, its bytes and the interfaces that answer its calls.
+/// Its [`Unit`](Lint::Unit) is the result of reading a file, its [`Iface`](Lint::Iface) the
+/// interface that callers of a file see. The faults of a file depend only on its path, its bytes
+/// and the interfaces that answer its calls.
 pub trait Lint: Drop {
     /// A file that was read.
     type Unit: Drop;
@@ -88,8 +90,8 @@ pub trait Lint: Drop {
     /// What a file offers to its callers.
     type Iface: Eq + Drop;
 
-    /// What this linter computes: which paths it accepts, and the calls, interface and faults of a file. It is the
-    /// same for every value of the linter.
+    /// What this linter computes: which paths it accepts, and the calls, interface and faults of a
+    /// file. It is the same for every value of the linter.
     ghost meaning: { Meaning Self.Iface };
 
     /// Whether a unit is the result of reading the file with this path and these bytes.
@@ -122,9 +124,10 @@ pub trait Lint: Drop {
         ensures { (b : List ℕ) → is_unit unit.now path.now b
             → IfOk result (λ ts. ts.items ≡ meaning.calls path.now b) };
 
-    /// The faults of a file in the order of reports, each once. The answers are those of its calls, in order: the
-    /// interface of the file that answers, or `None` if no candidate is in the folder. Calls with the same candidates
-    /// have the same answer. Counts as one check, even if it fails.
+    /// The faults of a file in the order of reports, each once. The answers are those of its calls,
+    /// in order: the interface of the file that answers, or `None` if no candidate is in the
+    /// folder. Calls with the same candidates have the same answer. Counts as one check, even if it
+    /// fails.
     fn check(
         &mut self,
         alloc: Global,
@@ -142,7 +145,8 @@ pub trait Lint: Drop {
         ensures checks { checks_of self.new ≡ count_after (checks_of self.old) 1 }
         ensures reads { reads_of self.new ≡ reads_of self.old };
 
-    /// The site of a call, by its number in the order of [`calls`](Lint::calls), from 0. Doesn't allocate.
+    /// The site of a call, by its number in the order of [`calls`](Lint::calls), from 0. Doesn't
+    /// allocate.
     fn site<'a>(&self, unit: &'a Self::Unit, call: usize) -> Site<'a>
         requires { (p : List ℕ) × (b : List ℕ) × is_unit unit.now p b
             × (call < length (meaning.calls p b)) }
@@ -160,7 +164,8 @@ pub trait Lint: Drop {
     /// Interfaces that compare equal are equal.
     ghost exact: { (a b : Self.Iface) → Self.Iface.eq a b ≡ true → a ≡ b };
 
-    /// Each fault of a file lies in the file, for every path, all bytes that a file can have, and all answers.
+    /// Each fault of a file lies in the file, for every path, all bytes that a file can have, and
+    /// all answers.
     ghost inside: { (p b : List ℕ) (given : List (Option Self.Iface)) → length b ≤ largest_file →
         AllByRecursion (λ fault. LiesIn (length b) fault.span) (meaning.faults p b given) };
 
@@ -171,7 +176,8 @@ pub trait Lint: Drop {
     ghost sites_inside: { (p b : List ℕ) → length b ≤ largest_file →
         AllByRecursion (λ site. LiesIn (length b) site.span) (meaning.sites p b) };
 
-    /// The faults of a file are in the order of reports, each once, for every path, all bytes and all answers.
+    /// The faults of a file are in the order of reports, each once, for every path, all bytes and
+    /// all answers.
     ghost ordered: { (p b : List ℕ) (given : List (Option Self.Iface)) →
         IsStrictlySortedBy fault_cmp (meaning.faults p b given) };
 }

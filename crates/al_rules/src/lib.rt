@@ -1,5 +1,5 @@
-//! Rules of workflows and actions that depend on a single file, including those for the value of `on`: events, activity
-//! types, filters, schedules, and the types of inputs.
+//! Rules of workflows and actions that depend on a single file, including those for the value of
+//! `on`: events, activity types, filters, schedules, and the types of inputs.
 #![tactic(auto)]
 
 mod actions;

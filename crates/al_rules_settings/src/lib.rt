@@ -1,5 +1,6 @@
-//! The rules of single settings, wherever they are: ids, matrices, shells, permissions, environment variables, passwords, scripts and
-//! conditions. Also how rules report faults that name a text of the file.
+//! The rules of single settings, wherever they are: ids, matrices, shells, permissions, environment
+//! variables, passwords, scripts and conditions. Also how rules report faults that name a text of
+//! the file.
 #![tactic(auto)]
 
 mod commands;

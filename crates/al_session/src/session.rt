@@ -26,6 +26,7 @@ use crate::calls::{find_graph, linked_files};
 use crate::edit::{put_file, remove_file};
 use crate::indexed::IndexedFiles;
 use crate::refused::{delete_refused, put_refused};
+use crate::report::{has_faults, write_files};
 use al_base::{Fault, Output, Path, Stop};
 use al_session_folder::{
     CallGraph, Lint, Paths, Refused, find_call_cycle_faults, has_call_cycles, join_files,

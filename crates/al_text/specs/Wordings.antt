@@ -3,27 +3,55 @@ use Rattle.std.specs.Prelude.{ℕ, List, codes}
 use Prim.Native.String.{String as Text}
 use Rattle.al_base.specs.declared.codes.Code.{Code}
 use Rattle.al_base.specs.declared.codes.Code.TheVariants as C
-use Rattle.al_base.specs.declared.codes.YamlCode.TheVariants.{NotUtf8, ControlCharacter, TabInIndentation, WrongIndentation, UnclosedQuote}
-use Rattle.al_base.specs.declared.codes.YamlCode.TheVariants.{UnclosedFlow, AnchorOrAlias, Tag, ExplicitKey, Directive, SecondDocument}
-use Rattle.al_base.specs.declared.codes.YamlCode.TheVariants.{WrongEscape, UnexpectedCharacter, NestingTooDeep, TooManyNodes}
-use Rattle.al_base.specs.declared.codes.YamlCode.TheVariants.{WrongBlockHeader, WrongKey, UnknownAlias}
-use Rattle.al_base.specs.declared.codes.KeyCode.TheVariants.{Unexpected, Missing, Repeated, WrongKind, WrongType, NotBeside, EmptyFile}
-use Rattle.al_base.specs.declared.codes.RuleCode.TheVariants.{UnknownEvent, UnknownActivity, WrongPattern, WrongSchedule, ScheduleTooOften}
-use Rattle.al_base.specs.declared.codes.RuleCode.TheVariants.{WrongId, RepeatedId, UndefinedJob, NeedsCycle, WrongMatrix, UnknownMatrixRow}
-use Rattle.al_base.specs.declared.codes.RuleCode.TheVariants.{UnknownShell, UnknownPermission, WrongPermission, WrongVariable}
-use Rattle.al_base.specs.declared.codes.RuleCode.TheVariants.{PasswordNotExpression, DeprecatedCommand, AlwaysTrue, UnknownInputType}
-use Rattle.al_base.specs.declared.codes.RuleCode.TheVariants.{UnknownUsing, MissingShell, MissingOutputValue}
-use Rattle.al_base.specs.declared.codes.CallCode.TheVariants.{NoWorkflow, UndefinedInput, MissingInput, WrongInput, UndefinedSecret}
-use Rattle.al_base.specs.declared.codes.CallCode.TheVariants.{MissingSecret, WrongUses, NotCallable, CallCycle}
+use Rattle.al_base.specs.declared.codes.YamlCode.TheVariants.{NotUtf8, ControlCharacter}
+use Rattle.al_base.specs.declared.codes.YamlCode.TheVariants.{TabInIndentation, WrongIndentation}
+use Rattle.al_base.specs.declared.codes.YamlCode.TheVariants.{UnclosedQuote}
+use Rattle.al_base.specs.declared.codes.YamlCode.TheVariants.{UnclosedFlow, AnchorOrAlias, Tag}
+use Rattle.al_base.specs.declared.codes.YamlCode.TheVariants.{ExplicitKey, Directive}
+use Rattle.al_base.specs.declared.codes.YamlCode.TheVariants.{SecondDocument}
+use Rattle.al_base.specs.declared.codes.YamlCode.TheVariants.{WrongEscape, UnexpectedCharacter}
+use Rattle.al_base.specs.declared.codes.YamlCode.TheVariants.{NestingTooDeep, TooManyNodes}
+use Rattle.al_base.specs.declared.codes.YamlCode.TheVariants.{WrongBlockHeader, WrongKey}
+use Rattle.al_base.specs.declared.codes.YamlCode.TheVariants.{UnknownAlias}
+use Rattle.al_base.specs.declared.codes.KeyCode.TheVariants.{Unexpected, Missing, Repeated}
+use Rattle.al_base.specs.declared.codes.KeyCode.TheVariants.{WrongKind, WrongType, NotBeside}
+use Rattle.al_base.specs.declared.codes.KeyCode.TheVariants.{EmptyFile}
+use Rattle.al_base.specs.declared.codes.RuleCode.TheVariants.{UnknownEvent, UnknownActivity}
+use Rattle.al_base.specs.declared.codes.RuleCode.TheVariants.{WrongPattern, WrongSchedule}
+use Rattle.al_base.specs.declared.codes.RuleCode.TheVariants.{ScheduleTooOften}
+use Rattle.al_base.specs.declared.codes.RuleCode.TheVariants.{WrongId, RepeatedId, UndefinedJob}
+use Rattle.al_base.specs.declared.codes.RuleCode.TheVariants.{NeedsCycle, WrongMatrix}
+use Rattle.al_base.specs.declared.codes.RuleCode.TheVariants.{UnknownMatrixRow}
+use Rattle.al_base.specs.declared.codes.RuleCode.TheVariants.{UnknownShell, UnknownPermission}
+use Rattle.al_base.specs.declared.codes.RuleCode.TheVariants.{WrongPermission, WrongVariable}
+use Rattle.al_base.specs.declared.codes.RuleCode.TheVariants.{PasswordNotExpression}
+use Rattle.al_base.specs.declared.codes.RuleCode.TheVariants.{DeprecatedCommand, AlwaysTrue}
+use Rattle.al_base.specs.declared.codes.RuleCode.TheVariants.{UnknownInputType}
+use Rattle.al_base.specs.declared.codes.RuleCode.TheVariants.{UnknownUsing, MissingShell}
+use Rattle.al_base.specs.declared.codes.RuleCode.TheVariants.{MissingOutputValue}
+use Rattle.al_base.specs.declared.codes.CallCode.TheVariants.{NoWorkflow, UndefinedInput}
+use Rattle.al_base.specs.declared.codes.CallCode.TheVariants.{MissingInput, WrongInput}
+use Rattle.al_base.specs.declared.codes.CallCode.TheVariants.{UndefinedSecret}
+use Rattle.al_base.specs.declared.codes.CallCode.TheVariants.{MissingSecret, WrongUses, NotCallable}
+use Rattle.al_base.specs.declared.codes.CallCode.TheVariants.{CallCycle}
 use Rattle.al_base.specs.declared.codes.Caller.{Caller}
 use Rattle.al_base.specs.declared.codes.Caller.TheVariants as caller
-use Rattle.al_base.specs.declared.codes.ExpressionCode.TheVariants.{BadCharacter, UnclosedText, UnexpectedToken, EndsEarly, TooLong}
-use Rattle.al_base.specs.declared.codes.ExpressionCode.TheVariants.{TooDeep, UndefinedContext, UnavailableContext, UndefinedFunction}
-use Rattle.al_base.specs.declared.codes.ExpressionCode.TheVariants.{UnavailableFunction, ArgumentCount, ArgumentType, UndefinedProperty}
-use Rattle.al_base.specs.declared.codes.ExpressionCode.TheVariants.{NotIndexable, NotComparable, WrongPlaceholder, UnusedArgument, NotText}
+use Rattle.al_base.specs.declared.codes.ExpressionCode.TheVariants.{BadCharacter, UnclosedText}
+use Rattle.al_base.specs.declared.codes.ExpressionCode.TheVariants.{UnexpectedToken, EndsEarly}
+use Rattle.al_base.specs.declared.codes.ExpressionCode.TheVariants.{TooLong}
+use Rattle.al_base.specs.declared.codes.ExpressionCode.TheVariants.{TooDeep, UndefinedContext}
+use Rattle.al_base.specs.declared.codes.ExpressionCode.TheVariants.{UnavailableContext}
+use Rattle.al_base.specs.declared.codes.ExpressionCode.TheVariants.{UndefinedFunction}
+use Rattle.al_base.specs.declared.codes.ExpressionCode.TheVariants.{UnavailableFunction}
+use Rattle.al_base.specs.declared.codes.ExpressionCode.TheVariants.{ArgumentCount, ArgumentType}
+use Rattle.al_base.specs.declared.codes.ExpressionCode.TheVariants.{UndefinedProperty}
+use Rattle.al_base.specs.declared.codes.ExpressionCode.TheVariants.{NotIndexable, NotComparable}
+use Rattle.al_base.specs.declared.codes.ExpressionCode.TheVariants.{WrongPlaceholder}
+use Rattle.al_base.specs.declared.codes.ExpressionCode.TheVariants.{UnusedArgument, NotText}
 use Rattle.al_base.specs.declared.codes.ExpressionCode.TheVariants.{Untrusted, UnclosedChunk}
 
--- the kind that a report names, and the words of the message before, between and after its arguments
+-- the kind that a report names, and the words of the message before, between and after its
+-- arguments
 pub record CodeRow : Type 0 where
   pub kind : List ℕ
   pub head : List ℕ

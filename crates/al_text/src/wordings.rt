@@ -6,7 +6,8 @@ ghost use Rattle.al_text.specs.Private.Wordings.{IsRowOf};
 
 use al_base::{CallCode, Caller, Code, ExpressionCode, KeyCode, RuleCode, YamlCode};
 
-/// The kind that a report prints, and the words of a message before, between and after its arguments.
+/// The kind that a report prints, and the words of a message before, between and after its
+/// arguments.
 #[derive(Clone, Copy)]
 pub(crate) struct CodeRow {
     pub(crate) kind: &'static str,

@@ -1,8 +1,9 @@
-//! Workflows and actions: which files they are, their trees, the faults of a tree against GitHub's syntax, and what a file declares by
-//! names.
+//! Workflows and actions: which files they are, their trees, the faults of a tree against GitHub's
+//! syntax, and what a file declares by names.
 //!
-//! The syntax is a table of sections (`rule_of`). `text_under(step, "shell")` gives the value under a key of any node. Inputs, secrets and
-//! outputs are declared by names, which are the same in any ASCII case; of equal ones the first counts.
+//! The syntax is a table of sections (`rule_of`). `text_under(step, "shell")` gives the value under
+//! a key of any node. Inputs, secrets and outputs are declared by names, which are the same in any
+//! ASCII case; of equal ones the first counts.
 #![tactic(auto)]
 
 mod below;
