@@ -1,7 +1,7 @@
 """Checks that GitHub refuses none of the examples that are called clean: clean_examples.py TOP.
 
 Reads the files of each case of tests/faults whose report is clean, the files shown on pages (`file=`), the folders of examples/ without
-faults, and the workflow of clients/github. The linter reports nothing of what this test looks for (docs/DIFFERENCES.md), so an
+faults, and the workflow of clients/github. The linter reports nothing of what this test looks for (README, "What it doesn't do"), so an
 example could be free of faults and still be refused. Needs python3-yaml; without it the case is skipped.
 """
 
