@@ -2,10 +2,10 @@
 ./test or a build of crates/actionlint. BEFORE is a program of another version, which takes its turns in the same run.
 
 Needs a C compiler, the libraries with their headers (Debian's libyaml-dev and libfyaml-dev; one that is missing is left out) and valgrind.
-Each file is put into a session that reports; a peer reads it and keeps nothing. Ratios are to the first peer, libyaml. Times are the least of several runs that take turns, including the
-start of the process; instructions are counted by callgrind, since times on a shared machine vary by half. Folders are linted without
-arguments, compared with the peers on the same files, each opened by its name, and with yamllint, if Debian's package of it is installed.
-One small file is also compared with a program that only reads it.
+Each file is put into a session that reports; a peer reads it and keeps nothing. Ratios are to the first peer, libyaml. Times are the least
+of several runs that take turns, including the start of the process; instructions are counted by callgrind, since times on a shared machine
+vary by half. Folders are linted without arguments, compared with the peers on the same files, each opened by its name, and with yamllint,
+if Debian's package of it is installed. One small file is also compared with a program that only reads it.
 """
 
 import functools

@@ -1,9 +1,10 @@
 """How long a YAML file takes to read, compared with the event parsers of libyaml and libfyaml on the same bytes: bench/yaml.py [BEFORE],
 after ./test or a build of crates/al_dump. BEFORE is an `al_dump` program of another version, whose times are taken in the same run.
 
-Needs a C compiler and the libraries with their headers (Debian's libyaml-dev and libfyaml-dev; one that is missing is left out). Each file ends with a line at which all
-readers stop with a fault, so none prints a tree, and each reads everything before it. Each time is the least of several runs that take
-turns, minus that for this line alone. Each shape is read at half and at full size: if reading is linear, the time grows like the bytes.
+Needs a C compiler and the libraries with their headers (Debian's libyaml-dev and libfyaml-dev; one that is missing is left out). Each file
+ends with a line at which all readers stop with a fault, so none prints a tree, and each reads everything before it. Each time is the least
+of several runs that take turns, minus that for this line alone. Each shape is read at half and at full size: if reading is linear, the time
+grows like the bytes.
 """
 
 import functools

@@ -96,8 +96,8 @@ UNSEEN = re.compile(r"^ *ghost is_unit = \{.*?\};\n", re.MULTILINE | re.DOTALL)
 # the numbers and the messages of all codes
 NAME_ALL = ("al_base.specs.Codes", "al_text.specs.Wordings")
 # words that the language of definitions reserves or has built in, and names that the compiler makes for parts of the code's types
-RESERVED = set("data record deriving module where use mod pub package open as unfoldable abbrev axiom unfold unfolding ruleset mutual infix "
-               "infixl infixr elim let in do Type coe fcoe tcoe hcom com Unit tt".split())
+RESERVED = set("data record deriving module where use mod pub package open as unfoldable abbrev axiom unfold unfolding ruleset mutual "
+               "infix infixl infixr elim let in do Type coe fcoe tcoe hcom com Unit tt".split())
 GENERATED = re.compile(r"[\w']+(?:-[\w']+)+")
 VALUE = re.compile(r"\.(?:now|old|new|entry|exit|items)\b")
 SYMBOL = re.compile(r"[^\s\w(){}\[\],;.\"']+")
@@ -278,7 +278,8 @@ class Page:
                     yield from parts
 
     def notation(self):
-        """The reserved words, the symbols and the names made by the compiler in the definitions, and in the lines that open a group of them."""
+        """The reserved words, the symbols and the names made by the compiler in the definitions, and in the lines that open a group of
+        them."""
         for module, items in self.items.items():
             lines = [line for it in items for line in module.items[it].lines] + [it for it in module.lines if HEADER.match(it)]
             for line in lines:
