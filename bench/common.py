@@ -24,11 +24,18 @@ def program(crate):
 
 
 def peers(folder):
-    """The programs around libyaml and then libfyaml, compiled into a folder."""
+    """The programs around libyaml and then libfyaml, compiled into a folder. A library that isn't installed with its headers is left out,
+    and named."""
     made = []
     for library, source in PEERS.items():
-        made.append(pathlib.Path(folder) / library)
-        subprocess.run(["cc", "-O2", "-o", made[-1], TOP / "bench" / source, f"-l{library}"], check=True)
+        path = pathlib.Path(folder) / library
+        compiled = subprocess.run(["cc", "-O2", "-o", path, TOP / "bench" / source, f"-l{library}"], capture_output=True, check=False)
+        if compiled.returncode:
+            print(f"lib{library} is left out, since cc found no lib{library} or no headers of it", file=sys.stderr)
+        else:
+            made.append(path)
+    if not made:
+        sys.exit("there is nothing to compare with: install Debian's libyaml-dev")
     return made
 
 

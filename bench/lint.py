@@ -1,11 +1,11 @@
 """What a whole lint takes, compared with the bare event parsers of libyaml and libfyaml on the same bytes: bench/lint.py [BEFORE], after
 ./test or a build of crates/actionlint. BEFORE is a program of another version, which takes its turns in the same run.
 
-Needs a C compiler, both libraries with their headers (Debian's libyaml-dev and libfyaml-dev) and valgrind. Each file is put into a session
-that reports; a peer reads it and keeps nothing. Ratios are to libyaml. Times are the least of several runs that take turns, including the
-start of the process; instructions are counted by callgrind, since times on a shared machine vary by half. Folders are linted without
-arguments, compared with the peers on the same files, each opened by its name, and with yamllint, if Debian's package of it is installed.
-One small file is also compared with a program that only reads it.
+Needs a C compiler, the libraries with their headers (Debian's libyaml-dev and libfyaml-dev; one that is missing is left out) and valgrind.
+Each file is put into a session that reports; a peer reads it and keeps nothing. Ratios are to the first peer, libyaml. Times are the least
+of several runs that take turns, including the start of the process; instructions are counted by callgrind, since times on a shared machine
+vary by half. Folders are linted without arguments, compared with the peers on the same files, each opened by its name, and with yamllint,
+if Debian's package of it is installed. One small file is also compared with a program that only reads it.
 """
 
 import functools
@@ -143,7 +143,7 @@ def compare_with_reading(program_path, folder, path, peer):
     subprocess.run(["cc", "-O2", "-o", reader, TOP / "bench" / "read_only.c"], check=True)
     measures = [functools.partial(seconds, it, b"", folder) for it in ([reader, path], [*peer, path], [program_path])]
     read, parsed, linted = least_in_turns(SMALL_RUNS, measures)
-    print(f"one file of 4 KB: read {read * 1e3:.2f} ms, libyaml {parsed / read:.2f}, this {linted / read:.2f}", flush=True)
+    print(f"one file of 4 KB: read {read * 1e3:.2f} ms, lib{peer[0].name} {parsed / read:.2f}, this {linted / read:.2f}", flush=True)
 
 
 def compare_with_yamllint(program_path, made):
@@ -162,9 +162,9 @@ def main():
     programs = [program("actionlint"), *(pathlib.Path(it).resolve() for it in sys.argv[1:])]
     with tempfile.TemporaryDirectory() as made:
         others = [[it] for it in peers(made)]
-        names = ("libfyaml", "this", "before")[: len(programs) + 1]
+        first, *names = [f"lib{it.name}" for [it] in others] + ["this", "before"][: len(programs)]
         columns = "".join(f" {name:>9} {'ratio':>6} {'':10}" for name in names)
-        print(f"{'file':42} {'bytes':>9} {'libyaml':>9} {'':9}{columns}")
+        print(f"{'file':42} {'bytes':>9} {first:>9} {'':9}{columns}")
         for name, text in shapes():
             script = put_commands([(WORKFLOW, text)]) + b"report\n"
             data = text.encode()

@@ -1,9 +1,10 @@
 """How long a YAML file takes to read, compared with the event parsers of libyaml and libfyaml on the same bytes: bench/yaml.py [BEFORE],
 after ./test or a build of crates/al_dump. BEFORE is an `al_dump` program of another version, whose times are taken in the same run.
 
-Needs a C compiler and both libraries with their headers (Debian's libyaml-dev and libfyaml-dev). Each file ends with a line at which all
-readers stop with a fault, so none prints a tree, and each reads everything before it. Each time is the least of several runs that take
-turns, minus that for this line alone. Each shape is read at half and at full size: if reading is linear, the time grows like the bytes.
+Needs a C compiler and the libraries with their headers (Debian's libyaml-dev and libfyaml-dev; one that is missing is left out). Each file
+ends with a line at which all readers stop with a fault, so none prints a tree, and each reads everything before it. Each time is the least
+of several runs that take turns, minus that for this line alone. Each shape is read at half and at full size: if reading is linear, the time
+grows like the bytes.
 """
 
 import functools
@@ -11,7 +12,7 @@ import json
 import sys
 import tempfile
 
-from common import PEERS, least_in_turns, peers, program, run_seconds
+from common import least_in_turns, peers, program, run_seconds
 
 RUNS = 25
 SIZE = 1_000_000
@@ -90,28 +91,31 @@ def seconds(command, is_ours, file):
     return took
 
 
-def least(commands, files):
-    """The least time that each command takes to read each file. The first commands are the peers'."""
-    ours = [(command, number >= len(PEERS)) for number, command in enumerate(commands)]
-    measures = [functools.partial(seconds, command, is_ours, file) for file in files for command, is_ours in ours]
+def least(others, commands, files):
+    """The least time that each of the peers' commands, and then of ours, takes to read each file."""
+    every = [(it, False) for it in others] + [(it, True) for it in commands]
+    measures = [functools.partial(seconds, command, is_ours, file) for file in files for command, is_ours in every]
     times = least_in_turns(RUNS, measures)
-    return [times[first : first + len(commands)] for first in range(0, len(times), len(commands))]
+    return [times[first : first + len(every)] for first in range(0, len(times), len(every))]
 
 
 def main():
     """Prints a table. A reader of another version may not know aliases, so it isn't given files with any."""
     with tempfile.TemporaryDirectory() as folder:
-        commands = [[it] for it in peers(folder)] + [[path, "yaml"] for path in [program("al_dump"), *sys.argv[1:]]]
+        others = [[it] for it in peers(folder)]
+        commands = [[path, "yaml"] for path in [program("al_dump"), *sys.argv[1:]]]
         before = "  this/before" if sys.argv[1:] else ""
-        print(f"{'file':44} {'bytes':>9} {'this':>9} {'libyaml':>9} {'ratio':>6} {'libfyaml':>9} {'ratio':>6}{before}  whole/half of bytes")
-        for asked, of_each in ((commands, shapes), (commands[: len(PEERS) + 1], shared_shapes)):
+        columns = "".join(f" {'lib' + it.name:>9} {'ratio':>6}" for [it] in others)
+        print(f"{'file':44} {'bytes':>9} {'this':>9}{columns}{before}  whole/half of bytes")
+        for ours, of_each in ((commands, shapes), (commands[:1], shared_shapes)):
             for (name, whole), (_, half) in zip(of_each(SIZE), of_each(SIZE // 2)):
-                nothing, smaller, all_of_it = least(asked, [LAST, half + LAST, whole + LAST])
-                first, second, took, *others = (a - b for a, b in zip(all_of_it, nothing))
-                theirs = f"{first:8.3f}s {took / first:6.2f} {second:8.3f}s {took / second:6.2f}"
-                beside = "".join(f"{took / other:13.2f}" for other in others)
-                growth = f"{took / (smaller[len(PEERS)] - nothing[len(PEERS)]):.2f} of {len(whole) / len(half):.2f}"
-                print(f"{name:44} {len(whole):9} {took:8.3f}s {theirs}{beside}  {growth}", flush=True)
+                nothing, smaller, all_of_it = least(others, ours, [LAST, half + LAST, whole + LAST])
+                times = [a - b for a, b in zip(all_of_it, nothing)]
+                took = times[len(others)]
+                theirs = "".join(f" {it:8.3f}s {took / it:6.2f}" for it in times[: len(others)])
+                beside = "".join(f"{took / it:13.2f}" for it in times[len(others) + 1 :])
+                growth = f"{took / (smaller[len(others)] - nothing[len(others)]):.2f} of {len(whole) / len(half):.2f}"
+                print(f"{name:44} {len(whole):9} {took:8.3f}s{theirs}{beside}  {growth}", flush=True)
 
 
 if __name__ == "__main__":

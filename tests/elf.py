@@ -48,8 +48,8 @@ def symbols(program: bytes, kind: int) -> Iterator[Symbol]:
 
 
 def c_functions(program: bytes) -> set[str]:
-    """The C functions that a program calls: those of other libraries, but no weak ones, which may be missing; and those that the kit's C code
-    defines."""
+    """The C functions that a program calls: those of other libraries, but no weak ones, which may be missing; and those that the kit's C
+    code defines."""
     called = {it.name for it in symbols(program, DYNAMIC_SYMBOLS) if it.name and not it.is_weak and not it.is_defined}
     return called | {it.name for it in symbols(program, SYMBOLS) if it.name.startswith("rattle_")}
 

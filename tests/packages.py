@@ -97,7 +97,8 @@ def contents(package, version, room):
     log = gzip.decompress((root / "usr/share/doc/juzbrost-actionlint/changelog.gz").read_bytes()).decode()
     wrong += [] if LOG.fullmatch(log) and f"({version})" in log else [f"the log is {log!r}"]
     notices = (root / "usr/share/doc/juzbrost-actionlint/copyright").read_text(encoding="utf-8")
-    wrong += [f"no licence of {it.stem}" for it in sorted((TOP / "LICENSES").glob("*.txt")) if it.read_text(encoding="utf-8") not in notices]
+    licences = {it.stem: it.read_text(encoding="utf-8") for it in sorted((TOP / "LICENSES").glob("*.txt"))}
+    wrong += [f"no licence of {name}" for name, licence in licences.items() if licence not in notices]
     clients = sorted(it.name for it in (root / "usr/share/actionlint/clients").iterdir())
     return wrong + ([] if clients == CLIENTS else [f"the clients are {clients}"])
 

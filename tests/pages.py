@@ -11,7 +11,7 @@ import sys
 
 HERE = pathlib.Path(__file__).resolve().parent
 PAGES = sorted({"fault_pages.py", "links.py", *(it.name for it in HERE.glob("*_page.py"))} - {"command_line_page.py"})
-TIDY = ["src", "specs", "proofs", "heads", "names", "kinds"]
+TIDY = ["src", "specs", "proofs", "heads", "names", "kinds", "words"]
 CASES = ["cases", "yaml-trees.cases", "expressions.cases", "chunks.cases"]
 
 

@@ -96,8 +96,8 @@ UNSEEN = re.compile(r"^ *ghost is_unit = \{.*?\};\n", re.MULTILINE | re.DOTALL)
 # the numbers and the messages of all codes
 NAME_ALL = ("al_base.specs.Codes", "al_text.specs.Wordings")
 # words that the language of definitions reserves or has built in, and names that the compiler makes for parts of the code's types
-RESERVED = set("data record deriving module where use mod pub package open as unfoldable abbrev axiom unfold unfolding ruleset mutual infix "
-               "infixl infixr elim let in do Type coe fcoe tcoe hcom com Unit tt".split())
+RESERVED = set("data record deriving module where use mod pub package open as unfoldable abbrev axiom unfold unfolding ruleset mutual "
+               "infix infixl infixr elim let in do Type coe fcoe tcoe hcom com Unit tt".split())
 GENERATED = re.compile(r"[\w']+(?:-[\w']+)+")
 VALUE = re.compile(r"\.(?:now|old|new|entry|exit|items)\b")
 SYMBOL = re.compile(r"[^\s\w(){}\[\],;.\"']+")
@@ -193,15 +193,15 @@ class Page:
             yield f"| {number} | {promise} | {letters or 'the contract of each function'} |"
 
     def theorems(self):
-        yield "| | Theorem | Contracts | Definitions | Their lines | Modules |"
-        yield "|---|---|---|--:|--:|--:|"
+        yield "| | Theorem | Contracts | Definitions | Their lines | Modules | Hours |"
+        yield "|---|---|---|--:|--:|--:|--:|"
         for theorem in THEOREMS:
             found = self.found[theorem.letter]
             modules = len({module for module, _ in found})
             places = "; ".join(map(place, theorem.contracts))
-            yield f"| {theorem.letter} | {theorem.what} | {places} | {len(found)} | {lines_of(found):,} | {modules} |"
+            yield f"| {theorem.letter} | {theorem.what} | {places} | {len(found)} | {lines_of(found):,} | {modules} | {hours(found)} |"
         every = set().union(*self.found.values())
-        yield (f"| | all of these | | {len(every)} | {lines_of(every):,} | {len(self.items)} |")
+        yield f"| | all of these | | {len(every)} | {lines_of(every):,} | {len(self.items)} | {hours(every)} |"
 
     def faults(self):
         """The definitions of the program's theorems that name a fault code, file by file."""
@@ -278,7 +278,8 @@ class Page:
                     yield from parts
 
     def notation(self):
-        """The reserved words, the symbols and the names made by the compiler in the definitions, and in the lines that open a group of them."""
+        """The reserved words, the symbols and the names made by the compiler in the definitions, and in the lines that open a group of
+        them."""
         for module, items in self.items.items():
             lines = [line for it in items for line in module.items[it].lines] + [it for it in module.lines if HEADER.match(it)]
             for line in lines:
@@ -312,9 +313,9 @@ def place(contracts):
     return f"{names} (`{contracts.crate}/src/{contracts.file}`)"
 
 
-def hours(lines):
-    """How long it takes to read so many lines."""
-    return f"{lines // FAST} to {lines // SLOW} hours"
+def hours(found):
+    """How many hours it takes to read some definitions."""
+    return f"{-(-lines_of(found) // FAST)} to {-(-lines_of(found) // SLOW)}"
 
 
 def unexplained(head, found):
@@ -325,9 +326,6 @@ def unexplained(head, found):
         yield f"{PAGE} doesn't say what these words of libraries mean: {' '.join(missing)}"
     if missing := sorted(set(found.notation()) - explained):
         yield f"{PAGE} doesn't say what this notation means: {' '.join(missing)}"
-    for letters, lines in (("all", set().union(*found.found.values())), ("F", found.found["F"])):
-        if hours(lines_of(lines)) not in head:
-            yield f"{PAGE} doesn't say that {letters} takes {hours(lines_of(lines))}"
 
 
 def unneeded(head, found):

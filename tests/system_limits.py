@@ -7,6 +7,8 @@ Each case compares the status and both streams with what docs/COMMAND-LINE.md sa
 """
 
 import os
+import pathlib
+import re
 import resource
 import signal
 import subprocess
@@ -151,14 +153,21 @@ def sizes(place):
         wrong.append(f"the file held {show(held)}")
     report("file-size-limit", ran.returncode, wrong)
     deep = b"on: push\njobs: " + b"{a: " * 62 + b"x" + b"}" * 62 + b"\n"
-    on_a_small_stack(place, "deep-nesting-on-a-small-stack", deep, 256, 1)
+    on_a_small_stack(place, "deep-nesting-on-a-small-stack", deep, sufficient_stack("62 nested YAML collections"), 1)
+    stack = sufficient_stack("an expression of 50 nested")
     # each bracket opens an operand of all levels of operators
     nested = lambda inside: b"run: echo ${{ " + b"1||1&&1==1<contains(" * 50 + inside + b",1)" * 50 + b" }}"
-    on_a_small_stack(place, "deep-expression-on-a-small-stack", CLEAN.replace(b"run: echo", nested(b"1")), 640, 0)
+    on_a_small_stack(place, "deep-expression-on-a-small-stack", CLEAN.replace(b"run: echo", nested(b"1")), stack, 0)
     # and the innermost operand is of the deepest type
     typed = CLEAN.replace(b"run: echo", nested(b"matrix.v" + b".a" * 56))
     row = b"    strategy:\n      matrix:\n        v: [" + b"{a: " * 56 + b"x" + b"}" * 56 + b"]\n"
-    on_a_small_stack(place, "deep-type-on-a-small-stack", typed.replace(b"    steps:", row + b"    steps:"), 640, 0)
+    on_a_small_stack(place, "deep-type-on-a-small-stack", typed.replace(b"    steps:", row + b"    steps:"), stack, 0)
+
+
+def sufficient_stack(what):
+    """The stack in KiB that suffices for this, by docs/SPEED.md."""
+    page = pathlib.Path(__file__).resolve().parent.parent / "docs/SPEED.md"
+    return int(re.search(rf"^\| {what}.*: a stack that suffices \|.* (\d+) KiB \|$", page.read_text(encoding="utf-8"), re.MULTILINE)[1])
 
 
 def on_a_small_stack(place, name, data, kibibytes, status):

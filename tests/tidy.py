@@ -1,9 +1,10 @@
-"""Checks the layout of the crates: tidy.py TOP WHAT.. [--write].
+"""Checks the layout of the crates, and the words of the pages: tidy.py TOP WHAT.. [--write].
 
 WHAT is `src` or `specs` (no line is longer than 140 characters), `proofs` (none is longer than 200), `heads` (each module of lemmas says at
 its top what it is for), `kinds` (definitions use neither words of private contracts, `specs/Private`, nor worked examples, `specs/Rows`,
-and none of all these uses proofs, including those of `specs/Proofs`) or `names` (each name that a `use` line imports occurs somewhere else
-in its file). `--write` removes the names that don't; then `rt fmt` and `rt check` have to be run in each changed crate.
+and none of all these uses proofs, including those of `specs/Proofs`), `words` (pages have none of some home-made terms) or `names` (each
+name that a `use` line imports occurs somewhere else in its file). `--write` removes the names that don't; then `rt fmt` and `rt check` have
+to be run in each changed crate.
 """
 
 import pathlib
@@ -12,6 +13,13 @@ import sys
 
 LONGEST = {"src": 140, "specs": 140, "proofs": 200}
 ENDINGS = {"src": ".rt", "specs": ".antt", "proofs": ".antt"}
+# words that pages don't use for something that has a name, outside of code
+UNUSUAL = {
+    "leads out": "points outside", "lead out": "point outside", "link out of": "link that points outside",
+    "links out of": "links that point outside", "passed over": "skipped", "current folder": "current directory",
+    "words of the command line": "arguments",
+}
+CODE = re.compile(r"^```.*?^```$|`[^`\n]*`", re.DOTALL | re.MULTILINE)
 # the folders of `specs/` that aren't about what the product means; each may use those before it
 KINDS = ["Private", "Rows", "Proofs"]
 # proofs of the crates
@@ -39,6 +47,13 @@ def long_lines(top, folder):
         for number, line in enumerate(file.read_text(encoding="utf-8").splitlines(), 1):
             if len(line) > LONGEST[folder]:
                 yield f"{file.relative_to(top)}:{number} has {len(line)} characters, of at most {LONGEST[folder]}"
+
+
+def unusual_words(top):
+    """The words on pages for which there is a usual one."""
+    for file in sorted((*top.glob("*.md"), *top.glob("docs/*.md"), top / "clients/README.md")):
+        text = re.sub(r"\s+", " ", CODE.sub("", file.read_text(encoding="utf-8"))).lower()
+        yield from (f"{file.relative_to(top)} says {it}, which is: {usual}" for it, usual in UNUSUAL.items() if f" {it}" in text)
 
 
 def headless(top):
@@ -120,6 +135,8 @@ def main(folder, *words):
             wrong += unused_names(top, "--write" in words)
         elif what == "heads":
             wrong += headless(top)
+        elif what == "words":
+            wrong += unusual_words(top)
         elif what == "kinds":
             wrong += later_kinds(top)
         elif what != "--write":
