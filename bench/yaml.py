@@ -1,5 +1,5 @@
 """How long a YAML file takes to read, compared with the event parsers of libyaml and libfyaml on the same bytes: bench/yaml.py [BEFORE],
-after ./test or a build of crates/al_dump. BEFORE is an `al_dump` program of another version, whose times are taken in the same run.
+after ./test or a build of crates/al_facts. BEFORE is an `al_facts` program of another version, whose times are taken in the same run.
 
 Needs a C compiler and both libraries with their headers (Debian's libyaml-dev and libfyaml-dev). Each file ends with a line at which all
 readers stop with a fault, so none prints a tree, and each reads everything before it. Each time is the least of several runs that take
@@ -100,7 +100,7 @@ def least(commands, files):
 def main():
     """Prints a table. A reader of another version may not know aliases, so it isn't given files with any."""
     with tempfile.TemporaryDirectory() as folder:
-        commands = [[it] for it in peers(folder)] + [[path, "yaml"] for path in [program("al_dump"), *sys.argv[1:]]]
+        commands = [[it] for it in peers(folder)] + [[path, "yaml"] for path in [program("al_facts"), *sys.argv[1:]]]
         before = "  this/before" if sys.argv[1:] else ""
         print(f"{'file':44} {'bytes':>9} {'this':>9} {'libyaml':>9} {'ratio':>6} {'libfyaml':>9} {'ratio':>6}{before}  whole/half of bytes")
         for asked, of_each in ((commands, shapes), (commands[: len(PEERS) + 1], shared_shapes)):

@@ -17,4 +17,5 @@ mod worked;
 
 pub use env::{Env, File};
 pub use known::{Answer, Answers};
+pub use scopes::available_at;
 pub use worked::rows;

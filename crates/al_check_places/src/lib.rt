@@ -11,7 +11,7 @@ mod worked;
 
 pub use laws::placed_scalars;
 pub use positions::{Position, Section, Seen};
-pub use table::{Key, Row, available};
+pub use table::{Key, Row, available, rows as available_rows};
 pub use walk::{Place, places};
-pub use ways::WayStep;
+pub use ways::{CONDITIONS, NOT_IN_RUNS, NOT_IN_WORKFLOW, OF_CALL, OF_INTERFACE, SCRIPTS, WayStep};
 pub use worked::rows;
