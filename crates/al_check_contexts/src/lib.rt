@@ -16,3 +16,4 @@ mod steps;
 
 pub use env::{Env, File};
 pub use known::{Answer, Answers};
+pub use scopes::available_at;

@@ -121,7 +121,8 @@ const TABLE: &[Row] = &[
     ),
 ];
 
-fn rows() -> &'static [Row]
+/// The rows of the table. Doesn't allocate.
+pub fn rows() -> &'static [Row]
     ensures { map row_view result.now ≡ table }
 {
     TABLE
