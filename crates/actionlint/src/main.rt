@@ -94,7 +94,9 @@ fn lint_folder(rt: &HostRuntime, words: &Words) -> u8 {
         Err(unread) => return say_unread(rt, unread),
     };
     for path in &gathered.outside {
-        let _ = eprintln!(rt; "actionlint: skipped {path}: symbolic link points outside the folder");
+        let _ = eprintln!(rt;
+            "actionlint: skipped {path}: symbolic link points outside the folder"
+        );
     }
     match lint_files(rt, gathered.files, words.oneline) {
         Ok(status) => status,

@@ -1,6 +1,6 @@
 //! Lists of objects, each object once, and the numbers under which equal lists are found again.
 
-ghost use Rattle.std.specs.Prelude.{◌≡◌, ◌∷◌, [], Contains, List, IfOk, IsTrue, map, nat_lt, true, ℕ};
+ghost use Rattle.std.specs.Prelude.{◌≡◌, Contains, IfOk, IsTrue, map, nat_lt, true, ℕ};
 ghost use Rattle.al_types.specs.Types.{Parts};
 ghost use Rattle.al_types.specs.Fused.{fuse_all, fuse_parts};
 ghost use Rattle.al_expr_types.specs.Types.{are_below};
