@@ -5,6 +5,7 @@ import re
 import time
 from collections import Counter
 from dataclasses import replace
+from enum import Enum
 from itertools import islice
 from typing import Callable, Iterable, NamedTuple
 
@@ -75,8 +76,9 @@ def fixes(words: list[str], timeout: float, project: Project, faults: Iterable[F
                     trial.earlier = _counted(earlier)
                 elif time.monotonic() > deadline:
                     break
-                if trial.mends(repair, fault):
-                    right.append(repair)
+                result = trial.result(repair, fault)
+                if result is not Result.WRONG:
+                    right.append(repair if result is Result.CLEAN else replace(repair, is_safe=False))
             mended += [Fix(fault, repair) for repair in _to_show(right)]
     except (LinterEnded, ReportTooLong):
         pass
@@ -98,6 +100,14 @@ def _to_show(found: list[Repair]) -> list[Repair]:
     return list(by_title.values())[::-1][:MAX_SHOWN]
 
 
+class Result(Enum):
+    """What a repair does: it leaves the fault or causes another one, it leaves neither, or it shows what the fault has hidden."""
+
+    WRONG = "wrong"
+    CLEAN = "clean"
+    UNCOVERS = "uncovers"
+
+
 class Trial:
     """A session of its own, with a file, what it calls and what calls it, so that the folder's session never has a text that isn't the
     file's."""
@@ -111,14 +121,18 @@ class Trial:
         callers = [path for path in project.paths() if path != file and _calls(project, path, file)]
         self._include([file, *callers])
 
-    def mends(self, repair: Repair, fault: Fault) -> bool:
-        """Whether the report after a repair lacks the fault and has no new one but those that the fault hid."""
+    def result(self, repair: Repair, fault: Fault) -> Result:
+        """What the report after a repair says."""
         changed = {path: replaced(self.project.text(path), edits) for path, edits in repair.edits.items()}
         after = self.report_after(changed | repair.new_files)
         counted = _counted(after)
         key = fault.path, fault.message
         new = counted - self.before - self.earlier
-        return counted[key] < self.before[key] and all(_was_hidden(one, fault, repair) for one in after if (one.path, one.message) in new)
+        if counted[key] >= self.before[key]:
+            return Result.WRONG
+        if not new:
+            return Result.CLEAN
+        return Result.UNCOVERS if all(_was_hidden(one, fault, repair) for one in after if (one.path, one.message) in new) else Result.WRONG
 
     def faults_after(self, texts: dict[str, str]) -> Counter:
         """The faults if some files had other texts. The session is unchanged afterwards."""
@@ -173,7 +187,7 @@ def _was_hidden(one: Fault, fault: Fault, repair: Repair) -> bool:
     if one.path != fault.path or code in UNREADABLE or code[:1] in ("Y", "K"):
         return False
     if hidden in UNREADABLE:
-        return one.line == fault.line and code[:1] == "X"
+        return one.line == fault.line and code[:1] == "X" and code not in ("X7", "X9")
     edits = repair.edits.get(fault.path, ())
     touched = {line + 1 for edit in edits for line in range(edit.span.start.line, edit.span.end.line + 1)}
     keeps_lines = all("\n" not in edit.text and edit.span.start.line == edit.span.end.line for edit in edits)

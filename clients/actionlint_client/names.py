@@ -66,7 +66,7 @@ def _is_slip(wrong: str, name: str) -> bool:
         return False
     words, others = SEPARATORS.split(wrong.lower()), SEPARATORS.split(name.lower())
     if len(words) != len(others):
-        return _is_slip_of_word(_bare(wrong), _bare(name))
+        return 1 in (len(words), len(others)) and " " not in wrong + name and _is_slip_of_word(_bare(wrong), _bare(name))
     return all(_is_slip_of_word(word, other) for word, other in zip(words, others))
 
 

@@ -259,6 +259,13 @@ def versions(project: files.Project, name: str) -> list[str]:
     return [version for version, _ in found.most_common()] or [VERSIONS[name] for name in [name.lower()] if name in VERSIONS]
 
 
+def local_action_of_job(case: Case) -> Iterable[Repair]:
+    """An action of this repository that a job calls, called from a step."""
+    here = case.value
+    if here and here.key and len(here.path) == 3 and here.path[0] == "jobs" and ".github/workflows/" not in here.value.value:
+        yield from _called_from_step(case, here)
+
+
 def made_callable(case: Case) -> Iterable[Repair]:
     """`workflow_call` as an event of the called workflow, or the call on a job or a step of its own."""
     node, callee, of_job = _call(case)
@@ -306,6 +313,6 @@ REPAIRS: dict[str, tuple[Callable[[Case], Iterable[Repair]], ...]] = {
     "C5": (near_declared("secrets"),),
     "C6": (required("secrets"),),
     "C7": (right_uses,),
-    "C8": (made_callable,),
+    "C8": (local_action_of_job, made_callable),
     "C9": (without_step,),
 }

@@ -6,12 +6,13 @@ import re
 from typing import Callable, Iterable, NamedTuple
 
 from .expressions import CHAIN, NAME, STRING, links
-from .operators import Choice, Token, choice, choice_in, grouped, operators, tokens
+from .operators import Choice, Token, choice, choice_in, grouped, operators, parts, tokens
 from .repair import NEEDS_QUOTES, Case, Repair, as_scalar, is_within_flow
 from .syntax import is_condition
 from .text import Point, Span
 
 BRACES = re.compile(r"\$\{\{(.*?)\}\}", re.S)
+MANY_BRACES = re.compile(r"\$\{{3,}([^{}]*)\}{2,}")
 NESTED_BRACES = re.compile(r"\$\{\{([^{}]*)\$\{\{([^{}]*)\}\}([^{}]*)\}\}")
 DOUBLE_QUOTED = re.compile(r'\\?"([^"\\]*)\\?"')
 CURLY_QUOTED = re.compile("[\u2018\u2019\u201a\u201c\u201d\u201e\u00b4`]([^'\"\u2018\u2019\u201c\u201d`]*)[\u2018\u2019\u201c\u201d\u00b4`]")
@@ -103,11 +104,11 @@ def in_yaml(text: str, expression: Expression) -> str:
 
 def _outside_texts(text: str, change: Callable[[str], str]) -> str:
     """A text with changes only outside of quotes."""
-    parts, at = [], 0
+    found, at = [], 0
     for match in STRING.finditer(text):
-        parts += [change(text[at:match.start()]), match[0]]
+        found += [change(text[at:match.start()]), match[0]]
         at = match.end()
-    return "".join([*parts, change(text[at:])])
+    return "".join([*found, change(text[at:])])
 
 
 def _single_quotes(text: str) -> str:
@@ -119,10 +120,21 @@ def _plain_spaces(text: str) -> str:
     return _outside_texts(text, lambda part: ODD_SPACES.sub(" ", part))
 
 
-def _operators(text: str) -> str:
+def _operators(text: str, with_lone_texts: bool = False) -> str:
     changed = _outside_texts(text, lambda part: WORDS.sub(lambda match: WORD_OPERATORS[match[1].lower()], part))
     changed = _outside_texts(changed, lambda part: re.sub(r"===+", "==", part).replace("!==", "!=").replace("<>", "!="))
-    return _without_words(_outside_texts(changed, lambda part: re.sub(r"! (?=\S)", "!", part)))
+    changed = _without_words(_outside_texts(changed, lambda part: re.sub(r"! (?=\S)", "!", part)))
+    has_lone_text = len(parts(changed, "||")) > 1 and any(STRING.fullmatch(part) for part in parts(changed, "||")[1:])
+    return text if has_lone_text and "==" in changed and not with_lone_texts else changed
+
+
+def _spread(text: str) -> str | None:
+    """`a == 'x' or 'y'` as `a == 'x' || a == 'y'`."""
+    found = parts(_operators(text, True), "||")
+    first = re.fullmatch(r"(.+?)\s*==\s*'[^']*'", found[0])
+    if first is None or len(operators(found[0])) != 1 or not any(STRING.fullmatch(part) for part in found[1:]):
+        return None
+    return " || ".join(f"{first[1]} == {part}" if STRING.fullmatch(part) else part for part in found)
 
 
 def _without_words(text: str) -> str:
@@ -297,7 +309,11 @@ def without_character(case: Case) -> Iterable[Repair]:
 
 
 def inner_braces(case: Case) -> Iterable[Repair]:
-    """Braces around a part of what is in braces already are taken away."""
+    """Braces around a part of what is in braces already are taken away, and more than two in a row."""
+    many = MANY_BRACES.search(case.line)
+    if many:
+        span = Span.on_line(case.span.start.line, many.start(), many.end())
+        yield case.replace("write two braces", "${{" + many[1] + "}}", span, is_safe=True)
     column = case.span.start.column
     match = next((match for match in NESTED_BRACES.finditer(case.line) if match.start() <= column < match.end() or case.code == "G18"), None)
     if match:
@@ -494,15 +510,16 @@ def _numbered(text: str, count: int) -> str:
 
 SINGLE_QUOTES = rewritten("write single quotes", _single_quotes, True)
 DOUBLED = rewritten('write "==", "&&", "||"', _doubled, True)
+SPREAD = rewritten("compare it with each", _spread)
 OPERATORS = rewritten('write "&&", "||", "!"', _operators, True)
 
 REPAIRS: dict[str, tuple[Callable[[Case], Iterable[Repair]], ...]] = {
-    "X1": (SINGLE_QUOTES, rewritten("write plain spaces", _plain_spaces, True), DOUBLED, as_choice, OPERATORS,
+    "X1": (SINGLE_QUOTES, rewritten("write plain spaces", _plain_spaces, True), DOUBLED, as_choice, OPERATORS, SPREAD,
            rewritten('write "||", which takes the second for an empty text too', _coalesced), inner_braces,
            rewritten("write a call of format", _formatted), rewritten("write the operators of expressions", _all_operators, True),
            rewritten('write "${{" and "}}"', _double_braces, True), from_context, word_as_text, without_character),
     "X2": (closed_text,),
-    "X3": (OPERATORS, DOUBLED, as_choice, rewritten("call a function", _called), inner_braces, closed_brackets, with_comma, without_rest,
+    "X3": (OPERATORS, SPREAD, DOUBLED, as_choice, rewritten("call a function", _called), inner_braces, closed_brackets, with_comma, without_rest,
            without_character),
     "X4": (closed_brackets, without_rest),
     "X11": (fewer_arguments,),

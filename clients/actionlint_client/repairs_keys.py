@@ -7,10 +7,10 @@ from typing import Callable, Iterable
 from .names import likely, misspelled
 from .paths import is_workflow
 from .repairs_levels import moves
-from .repair import Case, Edit, Found, Repair, entries_of, first_entry, indented, next_entry, quoted, tight, without_entry
+from .repair import FLOW_SIGNS, Case, Edit, Found, Repair, entries_of, first_entry, indented, next_entry, quoted, tight, without_entry
 from .syntax import shape_at, table
 from .text import Point, Span
-from .tree import Node, Path
+from .tree import Node, Path, last_line
 
 JOB = "build:\n  runs-on: ubuntu-latest\n  steps:\n    - run: make"
 # The values of missing keys.
@@ -24,7 +24,8 @@ OTHER_NAMES = {"timeout": "timeout-minutes", "command": "run", "script": "run", 
                "condition": "if", "when": "if", "title": "name", "dir": "working-directory", "cwd": "working-directory", "triggers": "on",
                "environments": "environment", "variables": "env", "vars": "env", "args": "with", "params": "with", "secret": "secrets",
                "allow-failure": "continue-on-error", "allow_failure": "continue-on-error", "os": "runs-on", "type": "types", "job": "jobs",
-               "workdir": "working-directory",
+               "workdir": "working-directory", "inputs": "with", "input": "with", "parameters": "with", "environment": "env",
+               "cmd": "run", "commands": "run", "action": "uses", "runner": "runs-on", "dependencies": "needs", "description": "name",
                "continue-on-failure": "continue-on-error", "ignore-errors": "continue-on-error", "matrix": "strategy"}
 STEP_STARTS = ("name", "id", "if")
 
@@ -186,17 +187,32 @@ def _merged(case: Case, here: Found, first: Node) -> Iterable[Repair]:
     second = here.value
     assert here.key
     removed = without_entry(case, here.parent, here.key)
-    is_same_kind = first.kind == second.kind and first.is_flow == second.is_flow and first.alias is None is second.alias
-    if first.kind == "mapping" and is_same_kind and first.entries and second.entries:
-        if not set(first.names()) & set(second.names()):
+    title = f'merge it with the first "{here.key.value}"'
+    if first.alias or second.alias:
+        return
+    if first.kind == second.kind == "mapping" and first.entries and second.entries:
+        is_plain = first.is_flow == second.is_flow or all(value.kind == "scalar" and value.style in ("", "'", '"') and not FLOW_SIGNS.search(
+            value.value) for _, value in second.entries)
+        if is_plain and not set(first.names()) & set(second.names()):
             texts = [case.slice(Span(key.span.start, tight(case, value).end)) for key, value in second.entries]
             indent, between = "\n" + " " * second.span.start.column, ", " if first.is_flow else "\n"
             added = next_entry(case, first, first.entries[-1][0].value, between.join(text.replace(indent, "\n") for text in texts))
-            yield case.of(f'merge it with the first "{here.key.value}"', added, removed, is_safe=True)
-    elif here.key.value == "needs":
-        names_ = list(dict.fromkeys([*(item.value for item in first.items or [first]), *(item.value for item in second.items or [second])]))
-        if first.kind == "scalar" or first.is_flow:
-            yield case.of('merge it with the first "needs"', Edit(first.span, f"[{', '.join(names_)}]"), removed, is_safe=True)
+            yield case.of(title, added, removed, is_safe=True)
+    elif first.kind == second.kind == "sequence" and not first.is_flow and not second.is_flow and first.items and second.items:
+        line = last_line(first, case.lines)
+        lines = case.lines[second.items[0].span.start.line:last_line(second, case.lines) + 1]
+        dash, column = (case.lines[node.items[0].span.start.line].index("-") for node in (second, first))
+        text = "".join("\n" + (" " * column + one[dash:] if one.strip() else "") for one in lines)
+        yield case.of(title, Edit(Span.at(Point(line, len(case.lines[line]))), text), removed)
+    elif _takes_list(case, here) and (first.kind == "scalar" or first.is_flow) and {first.kind, second.kind} <= {"scalar", "sequence"}:
+        texts = [case.slice(item.span) for node in (first, second) for item in (node.items or [node])]
+        yield case.of(title, Edit(first.span, f"[{', '.join(dict.fromkeys(texts))}]"), removed, is_safe=True)
+
+
+def _takes_list(case: Case, here: Found) -> bool:
+    """Whether the value of a key can be a list of texts."""
+    shape = shape_at(case.file, here.path, case.levels((*here.path, "")))
+    return shape is not None and shape["items"] == "Text"
 
 
 def missing_key(case: Case) -> Iterable[Repair]:

@@ -92,6 +92,9 @@ def moves(case: Case, here: Found) -> Iterator[tuple[Path, Repair]]:
     """The sections that have a key, and the repairs that move it there."""
     if here.key is None or here.parent.is_flow or case.lines[here.key.span.start.line][:here.key.span.start.column].strip():
         return
+    if here.key.value == "environment" and here.value.entries and here.value.get("name") is None:
+        # variables
+        return
     lines = range(here.key.span.start.line, last_line(here.value, case.lines) + 1)
     for path, names, column in (*_sections_before(case, here), *_sections_around(case, here)):
         if here.key.value in case.known_keys(path, names):

@@ -139,7 +139,7 @@ def as_text(case: Case) -> Iterable[Repair]:
     """A word that isn't a context, in quotes, if it is compared or an argument. What is compared on the right side can be nothing else."""
     chain, span = whole_chain(case)
     expression = expression_of(case)
-    match = re.match(r"[\w./*-]+", case.line[span.start.column:]) if chain else None
+    match = re.match(r"[\w./*-]+(?:\[\w+\])?", case.line[span.start.column:]) if chain else None
     if match is None or expression is None:
         return
     end = span.start.column + len(match[0])

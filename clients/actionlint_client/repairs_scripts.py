@@ -108,8 +108,10 @@ def _uses(case: Case, place: Place, name: str) -> list[Edit]:
     if used is None:
         return []
     span = place.span
-    if used == f"'\"${name}\"'" and place.before.endswith("'") and after.startswith("'") and place.script.value.style != "'":
-        used, span = f'"${name}"', Span.on_line(span.start.line, span.start.column - 1, span.end.column + 1)
+    if used in (f"'\"${name}\"'", f"'$env:{name}'"):
+        if not (place.before.endswith("'") and after.startswith("'")) or place.script.value.style == "'":
+            return [Edit(span, _in_style(used, place))] if place.shell in POSIX else []
+        used, span = used[1:-1], Span.on_line(span.start.line, span.start.column - 1, span.end.column + 1)
     return [Edit(span, _in_style(used, place))]
 
 
@@ -131,11 +133,12 @@ def _in_bash(place: Place, name: str, after: str) -> str | None:
 
 
 def _in_powershell(place: Place, name: str, after: str) -> str | None:
-    """Not in single quotes, where nothing is replaced."""
+    """Not in single quotes, where nothing is replaced, unless all of them is."""
     line = place.before[place.before.rfind("\n") + 1:]
-    in_document = place.before.count("@'\n") > place.before.count("\n'@")
-    if quote_in_line(line) == "'" or in_document:
+    if place.before.count("@'\n") > place.before.count("\n'@"):
         return None
+    if quote_in_line(line) == "'":
+        return f"'$env:{name}'"
     return f"${{env:{name}}}" if re.match(r"[\w:]", after) else f"$env:{name}"
 
 
