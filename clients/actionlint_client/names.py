@@ -18,7 +18,7 @@ MAX_NAME_CHARACTERS = 100
 # Of which only so many names, and in words so long, are compared by letters.
 MAX_NAMES = 400
 MAX_WORD_CHARACTERS = 40
-SEPARATORS = re.compile(r"[-_. ]+")
+SEPARATORS = re.compile(r"[-_. /]+")
 DIGITS = re.compile(r"\d+")
 
 # Of which names the argument of a fault should have been one.

@@ -205,7 +205,10 @@ def _merged(case: Case, here: Found, first: Node) -> Iterable[Repair]:
         text = "".join("\n" + (" " * column + one[dash:] if one.strip() else "") for one in lines)
         yield case.of(title, Edit(Span.at(Point(line, len(case.lines[line]))), text), removed)
     elif _takes_list(case, here) and (first.kind == "scalar" or first.is_flow) and {first.kind, second.kind} <= {"scalar", "sequence"}:
-        texts = [case.slice(item.span) for node in (first, second) for item in (node.items or [node])]
+        items = [item for node in (first, second) for item in (node.items or [node])]
+        if not all(item.kind == "scalar" and item.value not in ("", "~", "null") for item in items):
+            return
+        texts = [case.slice(item.span) for item in items]
         yield case.of(title, Edit(first.span, f"[{', '.join(dict.fromkeys(texts))}]"), removed, is_safe=True)
 
 

@@ -146,7 +146,8 @@ def as_text(case: Case) -> Iterable[Repair]:
     before, after = case.line[:span.start.column], case.line[end:]
     if not is_operand(before, after):
         return
-    is_alone = is_compared(before, "") and not case.written.isupper() and not list(with_context(case)) and not likely(chain[0], _scope_names(case))
+    is_alone = is_compared(before, "") and not after.startswith(".") and "." not in match[0] and before.rstrip()[-3:-2] != "'"
+    is_alone = is_alone and not case.written.isupper() and not list(with_context(case)) and not likely(chain[0], _scope_names(case))
     text = case.line[span.start.column:end]
     yield case.replace("put it in quotes", in_yaml("'" + text + "'", expression), Span.on_line(span.start.line, span.start.column, end), is_alone)
 
