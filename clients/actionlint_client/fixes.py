@@ -9,8 +9,8 @@ from enum import Enum
 from itertools import islice
 from typing import Callable, Iterable, NamedTuple
 
-from . import (repairs_calls, repairs_expressions, repairs_keys, repairs_kinds, repairs_levels, repairs_names, repairs_rules, repairs_scripts,
-               repairs_yaml)
+from . import (repairs_calls, repairs_expressions, repairs_keys, repairs_kinds, repairs_levels, repairs_names, repairs_rules,
+               repairs_scripts, repairs_values, repairs_yaml)
 from .disk import MAX_FILE_BYTES
 from .entries import entry_of
 from .paths import is_workflow
@@ -29,8 +29,8 @@ MAX_REPORT_BYTES = 4 * 1_048_576
 # Faults of expressions that can't be read.
 UNREADABLE = ("X1", "X2", "X3", "X4", "X5", "X6", "X20")
 LOCAL_CALL = re.compile(r"\./[^\s'\"#,}\]]*")
-MODULES = (repairs_yaml, repairs_levels, repairs_keys, repairs_kinds, repairs_rules, repairs_expressions, repairs_names, repairs_scripts,
-           repairs_calls)
+MODULES = (repairs_yaml, repairs_levels, repairs_keys, repairs_kinds, repairs_rules, repairs_expressions, repairs_names, repairs_values,
+           repairs_scripts, repairs_calls)
 REPAIRS: dict[str, tuple[Callable[[Case], Iterable[Repair]], ...]] = {
     code: tuple(each for module in MODULES for each in module.REPAIRS.get(code, ())) for found in MODULES for code in found.REPAIRS}
 
@@ -59,9 +59,9 @@ def repairs(project: Project, fault: Fault) -> list[Repair]:
 
 
 def fixes(words: list[str], timeout: float, project: Project, faults: Iterable[Fault], earlier: Iterable[Fault] = ()) -> list[Fix]:
-    """For the first 20 faults, the repairs after which the linter no longer reports the fault, and none that it didn't report before, as
-    many as can be tried in a second, and at least one. `words` start the linter. While a file isn't valid YAML, `earlier` are the faults
-    that it had when it last was; these may come back."""
+    """For the first 20 faults, the repairs after which the linter no longer reports the fault, and none that it didn't report before but
+    what the fault has hidden, as many as can be tried in a second, and at least one. One that shows what was hidden is a guess. `words`
+    start the linter. While a file isn't valid YAML, `earlier` are the faults that it had when it last was; these may come back."""
     deadline = time.monotonic() + MAX_SECONDS
     mended: list[Fix] = []
     trial = None
@@ -89,8 +89,8 @@ def fixes(words: list[str], timeout: float, project: Project, faults: Iterable[F
 
 
 def _to_show(found: list[Repair]) -> list[Repair]:
-    """The first repair with each title: the safe one, guesses, and guesses that delete something. Several safe ones are several readings, so
-    each is a guess; beside a single one nothing is deleted. Last resorts only if there are no others."""
+    """The first repair with each title: the safe one, guesses, and guesses that delete something. Several safe ones are several readings,
+    so each is a guess; beside a single one nothing is deleted. Last resorts only if there are no others."""
     better = [repair for repair in found if not repair.is_last_resort] or found
     safe = sum(repair.is_safe for repair in better)
     if safe > 1:
@@ -181,8 +181,8 @@ class Trial:
 
 
 def _was_hidden(one: Fault, fault: Fault, repair: Repair) -> bool:
-    """Whether a fault was there before a repair, hidden by the repaired one: an expression that can't be read has no other fault, and a file
-    that isn't YAML has none on its other lines."""
+    """Whether a fault was there before a repair, hidden by the repaired one: an expression that can't be read has no other fault, and a
+    file that isn't YAML has none on its other lines."""
     code, hidden = (entry.code if (entry := entry_of(each.message)) else "" for each in (one, fault))
     if one.path != fault.path or code in UNREADABLE or code[:1] in ("Y", "K"):
         return False

@@ -35,9 +35,9 @@ class Edit(NamedTuple):
 
 @dataclass(frozen=True)
 class Repair:
-    """What can be done about a fault: edits by file, and new files. A safe one means what was written, or is the only reading that the fault
-    leaves; any other is a guess. One that deletes something comes after all others. A last resort is offered only if nothing else repairs
-    the fault."""
+    """What can be done about a fault: edits by file, and new files. A safe one means what was written, or is the only reading that the
+    fault leaves; any other is a guess. One that deletes something comes after all others. A last resort is offered only if nothing else
+    repairs the fault."""
 
     title: str
     edits: dict[str, tuple[Edit, ...]]

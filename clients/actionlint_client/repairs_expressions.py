@@ -1,7 +1,6 @@
-"""Repairs of expressions that can't be read, or whose values don't fit."""
+"""Repairs of expressions that can't be read, and what other repairs of expressions use."""
 from __future__ import annotations
 
-import itertools
 import re
 from typing import Callable, Iterable, NamedTuple
 
@@ -15,7 +14,8 @@ BRACES = re.compile(r"\$\{\{(.*?)\}\}", re.S)
 MANY_BRACES = re.compile(r"\$\{{3,}([^{}]*)\}{2,}")
 NESTED_BRACES = re.compile(r"\$\{\{([^{}]*)\$\{\{([^{}]*)\}\}([^{}]*)\}\}")
 DOUBLE_QUOTED = re.compile(r'\\?"([^"\\]*)\\?"')
-CURLY_QUOTED = re.compile("[\u2018\u2019\u201a\u201c\u201d\u201e\u00b4`]([^'\"\u2018\u2019\u201c\u201d`]*)[\u2018\u2019\u201c\u201d\u00b4`]")
+CURLY = "\u2018\u2019\u201a\u201c\u201d\u201e\u00b4`"
+CURLY_QUOTED = re.compile(rf"[{CURLY}]([^'\"{CURLY}]*)[{CURLY}]")
 ODD_SPACES = re.compile("[\u00a0\u2000-\u200a\u202f\u3000]")
 SINGLE_EQUALS = re.compile(r"(?<![=!<>])=(?!=)")
 WORD_OPERATORS = {"and": "&&", "or": "||", "eq": "==", "ne": "!="}
@@ -29,13 +29,10 @@ CALL_OF_CHOICE = re.compile(r"\b(case|iif|if|ternary|choose)\s*\(")
 ARGUMENTS = re.compile(r"(?:'(?:[^']|'')*'|[^()']|\((?:[^()']|'[^']*')*\))*")
 ARGUMENT = re.compile(r"(?:'(?:[^']|'')*'|\((?:[^()']|'[^']*')*\)|[^,()'])+")
 MAX_CONDITION_CHARACTERS = 5_000
-PLACEHOLDER = re.compile(r"\{(\d{1,3})\}")
 TWO_QUOTES = "''"
 NO_SIGNS = (";", "$", "\\")
 SUM = re.compile(rf"({CHAIN.pattern}|'[^']*')((?:\s*\+\s*(?:{CHAIN.pattern}|'[^']*'))+)")
 COMPARISONS = ("==", "!=", "<", ">", "<=", ">=")
-# What of a job or a step is compared with a text, and of which objects.
-COMPARED = {"needs": "result", "steps": "outcome", "job": "status"}
 
 
 class Expression(NamedTuple):
@@ -141,7 +138,8 @@ def _without_words(text: str) -> str:
     """`not a == b` as `!(a == b)`: the word holds for all up to the next `&&` or `||`."""
     while (match := next((match for match in NOT.finditer(text) if not _is_in_text(text, match.start())), None)) is not None:
         rest = text[match.end():]
-        end = next((token.start for token in tokens(rest) if token.depth < 0 or token.depth == 0 and token.text in ("&&", "||", ",")), len(rest))
+        ends = (token.start for token in tokens(rest) if token.depth < 0 or token.depth == 0 and token.text in ("&&", "||", ","))
+        end = next(ends, len(rest))
         operand = rest[:end]
         tail = operand[len(operand.rstrip()):]
         text = text[:match.start()] + "!" + grouped(operand.strip(), COMPARISONS) + tail + rest[end:]
@@ -218,7 +216,7 @@ def choice_by_call(case: Case) -> Iterable[Repair]:
     call = CALL_OF_CHOICE.search(text)
     if expression is None or call is None:
         return
-    arguments, end = _arguments(text, call.end())
+    arguments, end = arguments_at(text, call.end())
     made = _choice_of(arguments) if call[1] == "case" or len(arguments) == 3 else None
     if made and text[end:end + 1] == ")":
         before, after = text[:call.start()], text[end + 1:]
@@ -239,7 +237,7 @@ def _choice_of(arguments: list[str]) -> Choice | None:
     return made
 
 
-def _arguments(text: str, start: int) -> tuple[list[str], int]:
+def arguments_at(text: str, start: int) -> tuple[list[str], int]:
     """The arguments of a call that begin at an offset, and the offset after them."""
     match = ARGUMENTS.match(text, start)
     return [part.strip() for part in ARGUMENT.findall(match[0])], match.end()
@@ -315,8 +313,8 @@ def inner_braces(case: Case) -> Iterable[Repair]:
         span = Span.on_line(case.span.start.line, many.start(), many.end())
         yield case.replace("write two braces", "${{" + many[1] + "}}", span, is_safe=True)
     column = case.span.start.column
-    match = next((match for match in NESTED_BRACES.finditer(case.line) if match.start() <= column < match.end() or case.code == "G18"), None)
-    if match:
+    match = NESTED_BRACES.search(case.line)
+    if match and (match.start() <= column < match.end() or case.code == "G18"):
         span = Span.on_line(case.span.start.line, match.start(), match.end())
         yield case.replace("take away the inner braces", "${{" + match[1] + match[2].strip() + match[3] + "}}", span, is_safe=True)
 
@@ -373,61 +371,9 @@ def is_compared(before: str, after: str) -> bool:
     return re.search(r"(?:[=!]=|[<>]=?)\s*$", before) is not None or re.match(r"\s*(?:[=!]=|[<>])", after) is not None
 
 
-def without_index(case: Case) -> Iterable[Repair]:
-    """The chain up to what can't be indexed, unless that makes a condition constant."""
-    chain, span = whole_chain(case)
-    line = case.line
-    dot = max(line.rfind(sign, span.start.column, case.span.start.column + 1) for sign in (".", "["))
-    here = case.scalar
-    if not chain or dot <= span.start.column or here is None:
-        return
-    is_test = is_in_condition(case) and not is_operand(line[:span.start.column], line[span.end.column:])
-    if not is_test and not line[:span.start.column].rstrip().endswith("!"):
-        index = line[dot:span.end.column]
-        yield case.replace(f'delete "{index}"', "", Span(Point(case.span.start.line, dot), span.end), deletes=True)
-
-
 def is_in_condition(case: Case) -> bool:
     here = case.scalar
     return here is not None and is_condition(case.file, here.path, case.levels(here.path))
-
-
-def compared_part(case: Case) -> Iterable[Repair]:
-    """What of a needed job, a step or an event is compared with a text, in place of all of it."""
-    if case.code == "X18" and not is_in_condition(case):
-        return
-    for match in CHAIN.finditer(case.line):
-        span = Span.on_line(case.span.start.line, match.start(), match.end())
-        if not is_compared(case.line[:match.start()], case.line[match.end():]) and not span.holds(case.span.start):
-            continue
-        here = [name.lower() for name in links(match[0])]
-        if here == ["github", "event"]:
-            yield case.replace("change to github.event_name", "github.event_name", span)
-        elif here[0] in COMPARED and len(here) == (1 if here[0] == "job" else 2):
-            name = COMPARED[here[0]]
-            yield case.replace(f'compare its "{name}"', f"{match[0]}.{name}", span)
-
-
-def all_results(case: Case) -> Iterable[Repair]:
-    """The results of all needed jobs, for `contains`."""
-    chain, span = whole_chain(case)
-    if [name.lower() for name in chain] == ["needs"] and case.line[:span.start.column].lower().rstrip(" ").endswith("contains("):
-        yield case.replace("take the results of all needed jobs", "needs.*.result", span)
-
-
-def as_json(case: Case) -> Iterable[Repair]:
-    """The value as a text, except in a condition, where a text is always true."""
-    chain, span = whole_chain(case)
-    if is_in_condition(case) and case.code == "X18":
-        return
-    if chain:
-        yield case.replace("convert it to JSON", f"toJSON({case.slice(span)})", span)
-        if span.end.column > span.start.column and "*" in chain:
-            expression = expression_of(case)
-            literal = in_yaml("', '", expression) if expression else "', '"
-            yield case.replace("join its entries", f"join({case.slice(span)}, {literal})", span)
-    elif (expression := expression_of(case)) and expression.text.strip():
-        yield case.replace("convert it to JSON", f" toJSON({expression.text.strip()}) ", expression.span)
 
 
 def one_pair(case: Case) -> Iterable[Repair]:
@@ -452,62 +398,6 @@ def one_pair(case: Case) -> Iterable[Repair]:
             yield case.replace(f"delete the {rest} beside the braces", alone, here.value.span, deletes=True)
 
 
-def fewer_arguments(case: Case) -> Iterable[Repair]:
-    """A call without its last arguments, if the function takes as few."""
-    line, column = case.line, case.span.start.column
-    match = re.match(rf"{NAME}\s*\(", line[column:])
-    if not match:
-        return
-    start = column + match.end()
-    arguments, end = _arguments(line, start)
-    for kept in range(len(arguments) - 1, -1, -1):
-        yield case.replace(f"delete {', '.join(arguments[kept:])}", ", ".join(arguments[:kept]), Span.on_line(case.span.start.line, start, end),
-                           deletes=True)
-
-
-def _format_call(case: Case) -> tuple[list[str], Span] | None:
-    """The arguments of the call of format around the fault, and their place."""
-    start = case.line.rfind("format(", 0, case.span.end.column)
-    if start < 0:
-        return None
-    begin = start + len("format(")
-    parts, end = _arguments(case.line, begin)
-    return parts, Span.on_line(case.span.start.line, begin, end)
-
-
-def right_format(case: Case) -> Iterable[Repair]:
-    """As many placeholders as arguments, numbered from 0; braces that aren't placeholders doubled."""
-    call = _format_call(case)
-    if call is None or not call[0]:
-        return
-    (text, *arguments), span = call
-    numbers = {int(number) for number in PLACEHOLDER.findall(text)}
-    quote = TWO_QUOTES if text.startswith(TWO_QUOTES) else "'"
-    unused = [number for number in range(len(arguments)) if number not in numbers]
-    places = "".join(f" {{{number}}}" for number in unused)
-    tries = [("number the placeholders", [_numbered(text, len(arguments)), *arguments]),
-             ("write the braces twice", [re.sub(r"\{(?!\d+\})([^{}]*)\}", r"{{\1}}", text), *arguments]),
-             ("put it into the text", [text.removesuffix(quote) + places + quote, *arguments])]
-    for title, changed in tries:
-        if changed != [text, *arguments]:
-            yield case.replace(title, ", ".join(changed), span)
-            if changed[0] == _numbered(text, len(arguments)):
-                return
-    if unused and unused == list(range(unused[0], len(arguments))):
-        yield case.replace(f"delete {', '.join(arguments[unused[0]:])}", ", ".join([text, *arguments[:unused[0]]]), span, deletes=True)
-
-
-def _numbered(text: str, count: int) -> str:
-    """A text with its placeholders numbered: those without a number one after another, or as many different ones as arguments by their
-    order."""
-    used = sorted({int(number) for number in PLACEHOLDER.findall(text)})
-    if used:
-        order = {number: place for place, number in enumerate(used)}
-        return PLACEHOLDER.sub(lambda match: "{%d}" % order[int(match[1])], text) if len(used) == count else text
-    numbers = itertools.count()
-    return re.sub(r"\{\}|%s", lambda match: "{%d}" % next(numbers), text)
-
-
 SINGLE_QUOTES = rewritten("write single quotes", _single_quotes, True)
 DOUBLED = rewritten('write "==", "&&", "||"', _doubled, True)
 SPREAD = rewritten("compare it with each", _spread)
@@ -519,16 +409,9 @@ REPAIRS: dict[str, tuple[Callable[[Case], Iterable[Repair]], ...]] = {
            rewritten("write a call of format", _formatted), rewritten("write the operators of expressions", _all_operators, True),
            rewritten('write "${{" and "}}"', _double_braces, True), from_context, word_as_text, without_character),
     "X2": (closed_text,),
-    "X3": (OPERATORS, SPREAD, DOUBLED, as_choice, rewritten("call a function", _called), inner_braces, closed_brackets, with_comma, without_rest,
-           without_character),
+    "X3": (OPERATORS, SPREAD, DOUBLED, as_choice, rewritten("call a function", _called), inner_braces, closed_brackets, with_comma,
+           without_rest, without_character),
     "X4": (closed_brackets, without_rest),
-    "X11": (fewer_arguments,),
-    "X12": (all_results, as_json),
-    "X14": (without_index,),
-    "X15": (compared_part,),
-    "X16": (right_format,),
-    "X17": (right_format,),
-    "X18": (as_json, compared_part),
     "X20": (closed_braces,),
     "G18": (inner_braces, one_pair),
 }

@@ -179,7 +179,8 @@ def repeated(case: Case) -> Iterable[Repair]:
         yield case.of('join both conditions with "&&"', Edit(first.span, both), without_entry(case, here.parent, here.key))
     if here.path != ("jobs", name):
         value = f' ("{here.value.value}")' if here.value.kind == "scalar" and 0 < len(here.value.value) < 40 else ""
-        yield case.of(f'delete the second "{name}"{value}{entries_of(here.value)}', without_entry(case, here.parent, here.key), deletes=True)
+        title = f'delete the second "{name}"{value}{entries_of(here.value)}'
+        yield case.of(title, without_entry(case, here.parent, here.key), deletes=True)
 
 
 def _merged(case: Case, here: Found, first: Node) -> Iterable[Repair]:
@@ -191,8 +192,7 @@ def _merged(case: Case, here: Found, first: Node) -> Iterable[Repair]:
     if first.alias or second.alias:
         return
     if first.kind == second.kind == "mapping" and first.entries and second.entries:
-        is_plain = first.is_flow == second.is_flow or all(value.kind == "scalar" and value.style in ("", "'", '"') and not FLOW_SIGNS.search(
-            value.value) for _, value in second.entries)
+        is_plain = first.is_flow == second.is_flow or all(_fits_anywhere(value) for _, value in second.entries)
         if is_plain and not set(first.names()) & set(second.names()):
             texts = [case.slice(Span(key.span.start, tight(case, value).end)) for key, value in second.entries]
             indent, between = "\n" + " " * second.span.start.column, ", " if first.is_flow else "\n"
@@ -210,6 +210,11 @@ def _merged(case: Case, here: Found, first: Node) -> Iterable[Repair]:
             return
         texts = [case.slice(item.span) for item in items]
         yield case.of(title, Edit(first.span, f"[{', '.join(dict.fromkeys(texts))}]"), removed, is_safe=True)
+
+
+def _fits_anywhere(value: Node) -> bool:
+    """Whether a value means the same in brackets and on a line of its own."""
+    return value.kind == "scalar" and value.style in ("", "'", '"') and not FLOW_SIGNS.search(value.value)
 
 
 def _takes_list(case: Case, here: Found) -> bool:
@@ -248,7 +253,7 @@ def _moved_here(case: Case, path: Path, wanted: list[str]) -> Iterable[Repair]:
     """A missing key that stands in another section, which doesn't have it."""
     for found in case.nodes.keys.values():
         if found.key and found.key.value in wanted and found.path[:-1] != path:
-            if not found.key.value in case.known_keys(found.path[:-1]):
+            if found.key.value not in case.known_keys(found.path[:-1]):
                 yield from (repair for goal, repair in moves(case, found) if goal == path)
 
 

@@ -51,8 +51,8 @@ def _last_line(case: Case, number: int, own: int) -> int:
 
 
 def _section(case: Case, number: int, column: int) -> tuple[Path, int]:
-    """The path of the mapping that a line would be in at a column. With it, 0 if the section has the line's key and lacks it, 1 if any key can
-    stand there, 2 otherwise."""
+    """The path of the mapping that a line would be in at a column. With it, 0 if the section has the line's key and it isn't there yet,
+    1 if any key can stand there, 2 otherwise."""
     elements = case.outline.lines[number].elements
     if number > MAX_LINES or not elements or elements[0].name is None:
         return (), 2

@@ -6,15 +6,15 @@ from typing import Callable, Iterable
 
 from . import project as files
 from .expressions import Scope, chain_before
-from .names import likely, names
+from .names import likely
 from .operators import parts
 from .paths import is_workflow
 from .report import Fault
 from .repair import Case, Edit, Found, Repair, first_entry, levels_of, next_entry, quoted, without_entry
-from .repairs_expressions import choice_by_call, expression_of, in_yaml, is_compared, is_operand, whole_chain
+from .repairs_expressions import choice_by_call, expression_of, in_yaml, is_operand, whole_chain
 from .syntax import table
 from .text import Point, Span
-from .tree import Node, Path
+from .tree import Path
 
 # Words that are often written for a property of `github`.
 OTHER_PROPERTIES = {"branch": "ref_name", "branch_name": "ref_name", "tag": "ref_name", "tag_name": "ref_name", "sha_short": "sha",
@@ -104,8 +104,8 @@ def declared_row(case: Case) -> Iterable[Repair]:
 
 
 def unknown_word(case: Case) -> Iterable[Repair]:
-    """A function with its missing brackets, a property with its missing context, or a text in quotes: that first, if it is compared with what
-    is before it."""
+    """A function with its missing brackets, a property with its missing context, or a text in quotes: that first, if it is compared with
+    what is before it."""
     if case.arguments[0].lower() in [name.lower() for name in _functions(case)]:
         yield case.replace('add "()"', case.written + "()", is_safe=True)
         return
@@ -146,10 +146,10 @@ def as_text(case: Case) -> Iterable[Repair]:
     before, after = case.line[:span.start.column], case.line[end:]
     if not is_operand(before, after):
         return
-    is_alone = is_compared(before, "") and not after.startswith(".") and "." not in match[0] and before.rstrip()[-3:-2] != "'"
-    is_alone = is_alone and not case.written.isupper() and not list(with_context(case)) and not likely(chain[0], _scope_names(case))
-    text = case.line[span.start.column:end]
-    yield case.replace("put it in quotes", in_yaml("'" + text + "'", expression), Span.on_line(span.start.line, span.start.column, end), is_alone)
+    is_word = "." not in match[0] and not match[0].isupper() and not likely(chain[0], _scope_names(case)) and not list(with_context(case))
+    is_compared_with_name = re.search(r"[\w\])]\s*[=!]=\s*$", before) is not None
+    place = Span.on_line(span.start.line, span.start.column, end)
+    yield case.replace("put it in quotes", in_yaml(f"'{match[0]}'", expression), place, is_word and is_compared_with_name)
 
 
 def sibling_property(case: Case) -> Iterable[Repair]:
@@ -252,7 +252,8 @@ def _declaring(case: Case, way: Path, name: str, title: str, *edits: Edit) -> It
 
 
 def other_context(case: Case) -> Iterable[Repair]:
-    """An available context in place of one that isn't, or what it stands for: the value of a variable, a needed job, an input of an action."""
+    """An available context in place of one that isn't, or what it stands for: the value of a variable, a needed job, an input of an
+    action."""
     chain, span = whole_chain(case)
     if len(chain) < 2 or case.tree is None:
         return
@@ -414,7 +415,8 @@ def declared_output(case: Case) -> Iterable[Repair]:
         yield from _declared_by(case, callee, name)
         return
     steps = [step for step in files.steps_of(case.tree, chain[1]) if step.text("id")]
-    step = next((step.text("id") for step in reversed(steps) if name in files.written_outputs(step)), steps[-1].text("id") if steps else None)
+    writes = [step for step in steps if name in files.written_outputs(step)] or steps
+    step = writes[-1].text("id") if writes else None
     entry = f"{name}: {quoted('${{ steps.%s.outputs.%s }}' % (step, name)) if step else quoted('')}"
     outputs = job.get("outputs")
     title = f'add the output "{name}" to "{chain[1]}", ' + (f'from its step "{step}"' if step else "without a value")

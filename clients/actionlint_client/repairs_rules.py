@@ -27,12 +27,13 @@ GREATEST = (59, 23, 31, 12, 6)
 MAX_SCHEDULE_CHARACTERS = 200
 # Values that are often written instead of another one that isn't similar enough to be found.
 OTHER_VALUES = {"text": "string", "str": "string", "int": "number", "integer": "number", "float": "number", "bool": "boolean",
-                "list": "choice", "array": "string", "choice": "string", "environment": "string", "readonly": "read", "read-only": "read", "rw": "write", "admin": "write",
+                "list": "choice", "array": "string", "choice": "string", "environment": "string", "readonly": "read",
+                "read-only": "read", "rw": "write", "admin": "write",
                 "all": "write-all", "merged": "closed", "merge": "closed", "updated": "synchronize", "pushed": "synchronize",
                 "commented": "created", "approved": "submitted", "node18": "node20", "node22": "node24", "node14": "node20",
                 "node": "node20", "javascript": "node20", "shell": "bash", "bash.exe": "bash", "batch": "cmd", "python3": "python"}
 # Programs that run a script, given as a file.
-INTERPRETERS = ("zsh", "fish", "dash", "ksh", "node", "perl", "ruby", "Rscript", "nu", "php", "lua", "tclsh", "python2", "deno", "bun", "elvish")
+INTERPRETERS = ("zsh", "fish", "dash", "ksh", "nu", "elvish", "node", "deno", "bun", "perl", "ruby", "Rscript", "php", "lua", "tclsh")
 WORDS_OF_SCALARS = {"read": "read-all", "write": "write-all", "readonly": "read-all", "all": "write-all"}
 RANGE_WITHOUT_END = re.compile(r"\[((?:\w-\w)+)(?=[^]\w-]|$)")
 

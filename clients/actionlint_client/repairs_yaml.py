@@ -54,7 +54,8 @@ def _takes_texts(case: Case, span: Span) -> bool:
     shape = shape_at(case.file, place.path, (*place.around, {}))
     text = case.slice(span)
     is_text = shape is not None and not shape["items"] and not shape["free"] and "keys" not in shape and shape["scalars"] == "AnyScalar"
-    return is_text and text[:1] not in ("|", ">", "'", '"') and place.path[-1:] not in (("if",), ("uses",)) and "?" not in text and not IS_PAIR.match(text)
+    has_meaning = text[:1] in ("|", ">", "'", '"') or "?" in text or IS_PAIR.match(text) is not None
+    return is_text and not has_meaning and place.path[-1:] not in (("if",), ("uses",))
 
 
 def as_schedule(case: Case) -> Iterable[Repair]:
@@ -223,8 +224,8 @@ def script_in_lines(case: Case) -> Iterable[Repair]:
 
 
 def as_expression(case: Case) -> Iterable[Repair]:
-    """A condition that begins in double quotes, as in a shell, or with `!` before its braces, as one expression; or one whose braces lack the
-    dollar."""
+    """A condition that begins in double quotes, as in a shell, or with `!` before its braces, as one expression; or one whose braces lack
+    the dollar."""
     span = case.rest_span(case.span.start.line)
     text = case.slice(span).strip() if span else ""
     if span and text.startswith("{{") and text.endswith("}}"):
@@ -369,7 +370,8 @@ REPAIRS: dict[str, tuple[Callable[[Case], Iterable[Repair]], ...]] = {
     "Y11": (without_line,),
     "Y12": (single_quotes,),
     "Y13": (plain_spaces, comment, as_condition, as_expression, as_schedule, list_in_line, closed_above, inner_quotes, pair_below,
-            script_in_lines, script_below, with_quotes, as_block, with_space, with_colon, brackets_closed_above, moved_line, without_character),
+            script_in_lines, script_below, with_quotes, as_block, with_space, with_colon, brackets_closed_above, moved_line,
+            without_character),
     "Y16": (text_on_next_line,),
     "Y17": (as_expression, with_colon, with_quotes, quoted_key),
     "Y18": (near_alias, with_quotes),

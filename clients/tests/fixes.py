@@ -129,8 +129,8 @@ def every_code(program: str) -> None:
 
 @CASES.case
 def random_slips(program: str) -> None:
-    """Texts with a few characters changed: repairs are found without an error, and each offered one removes its fault. A safe one causes none,
-    and a guess none but what an expression or a file that can't be read has hidden, by a run of the linter on the changed folder."""
+    """Texts with a few characters changed: repairs are found without an error, and each offered one removes its fault. A safe one causes
+    none, and a guess none but what an expression or a file that can't be read has hidden, by a run of the linter on the changed folder."""
     chance = random.Random(int(os.environ.get("SEED", "1")))
     slips = [texts for _, texts in every_text() if all(texts.values())]
     offered = 0

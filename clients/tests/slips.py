@@ -4,10 +4,10 @@ after each; safe fixes leave nothing behind.
 
     slips.py PROGRAM [NAME...]
 
-In these files `===` begins a case, `---` a file of it, and `???` a fault of its report. Below a fault stand its fixes, each after `>>>` with
-`safe` or `guess` and its title, and then its changes: lines that are taken away (`-`), put in (`+`) or stay (a space), each searched for below
-the one before; `+++` begins those of another file. `!!!` is a text that no fix may make. `%steps` and `%jobs` stand for lines that most texts
-begin or end with."""
+In these files `===` begins a case, `---` a file of it, and `???` a fault of its report. Below a fault stand its fixes, each after `>>>`
+with `safe` or `guess` and its title, and then its changes: lines that are taken away (`-`), put in (`+`) or stay (a space), each searched
+for below the one before; `+++` begins those of another file. `!!!` is a text that no fix may make. `%steps` and `%jobs` stand for lines
+that most texts begin or end with."""
 from __future__ import annotations
 
 import re
@@ -18,7 +18,7 @@ from pathlib import Path
 from typing import Iterator
 
 from cases import Cases
-from repositories import CLIENTS, FILE
+from repositories import CLIENTS
 
 from actionlint_client import fixes as quick_fixes
 from actionlint_client.fixes import Fix
@@ -200,15 +200,16 @@ def put_files(script: bytes) -> Iterator[tuple[str, str]]:
 
 @CASES.case
 def safe_fixes_leave_nothing(program: str) -> None:
-    """After each safe fix of each slip and of each fault's example its fault is gone, and there is no new one. Safe ones come first, there is
-    one for a fault at most, and what deletes something comes last."""
+    """After each safe fix of each slip and of each fault's example its fault is gone, and there is no new one. Safe ones come first, there
+    is one for a fault at most, and what deletes something comes last."""
     safe = 0
     for name, texts in every_text():
         folder = Folder(program, texts)
         faults = folder.faults()
         for fault in faults[:5]:
             found = folder.fixes(fault)
-            assert [fix.repair for fix in found] == sorted((fix.repair for fix in found), key=lambda one: (not one.is_safe, one.deletes)), name
+            order = [(not fix.repair.is_safe, fix.repair.deletes) for fix in found]
+            assert order == sorted(order), (name, fault)
             assert sum(fix.repair.is_safe for fix in found) <= 1, (name, fault)
             for fix in found[:1]:
                 if fix.repair.is_safe:
