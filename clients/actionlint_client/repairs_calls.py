@@ -234,7 +234,7 @@ def _right_calls(case: Case, text: str) -> Iterable[tuple[str, bool]]:
         return
     if is_workflow(case.file) and text.rpartition("/")[2] and case.project.has(f"{WORKFLOWS}/{text.rpartition('/')[2]}"):
         yield f"./{WORKFLOWS}/{text.rpartition('/')[2]}", False
-    if re.fullmatch(r"docker:/*[\w./:-]+", text):
+    if re.fullmatch(r"docker:[\w./:-]+", text):
         yield re.sub(r"^docker:/*", "docker://", text), True
     bare = re.sub(r"^(?:https?://)?(?:www\.)?github\.com/", "", text)
     bare = re.sub(r"\.git(?=@|$)", "", bare).strip("/")

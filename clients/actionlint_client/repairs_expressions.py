@@ -10,7 +10,7 @@ from .repair import NEEDS_QUOTES, Case, Repair, as_scalar, is_within_flow
 from .syntax import is_condition
 from .text import Point, Span
 
-BRACES = re.compile(r"\$\{\{(.*?)\}\}", re.S)
+BRACES = re.compile(r"\$\{\{((?:[^$}]|\$(?!\{\{)|\}(?!\}))*)\}\}")
 MANY_BRACES = re.compile(r"\$\{{3,}([^{}]*)\}{2,}")
 NESTED_BRACES = re.compile(r"\$\{\{([^{}]*)\$\{\{([^{}]*)\}\}([^{}]*)\}\}")
 DOUBLE_QUOTED = re.compile(r'\\?"([^"\\]*)\\?"')
@@ -23,8 +23,8 @@ WORDS = re.compile(r"(?<![\w.-])(" + "|".join(WORD_OPERATORS) + r")(?![\w.-])", 
 NOT = re.compile(r"(?<![\w.-])not(?![\w.-])\s*", re.I)
 VARIABLE = re.compile(r"\$\{?(GITHUB_|RUNNER_)?([A-Z_][A-Z0-9_]*)\}?")
 METHOD = re.compile(rf"(?<![\w.-])({NAME}(?:\.{NAME})*?)\.(contains|startsWith|endsWith)\(")
-AMONG = re.compile(rf"(?<![\w.-])({NAME}(?:\.{NAME})*)\s+in\s+[\[(]([^\])]*)[\])]")
-LIST_ARGUMENT = re.compile(r"\(\s*\[([^\]]*)\]\s*,")
+AMONG = re.compile(rf"(?<![\w.-])({NAME}(?:\.{NAME})*)\s+in\s+[\[(]([^\[\]()]*)[\])]")
+LIST_ARGUMENT = re.compile(r"\(\s*\[([^\[\]]*)\]\s*,")
 CALL_OF_CHOICE = re.compile(r"\b(case|iif|if|ternary|choose)\s*\(")
 ARGUMENTS = re.compile(r"(?:'(?:[^']|'')*'|[^()']|\((?:[^()']|'[^']*')*\))*")
 ARGUMENT = re.compile(r"(?:'(?:[^']|'')*'|\((?:[^()']|'[^']*')*\)|[^,()'])+")
@@ -32,6 +32,7 @@ MAX_CONDITION_CHARACTERS = 5_000
 TWO_QUOTES = "''"
 NO_SIGNS = (";", "$", "\\")
 SUM = re.compile(rf"({CHAIN.pattern}|'[^']*')((?:\s*\+\s*(?:{CHAIN.pattern}|'[^']*'))+)")
+WORD = re.compile(r"[^\s'\"()=!,]*")
 COMPARISONS = ("==", "!=", "<", ">", "<=", ">=")
 
 
@@ -164,8 +165,8 @@ def _all_operators(text: str) -> str:
 
 
 def _double_braces(text: str) -> str | None:
-    match = re.fullmatch(r"\$?\{+(.*?)\}+", text.strip(), re.S)
-    return "${{ " + match[1].strip() + " }}" if match else None
+    bare = text.strip().removeprefix("$")
+    return "${{ " + bare.strip("{}").strip() + " }}" if bare[:1] == "{" and bare[-1:] == "}" else None
 
 
 def from_context(case: Case) -> Iterable[Repair]:
@@ -240,13 +241,14 @@ def _choice_of(arguments: list[str]) -> Choice | None:
 def arguments_at(text: str, start: int) -> tuple[list[str], int]:
     """The arguments of a call that begin at an offset, and the offset after them."""
     match = ARGUMENTS.match(text, start)
-    return [part.strip() for part in ARGUMENT.findall(match[0])], match.end()
+    end = match.end() if match else start
+    return [part.strip() for part in ARGUMENT.findall(text[start:end])], end
 
 
 def _formatted(text: str) -> str | None:
     """`a + 'b'` as a call of format. Without a string it may be a sum, which expressions don't have."""
     def call(match: re.Match) -> str:
-        parts = [part.strip() for part in re.split(r"\s*\+\s*", match[0])]
+        parts = [part.strip() for part in match[0].split("+")]
         if not any(part.startswith("'") for part in parts):
             return match[0]
         return f"format('{''.join('{%d}' % number for number in range(len(parts)))}', {', '.join(parts)})"
@@ -284,7 +286,7 @@ def without_rest(case: Case) -> Iterable[Repair]:
     expression = expression_of(case)
     text = decoded(expression) if expression else ""
     stripped = text.rstrip()
-    match = re.search(r"\s*(&&|\|\||,|\))$", stripped)
+    match = re.search(r"(?<!\s)\s*(&&|\|\||,|\))$", stripped)
     if expression and match and match.start():
         yield with_expression(case, f'delete "{match[1]}" at the end', expression, stripped[:match.start()] + text[len(stripped):],
                               deletes=True)
@@ -355,8 +357,8 @@ def word_as_text(case: Case) -> Iterable[Repair]:
     """The text around the fault, up to the nearest spaces, in quotes, if it is compared or an argument."""
     expression = expression_of(case)
     line, column = case.line, case.span.start.column
-    start = column - len(re.search(r"[^\s'\"()=!,]*$", line[:column])[0])
-    end = column + len(re.match(r"[^\s'\"()=!,}]*", line[column:])[0])
+    start = column - len(WORD.findall(line[:column][::-1])[0])
+    end = column + len(WORD.findall(line[column:])[0].partition("}")[0])
     if expression and re.match(r"[\w./*-]", line[start:end]) and is_operand(line[:start], line[end:]):
         span = Span.on_line(case.span.start.line, start, end)
         yield case.replace("put it in quotes", in_yaml(f"'{line[start:end]}'", expression), span)

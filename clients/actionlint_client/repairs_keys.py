@@ -2,12 +2,14 @@
 from __future__ import annotations
 
 import re
+from itertools import islice
 from typing import Callable, Iterable
 
 from .names import likely, misspelled
 from .paths import is_workflow
 from .repairs_levels import moves
-from .repair import FLOW_SIGNS, Case, Edit, Found, Repair, entries_of, first_entry, indented, next_entry, quoted, tight, without_entry
+from .repair import (FLOW_SIGNS, Case, Edit, Found, Repair, entries_of, first_entry, indented, next_entry, quoted, tight, without_entry,
+                     without_key)
 from .syntax import shape_at, table
 from .text import Point, Span
 from .tree import Node, Path, last_line
@@ -27,6 +29,8 @@ OTHER_NAMES = {"timeout": "timeout-minutes", "command": "run", "script": "run", 
                "workdir": "working-directory", "inputs": "with", "input": "with", "parameters": "with", "environment": "env",
                "cmd": "run", "commands": "run", "action": "uses", "runner": "runs-on", "dependencies": "needs", "description": "name",
                "continue-on-failure": "continue-on-error", "ignore-errors": "continue-on-error", "matrix": "strategy"}
+# Where a missing key is looked for.
+MAX_PLACES = 20
 STEP_STARTS = ("name", "id", "if")
 
 
@@ -251,10 +255,11 @@ def _renamed(case: Case, unknown: list[Node], wanted: list[str]) -> Iterable[Rep
 
 def _moved_here(case: Case, path: Path, wanted: list[str]) -> Iterable[Repair]:
     """A missing key that stands in another section, which doesn't have it."""
-    for found in case.nodes.keys.values():
-        if found.key and found.key.value in wanted and found.path[:-1] != path:
-            if found.key.value not in case.known_keys(found.path[:-1]):
-                yield from (repair for goal, repair in moves(case, found) if goal == path)
+    others = (found for found in case.nodes.keys.values() if found.path[-1] in wanted and found.path[:-1] != path)
+    near = (found for found in others if len(found.path) < 3 or found.path[:2] == path[:2])
+    for found in islice(near, MAX_PLACES):
+        if found.path[-1] not in case.known_keys(found.path[:-1]):
+            yield from (repair for goal, repair in moves(case, found) if goal == path)
 
 
 def _joined(case: Case, here: Found) -> Iterable[Repair]:
@@ -346,7 +351,7 @@ def excluded_patterns(case: Case) -> Iterable[Repair]:
         items = [case.slice(item.span) for item in (first.items or [first])]
         items += [quoted("!" + item.value) for item in (second.items or [second])]
         yield case.of(f'put its patterns below "{kept}", each with "!"', Edit(first.span, f"[{', '.join(items)}]"),
-                      without_entry(case, here.parent, here.parent.key(ignored)))
+                      without_key(case, here.parent, ignored))
 
 
 REPAIRS: dict[str, tuple[Callable[[Case], Iterable[Repair]], ...]] = {

@@ -10,7 +10,7 @@ from .names import likely
 from .operators import parts
 from .paths import is_workflow
 from .report import Fault
-from .repair import Case, Edit, Found, Repair, first_entry, levels_of, next_entry, quoted, without_entry
+from .repair import Case, Edit, Found, Repair, first_entry, levels_of, next_entry, quoted, without_entry, without_key
 from .repairs_expressions import choice_by_call, expression_of, in_yaml, is_operand, whole_chain
 from .syntax import table
 from .text import Point, Span
@@ -156,7 +156,8 @@ def sibling_property(case: Case) -> Iterable[Repair]:
     """A property of what is before the value that can't be indexed, in place of that value's."""
     chain, span = whole_chain(case)
     scope = scope_of(case)
-    number = len(chain_before(case.line[span.start.column:case.span.start.column] + ".").chain) if chain else 0
+    before = chain_before(case.line[span.start.column:case.span.start.column] + ".") if chain else None
+    number = len(before.chain) if before else 0
     if scope is None or not 1 < number < len(chain):
         return
     name = chain[number]
@@ -229,7 +230,7 @@ def declared_input(case: Case) -> Iterable[Repair]:
     name = case.arguments[0]
     if any(is_slip for _, is_slip in likely(name, _properties_before(case))):
         return
-    ways = [("on", "workflow_dispatch"), ("on", "workflow_call")] if is_workflow(case.file) else [()]
+    ways: list[Path] = [("on", "workflow_dispatch"), ("on", "workflow_call")] if is_workflow(case.file) else [()]
     for way in ways:
         yield from _declaring(case, way, name, f'declare the input "{name}"')
     on = case.tree.get("on")
@@ -309,7 +310,7 @@ def as_secret(case: Case, here: Found) -> Iterable[Repair]:
     if here.key is None or job is None or here.path[2:3] != ("with",) or len(here.path) != 4:
         return
     secrets, text = job.get("secrets"), f"{here.key.value}: {case.slice(here.value.span)}"
-    removed = without_entry(case, here.parent, here.key) if len(here.parent.entries) > 1 else without_entry(case, job, job.key("with"))
+    removed = without_entry(case, here.parent, here.key) if len(here.parent.entries) > 1 else without_key(case, job, "with")
     if secrets is None:
         added = next_entry(case, job, "uses", f"secrets: {{{text}}}" if job.is_flow or here.parent.is_flow else f"secrets:\n  {text}")
     elif secrets.entries:
@@ -356,10 +357,9 @@ def _moved_to_steps(case: Case, chain: tuple[str, ...], span: Span) -> Iterable[
     """The condition of a job, moved to each of its steps, with a variable of the job in place of a secret. What is beside it after `&&` and
     has no such context stays."""
     job = case.at("jobs", case.job or "")
-    condition, steps = (job.key("if"), job.get("steps")) if job else (None, None)
-    if not job or condition is None or steps is None or any(step.get("if") or step.kind != "mapping" for step in steps.items):
+    value, steps = (job.get("if"), job.get("steps")) if job else (None, None)
+    if not job or value is None or steps is None or any(step.get("if") or step.kind != "mapping" for step in steps.items):
         return
-    value = job.get("if")
     text, whole = value.value.strip().removeprefix("${{").removesuffix("}}").strip(), case.slice(span)
     moved = [part for part in parts(text, "&&") if re.search(rf"\b{re.escape(chain[0])}\b", part)]
     stays = [part for part in parts(text, "&&") if part not in moved]
@@ -370,7 +370,7 @@ def _moved_to_steps(case: Case, chain: tuple[str, ...], span: Span) -> Iterable[
         name, entry = _secret_variable(chain)
         new = new.replace(whole, f"env.{name}")
         variable = [next_entry(case, job, "runs-on", f"env: {{{entry}}}" if job.is_flow else f"env:\n  {entry}")]
-    kept = Edit(value.span, _as_condition(" && ".join(stays))) if stays else without_entry(case, job, condition)
+    kept = Edit(value.span, _as_condition(" && ".join(stays))) if stays else without_key(case, job, "if")
     edits = [first_entry(case, step, f"if: {_as_condition(new, step.is_flow)}") for step in steps.items]
     yield case.of("put the condition on the steps" if not stays else f'put "{new}" on the steps', kept, *variable, *edits)
 
@@ -397,7 +397,7 @@ def moved_variable(case: Case) -> Iterable[Repair]:
             edits.append(first_entry(case, step, f"env: {{{flow_entry}}}" if step.is_flow else f"env:\n  {entry}"))
     if not edits:
         return
-    removed = without_entry(case, here.parent, here.key) if len(here.parent.entries) > 1 else without_entry(case, job, job.key("env"))
+    removed = without_entry(case, here.parent, here.key) if len(here.parent.entries) > 1 else without_key(case, job, "env")
     yield case.of("move it to the steps", removed, *edits)
 
 

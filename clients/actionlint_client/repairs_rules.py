@@ -7,7 +7,7 @@ from typing import Callable, Iterable
 
 from .expressions import CHAIN, links
 from .names import LISTS, likely, names
-from .repair import Case, Edit, Repair, as_scalar, is_within_flow, next_entry, quoted, without_entry
+from .repair import Case, Edit, Repair, as_scalar, is_within_flow, next_entry, quoted, without_key
 from .repairs_expressions import BRACES
 from .repairs_keys import deleted, in_its_quotes
 from .repairs_kinds import as_list, as_mapping
@@ -90,7 +90,7 @@ def _listed(case: Case) -> list[str]:
     if case.code == "G14" and here and here.path[-1:] != ("permissions",):
         return [name for name in ("read", "write", "none") if takes_access(str(here.path[-1]), name)]
     if case.code == "G19" and here and here.path[:2] == ("on", "workflow_call"):
-        return table()["call input types"]
+        return list(table()["call input types"])
     return ["read-all", "write-all"] if case.code == "G14" else known
 
 
@@ -123,7 +123,7 @@ def pattern(case: Case) -> Iterable[Repair]:
         yield case.of("add a space after each dash", *(Edit(Span.at(Point(line, case.lines[line].index("-") + 1)), " ") for line in dashes),
                       is_safe=True)
         return
-    words = re.split(r"\s*,\s*|\s+", text.strip())
+    words = text.replace(",", " ").split()
     if "," in text and len(words) > 1 and not is_within_flow(case, here.path) and not isinstance(here.path[-1], int):
         yield case.replace("make it a list", "[" + ", ".join(quoted(word) for word in words) + "]", here.value.span)
         return
@@ -206,7 +206,8 @@ def another_id(case: Case) -> Iterable[Repair]:
     here = case.key or case.value
     node = here.key if here and case.key and here.key else here.value if here else None
     if node:
-        name = next(name for number in itertools.count(2) if (name := f"{node.value}-{number}") not in case.text)
+        taken = set(re.findall(r"-(\d+)(?!\d)", case.text))
+        name = f"{node.value}-" + next(str(number) for number in itertools.count(2) if str(number) not in taken)
         yield case.replace(f'change to "{name}"', name, node.span)
 
 
@@ -232,10 +233,12 @@ def without_need(case: Case) -> Iterable[Repair]:
     title = f'take "{here.value.value}" out of "needs"'
     job = case.at("jobs", case.job)
     needs = job.get("needs") if job else None
-    if needs and needs.kind == "scalar" or needs and len(needs.items) == 1:
+    if job is None or needs is None:
+        return
+    if needs.kind == "scalar" or len(needs.items) == 1:
         if len(job.entries) > 1:
-            yield case.of(title, without_entry(case, job, job.key("needs")), deletes=True)
-    elif needs:
+            yield case.of(title, without_key(case, job, "needs"), deletes=True)
+    else:
         yield case.of(title, _without_item(case, needs, here.value), deletes=True)
 
 
@@ -257,7 +260,7 @@ def list_of_row(case: Case) -> Iterable[Repair]:
         yield from as_mapping(case, here.value)
     text = case.slice(here.value.span)
     if here.value.kind == "scalar":
-        words = [word for word in re.split(r"\s*,\s*", here.value.value) if word]
+        words = [word.strip() for word in here.value.value.split(",") if word.strip()]
         if len(words) > 1:
             yield case.replace("make it a list", "[" + ", ".join(words) + "]", here.value.span)
         elif not here.value.style.strip("'\""):

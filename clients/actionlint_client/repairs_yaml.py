@@ -73,13 +73,18 @@ def _quoted_item(case: Case) -> Iterable[Repair]:
     start = max(line.rfind(sign, 0, text_start) for sign in "[{,") + 1
     key = KEY_IN_BRACKETS.match(line, start)
     start = key.end() if key and key.end() <= text_start else start + len(line[start:]) - len(line[start:].lstrip())
-    ends = [FLOW_ITEM.match(line, max(column + 1, start)).end(), *(match.end() for match in re.finditer(r"\}\}", line)),
+    ends = [_end_of_item(line, max(column + 1, start)), *(match.end() for match in re.finditer(r"\}\}", line)),
             line.find(", ", column), line.rfind("]")]
     for end in dict.fromkeys(end for end in ends if end > column):
         text = line[start:end].rstrip()
         if text and start <= column and not _opens_quote(text):
             span = Span.on_line(case.span.start.line, start, start + len(text))
             yield case.replace("put it in quotes", quoted(text), span)
+
+
+def _end_of_item(line: str, start: int) -> int:
+    match = FLOW_ITEM.match(line, start)
+    return match.end() if match else start
 
 
 def as_block(case: Case) -> Iterable[Repair]:
@@ -198,9 +203,9 @@ def spaces_for_tabs(case: Case) -> Iterable[Repair]:
         if edits:
             yield case.of("replace tabs by spaces", *edits)
     indent = next((len(line) - len(line.lstrip(" ")) for line in reversed(case.lines[:case.span.start.line]) if line.strip()), 0)
-    head = Span.on_line(case.span.start.line, 0, len(case.line) - len(case.line.lstrip(" \t")))
+    start = Span.on_line(case.span.start.line, 0, len(case.line) - len(case.line.lstrip(" \t")))
     for spaces in (indent, indent + 2):
-        yield case.replace("replace tabs by spaces", " " * spaces, head)
+        yield case.replace("replace tabs by spaces", " " * spaces, start)
 
 
 def script_in_lines(case: Case) -> Iterable[Repair]:
@@ -274,7 +279,9 @@ def comment(case: Case) -> Iterable[Repair]:
 def near_alias(case: Case) -> Iterable[Repair]:
     """An alias of a similar anchor."""
     match = ALIAS.match(case.line, case.span.start.column)
-    for name, is_slip in likely(match[1], dict.fromkeys(ANCHOR.findall(case.text))) if match else ():
+    if match is None:
+        return
+    for name, is_slip in likely(match[1], dict.fromkeys(ANCHOR.findall(case.text))):
         span = Span.on_line(case.span.start.line, match.start(1), match.end(1))
         yield case.replace(f'change to "*{name}"', name, span, is_slip)
 
