@@ -197,11 +197,14 @@ def _merged(case: Case, here: Found, first: Node) -> Iterable[Repair]:
         return
     if first.kind == second.kind == "mapping" and first.entries and second.entries:
         is_plain = first.is_flow == second.is_flow or all(_fits_anywhere(value) for _, value in second.entries)
-        if is_plain and not set(first.names()) & set(second.names()):
-            texts = [case.slice(Span(key.span.start, tight(case, value).end)) for key, value in second.entries]
+        shared = [key.value for key, _ in second.entries if first.get(key.value)]
+        new = [(key, value) for key, value in second.entries if key.value not in shared]
+        if is_plain and new:
+            texts = [case.slice(Span(key.span.start, tight(case, value).end)) for key, value in new]
+            lost = ", without its " + ", ".join(f'"{name}"' for name in shared) if shared else ""
             indent, between = "\n" + " " * second.span.start.column, ", " if first.is_flow else "\n"
             added = next_entry(case, first, first.entries[-1][0].value, between.join(text.replace(indent, "\n") for text in texts))
-            yield case.of(title, added, removed, is_safe=True)
+            yield case.of(title + lost, added, removed, is_safe=not shared, deletes=bool(shared))
     elif first.kind == second.kind == "sequence" and not first.is_flow and not second.is_flow and first.items and second.items:
         line = last_line(first, case.lines)
         lines = case.lines[second.items[0].span.start.line:last_line(second, case.lines) + 1]
