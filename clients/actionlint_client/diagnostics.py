@@ -2,6 +2,7 @@
 from __future__ import annotations
 
 from .faults import FileFaults
+from .ignoring import IgnoreFiles
 from .positions import Lines
 from .problems import problem_of
 from .report import Fault
@@ -13,9 +14,10 @@ OF_EARLIER = "(of the last text that was YAML)"
 
 
 class Diagnostics:
-    def __init__(self, docs: str | None):
-        """`docs` is the address of the pages of faults, for links."""
+    def __init__(self, docs: str | None, ignored: IgnoreFiles | None = None):
+        """`docs` is the address of the pages of faults, for links; `ignored` are the faults that aren't shown."""
         self._docs = docs
+        self.ignored = ignored or IgnoreFiles(lambda _: None)
 
     def of_file(self, lines: Lines, found: FileFaults, earlier: FileFaults, refused: str | None) -> list[dict]:
         """The faults of a file, those of its last valid YAML, how many more there are, and why it isn't linted."""

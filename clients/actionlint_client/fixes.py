@@ -58,11 +58,12 @@ def repairs(project: Project, fault: Fault) -> list[Repair]:
     return list(found.values())[:MAX_TRIED]
 
 
-def fixes(words: list[str], timeout: float, project: Project, faults: Iterable[Fault], earlier: Iterable[Fault] = ()) -> list[Fix]:
+def fixes(words: list[str], timeout: float, project: Project, faults: Iterable[Fault], earlier: Iterable[Fault] = (),
+          seconds: float = MAX_SECONDS) -> list[Fix]:
     """For the first 20 faults, the repairs after which the linter no longer reports the fault, and none that it didn't report before but
-    what the fault has hidden, as many as can be tried in a second, and at least one. One that shows what was hidden is a guess. `words`
+    what the fault has hidden, as many as can be tried in some seconds, and at least one. One that shows what was hidden is a guess. `words`
     start the linter. While a file isn't valid YAML, `earlier` are the faults that it had when it last was; these may come back."""
-    deadline = time.monotonic() + MAX_SECONDS
+    deadline = time.monotonic() + seconds
     mended: list[Fix] = []
     trial = None
     try:

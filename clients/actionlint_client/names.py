@@ -9,8 +9,6 @@ from itertools import islice
 from pathlib import Path
 from typing import Iterable
 
-from .entries import argument_of, entry_of
-
 TABLE = Path(__file__).parent / "names.json"
 # Three fifths aren't enough: `main` would be like `matrix`.
 LEAST_LIKENESS = 0.61
@@ -95,11 +93,3 @@ def difference(one: str, other: str, most: int) -> int:
             row.append(count)
         rows.append(row)
     return min(rows[-1][-1], most + 1)
-
-
-def near_name(message: str) -> str | None:
-    """The name most similar to the one in the message; None if it isn't about a known list, or no name is similar."""
-    entry, wrong = entry_of(message), argument_of(message)
-    if entry is None or entry.code not in LISTS or wrong is None:
-        return None
-    return next(iter(near(wrong, names()[LISTS[entry.code]], 1)), None)

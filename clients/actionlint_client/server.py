@@ -21,6 +21,7 @@ from .diagnostics import Diagnostics
 from .editor import Editor
 from .folder import Folder, Program
 from .hover import Hover
+from .ignoring import IgnoreFiles
 from .messages import Messages
 from .navigation import Navigation
 from .repository import Repository
@@ -46,7 +47,9 @@ class Server:
         self._endpoint = Endpoint(self, self._send)
         self._editor = Editor(self._endpoint.notify, self._endpoint.request)
         program = Program([options.program], options.timeout)
-        diagnostics = Diagnostics(docs)
+        self._ignored = IgnoreFiles(self._editor.say)
+        self._ignored.files += options.ignore_file
+        diagnostics = Diagnostics(docs, self._ignored)
         shows_earlier = not options.no_earlier_faults
         self._workspace = Workspace(
             lambda root: Repository(root, Folder(root, program, self._editor.say, keeps_calls=shows_earlier), shows_earlier),
@@ -119,12 +122,13 @@ class Server:
             raise JsonRpcMethodNotFound.of(method)
         return self._handlers[method](**(parameters or {}))
 
-    def _initialize(self, rootUri=None, rootPath=None, workspaceFolders=None, capabilities=None, **_) -> dict:
+    def _initialize(self, rootUri=None, rootPath=None, workspaceFolders=None, capabilities=None, initializationOptions=None, **_) -> dict:
         uris = [folder["uri"] for folder in workspaceFolders or []] or ([rootUri] if rootUri else [])
         self._named = _paths_of(uris)
         if not uris and rootPath:
             self._named = [os.path.abspath(os.fsencode(rootPath))]
         self._editor.take_capabilities(capabilities)
+        self._ignored.files += _texts((initializationOptions or {}).get("ignoreFiles"))
         told = {
             "textDocumentSync": {"openClose": True, "change": FULL_TEXT, "save": {"includeText": False}},
             "workspace": {"workspaceFolders": {"supported": True, "changeNotifications": True}},
@@ -161,6 +165,11 @@ class Server:
     def _take_changed_folders(self, event, **_) -> None:
         self._workspace.add_folders(_paths_of([folder["uri"] for folder in event.get("added") or []]))
         self._workspace.remove_folders(set(_paths_of([folder["uri"] for folder in event.get("removed") or []])))
+
+
+def _texts(value: object) -> list[str]:
+    """The texts of a list in an editor's options, or the only one."""
+    return [value] if isinstance(value, str) else [one for one in value if isinstance(one, str)] if isinstance(value, list) else []
 
 
 def _paths_of(uris: list[str]) -> list[bytes]:
