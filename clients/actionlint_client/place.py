@@ -14,7 +14,7 @@ from .tree import Path
 DASH = re.compile(r"-(?= |$)")
 KEY = re.compile(r"""(?:"((?:[^"\\]|\\.)*)" *|'((?:[^']|'')*)' *|([^\s\[\]{},"'|>%@`#&*!-][^#]*?|-[^\s#][^#]*?)):(?=\s|$)""")
 # What can follow a key whose value is in the lines below.
-NO_VALUE = re.compile(r"(?:[&!]\S+\s*)*(?:#.*)?")
+NO_VALUE = re.compile(r"(?:[&!]\S+(?:\s+|$))*(?:#.*)?")
 BLOCK_SCALAR = re.compile(r"(?:[&!]\S+ +)*[|>][-+0-9]*\s*(?:#.*)?$")
 FLOW_TOKEN = re.compile(r"""\s+|\#[^\n]*|"(?:[^"\\]|\\.)*"?|'(?:[^']|'')*'?|[\[\]{},]|:(?=[\s,\[\]{}]|$)"""
                         r"""|(?:[^\s,\[\]{}:"'\#]|:(?=[^\s,\[\]{}]))(?:[^,\[\]{}:\n]|:(?=[^\s,\[\]{}]))*""")

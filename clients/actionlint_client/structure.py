@@ -47,11 +47,13 @@ def part_of(project: Project, file: str) -> Part | None:
 
 
 def _job(key: Node, value: Node, lines: list[str]) -> Part:
-    return Part(key.value, "job", Span(key.span.start, _end(value, lines)), key.span, tuple(_steps(value.get("steps"), lines)))
+    """A job. One that is an alias has no parts, since they are elsewhere."""
+    steps = value.get("steps") if value.alias is None else None
+    return Part(key.value, "job", Span(key.span.start, _end(value, lines)), key.span, tuple(_steps(steps, lines)))
 
 
 def _steps(steps: Node | None, lines: list[str]) -> Iterator[Part]:
-    for step in steps.items if steps else ():
+    for step in steps.items if steps and steps.alias is None else ():
         if step.kind != "mapping" or step.alias is not None:
             continue
         naming = next((node for key in ("name", "id", "uses", "run") if (node := step.get(key)) and node.kind == "scalar"), None)
