@@ -3,12 +3,14 @@ from __future__ import annotations
 
 import re
 from dataclasses import dataclass
-from typing import Callable, Iterable, NamedTuple
+from typing import Callable, Collection, Iterable, NamedTuple
 
 from .paths import ACTION_NAMES, is_action, is_path, is_workflow
 from .text import LINE_BREAK
 from .tree import Node, read_tree
 
+# Files whose texts and trees are held, besides those that are open.
+MAX_HELD = 64
 OUTPUT_NAME = re.compile(r"""(?:^|[\s"'{(;&|])([A-Za-z_][\w-]*)(?:=|<<)""")
 
 
@@ -37,15 +39,22 @@ class _Known:
 
 
 class Project:
-    """`read` returns the current bytes of a file, `paths` the linted workflows and actions, and `actions` all actions."""
+    """`read` returns the current bytes of a file, `paths` the linted workflows and actions, `actions` all actions, and `is_open` tells whether
+    a file is open in the editor."""
 
     def __init__(self, read: Callable[[str], bytes | None], paths: Callable[[], Iterable[str]],
-                 actions: Callable[[], Iterable[str]] | None = None):
-        self.read, self.paths = read, paths
+                 actions: Callable[[], Iterable[str]] | None = None, is_open: Callable[[str], bool] = lambda _: False):
+        self.read, self.paths, self._is_open = read, paths, is_open
         self.actions = actions or (lambda: (path for path in paths() if is_action(path)))
         # What other modules remember about a file, each by a name of its own.
         self.memory: dict[tuple[str, str], object] = {}
+        # Those used last are at the end.
         self._known: dict[str, _Known] = {}
+
+    def keep(self, files: Collection[str]) -> None:
+        """Forgets all files but these."""
+        self._known = {file: known for file, known in self._known.items() if file in files}
+        self.memory = {key: known for key, known in self.memory.items() if key[1] in files}
 
     def text(self, file: str) -> str:
         """The text with line feeds only and without a byte order mark. Empty if there is no such file."""
@@ -93,14 +102,25 @@ class Project:
         if known is None or known.data is not data and known.data != data:
             text = LINE_BREAK.sub("\n", data.decode("utf-8", "replace").removeprefix("\ufeff"))
             known = self._known[file] = _Known(data, text, good=known.good if known else None)
+            self._let_go()
         return known
+
+    def _let_go(self) -> None:
+        """Forgets the files that were used least lately."""
+        too_many = len(self._known) - MAX_HELD
+        if too_many > 0:
+            for file in [file for file in self._known if not self._is_open(file)][:too_many]:
+                del self._known[file]
 
     def _read(self, file: str) -> _Known:
         """The file with its tree."""
         known = self._look(file)
+        if file in self._known:
+            self._known[file] = self._known.pop(file)
         if not known.is_read:
-            known.tree, known.is_read = read_tree(known.text), True
-            known.good = known.tree or known.good
+            tree = read_tree(known.text)
+            known.good = tree or known.good
+            known.tree, known.is_read = tree, True
         return known
 
 

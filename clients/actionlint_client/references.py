@@ -40,23 +40,22 @@ class Occurrence(NamedTuple):
 
 
 class _Known(NamedTuple):
-    """The names of a tree, and the calls with the files that they led to."""
+    """The names of a text, and its calls with the files that they led to."""
 
-    tree: Node
+    data: bytes
     calls: dict[tuple[str | None, bool], str | None]
     found: list[Occurrence]
 
 
 def occurrences(project: Project, file: str) -> list[Occurrence]:
     """All places of names in a file, none while it isn't valid YAML."""
-    tree = project.tree(file)
-    if tree is None:
-        return []
+    data = project.read(file) or b""
     known = project.memory.get(("names", file))
-    if not isinstance(known, _Known) or known.tree is not tree or any(project.callee(*call) != callee for call,
-                                                                      callee in known.calls.items()):
-        finder = _Finder(project, file, tree)
-        known = project.memory["names", file] = _Known(tree, finder.calls, list(finder.find()))
+    if not isinstance(known, _Known) or known.data != data or any(project.callee(*call) != callee for call, callee in known.calls.items()):
+        tree = project.tree(file)
+        finder = _Finder(project, file, tree) if tree else None
+        found = list(finder.find()) if finder else []
+        known = project.memory["names", file] = _Known(data, finder.calls if finder else {}, found)
     return known.found
 
 
@@ -73,8 +72,8 @@ def all_of(project: Project, symbol: Symbol) -> list[Occurrence]:
 
 def callers(project: Project, file: str) -> list[str]:
     """The files that call a file."""
-    name = "./" + (file if is_workflow(file) else file.rpartition("/")[0])
-    return [path for path in project.paths() if path != file and name in project.text(path)
+    name = ("./" + (file if is_workflow(file) else file.rpartition("/")[0])).encode("utf-8")
+    return [path for path in project.paths() if path != file and name in (project.read(path) or b"")
             and any(one.symbol == Symbol("file", file, "", "") for one in occurrences(project, path))]
 
 

@@ -85,7 +85,7 @@ class Repository:
     @cached_property
     def project(self) -> Project:
         """The files for features that look up names."""
-        return Project(self.folder.read, self.folder.paths, lambda: actions_below(self.root))
+        return Project(self.folder.read, self.folder.paths, lambda: actions_below(self.root), self.documents.__contains__)
 
     def uri(self, path: str) -> str:
         """The URI under which the editor has a file open, or else one of its path."""
@@ -114,6 +114,8 @@ class Repository:
         result = self.folder.refresh()
         paths = self._touched | (self._shown.keys() if result is None else result.changed)
         self.result, self._touched = result or NOTHING, set()
+        if paths:
+            self.project.keep({*self.folder.paths(), *self.documents})
         for path in sorted(paths):
             self._show(path, editor, diagnostics)
 

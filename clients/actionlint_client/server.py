@@ -21,6 +21,7 @@ from .diagnostics import Diagnostics
 from .editor import Editor
 from .folder import Folder, Program
 from .hover import Hover
+from .limit import LIMIT, TooSlow
 from .messages import Messages
 from .navigation import Navigation
 from .repository import Repository
@@ -31,6 +32,9 @@ from .workspace import Workspace
 
 FULL_TEXT = 1
 SERVER_NOT_INITIALIZED = -32002
+REQUEST_FAILED = -32803
+# The processor time that a request of a feature can take.
+MAX_SECONDS = 2.0
 
 
 class Server:
@@ -71,8 +75,9 @@ class Server:
             "workspace/didChangeWatchedFiles": self._take_changed_files,
             "workspace/didChangeWorkspaceFolders": self._take_changed_folders,
         }
+        self._requests: dict[str, Callable] = {}
         for feature in self._features:
-            self._handlers.update(feature.handlers())
+            self._requests.update(feature.handlers())
 
     def run(self) -> int:
         """Serves until the editor says `exit` or its input ends. The status is 0 if it said `shutdown` before, else 1."""
@@ -115,6 +120,8 @@ class Server:
             raise JsonRpcServerError(f"{method} comes before initialize", SERVER_NOT_INITIALIZED)
         if self._is_shut_down or self._is_initialized and method == "initialize":
             raise JsonRpcInvalidRequest(f"{method} comes too late")
+        if method in self._requests:
+            return _limited(partial(self._requests[method], **(parameters or {})))
         if method not in self._handlers:
             raise JsonRpcMethodNotFound.of(method)
         return self._handlers[method](**(parameters or {}))
@@ -161,6 +168,14 @@ class Server:
     def _take_changed_folders(self, event, **_) -> None:
         self._workspace.add_folders(_paths_of([folder["uri"] for folder in event.get("added") or []]))
         self._workspace.remove_folders(set(_paths_of([folder["uri"] for folder in event.get("removed") or []])))
+
+
+def _limited(request: Callable[[], object]) -> object:
+    """The answer to a request. Raises JsonRpcException if it takes too long."""
+    try:
+        return LIMIT.call(MAX_SECONDS, request)
+    except TooSlow:
+        raise JsonRpcException("actionlint: not answered, since it takes too long", REQUEST_FAILED) from None
 
 
 def _paths_of(uris: list[str]) -> list[bytes]:
