@@ -21,6 +21,7 @@ FLOW_TOKEN = re.compile(r"""\s+|\#[^\n]*|"(?:[^"\\]|\\.)*"?|'(?:[^']|'')*'?|[\[\
 WORD = re.compile(r"(?:[^\s,\[\]{}'\":]|:(?!\s|$))*")
 COLON = re.compile(r"['\"]? *:(?:\s|$)")
 MAX_FLOW_LINES = 100
+MAX_CHARACTERS_AFTER = 10_000
 # No file that the linter accepts is as deep.
 MAX_DEPTH = 100
 UNKNOWN: tuple[Path, tuple[dict[str, str], ...]] = ("",), ({},)
@@ -91,6 +92,21 @@ class Outline:
             self.lines.append(Line(indent, elements, rest))
             is_block = bool(elements) and BLOCK_SCALAR.match(rest) is not None
             block = (number, elements[-1].column) if is_block else None
+        self._next, self._end = self._links()
+
+    def _links(self) -> tuple[list[int], list[int]]:
+        """For each line the next one with a dash or a key, and the next one of these that doesn't begin further right."""
+        count = len(self.lines)
+        following, ends, latest = [count] * count, [count] * count, count
+        for number in range(count - 1, -1, -1):
+            following[number] = latest
+            elements = self.lines[number].elements
+            if elements:
+                below = latest
+                while below < count and self.lines[below].elements[0].column > elements[0].column:
+                    below = ends[below]
+                ends[number], latest = below, number
+        return following, ends
 
     def place(self, point: Point) -> Place:
         """The place of a point in the text."""
@@ -247,11 +263,13 @@ class Outline:
         for above in range(number - 1, -1, -1) if not is_first else ():
             if not self._add_key(above, column, found):
                 break
-        for below in range(number if with_own else number + 1, len(self.lines)):
-            line = self.lines[below]
-            if below > number and line.elements and line.elements[0].column < column:
-                break
-            found.update((element.name, line.rest) for element in line.elements if element.name is not None and element.column == column)
+        if with_own:
+            found.update((element.name, own.rest) for element in own.elements if element.name is not None and element.column == column)
+        below = self._next[number]
+        while below < len(self.lines) and (first := self.lines[below].elements[0]).column >= column:
+            if first.column == column and first.name is not None:
+                found[first.name] = self.lines[below].rest
+            below = self._end[below]
         return found
 
     def _add_key(self, number: int, column: int, found: dict[str, str]) -> bool:
@@ -273,7 +291,7 @@ class Frame:
 
 
 class FlowReader:
-    """Reads a text that begins with a bracket to the end of its last line, and notes what is open at the cursor."""
+    """Reads a text that begins with a bracket, some way past the cursor, and notes what is open there."""
 
     def __init__(self, cursor: int):
         self.cursor = cursor
@@ -291,7 +309,7 @@ class FlowReader:
                     return
                 self._find(text[match.start():self.cursor] if inside else "", match.start())
             self._take(token)
-            if not self._open:
+            if not self._open or self.found and match.start() > self.cursor + MAX_CHARACTERS_AFTER:
                 return
         if self.found is None and 0 < len(self._open) <= MAX_DEPTH:
             self._find("", len(text))

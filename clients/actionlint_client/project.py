@@ -38,13 +38,17 @@ class _Known:
     good: Node | None = None
 
 
+NO_FILE = _Known(b"", "", [""], is_read=True)
+
+
 class Project:
-    """`read` returns the current bytes of a file, `paths` the linted workflows and actions, `actions` all actions, and `is_open` tells whether
-    a file is open in the editor."""
+    """`read` returns the current bytes of a file, `paths` the linted workflows and actions, `actions` all actions. `is_open` tells whether a
+    file is open in the editor, and `is_too_large` whether the linter refuses it as too large; such a file has no tree."""
 
     def __init__(self, read: Callable[[str], bytes | None], paths: Callable[[], Iterable[str]],
-                 actions: Callable[[], Iterable[str]] | None = None, is_open: Callable[[str], bool] = lambda _: False):
-        self.read, self.paths, self._is_open = read, paths, is_open
+                 actions: Callable[[], Iterable[str]] | None = None, is_open: Callable[[str], bool] = lambda _: False,
+                 is_too_large: Callable[[str], bool] = lambda _: False):
+        self.read, self.paths, self.is_too_large, self._is_open = read, paths, is_too_large, is_open
         self.actions = actions or (lambda: (path for path in paths() if is_action(path)))
         # What other modules remember about a file, each by a name of its own.
         self.memory: dict[tuple[str, str], object] = {}
@@ -77,7 +81,7 @@ class Project:
     def tree_around(self, file: str, line: int) -> Node | None:
         """The tree of a file. While it isn't valid YAML, that of the file without the line, or else its last valid one."""
         known = self._read(file)
-        if known.tree:
+        if known.tree or known is NO_FILE:
             return known.tree
         lines = [*self.lines(file)]
         if line < len(lines):
@@ -117,6 +121,8 @@ class Project:
         known = self._look(file)
         if file in self._known:
             self._known[file] = self._known.pop(file)
+        if self.is_too_large(file):
+            return NO_FILE
         if not known.is_read:
             tree = read_tree(known.text)
             known.good = tree or known.good

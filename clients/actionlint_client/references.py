@@ -169,6 +169,8 @@ class _Finder:
             yield from self._of_expressions(value, job, key in CONDITION_KEYS)
 
     def _of_expressions(self, value: Node, job: str | None, is_condition: bool) -> Iterator[Occurrence]:
+        if "${{" not in value.value and not is_condition:
+            return
         start, end = self._content(value)
         written = _without_escapes(self.text[start:end], value.style)
         parts = list(expressions_in(written))

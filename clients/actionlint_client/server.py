@@ -2,6 +2,7 @@
 from __future__ import annotations
 
 import argparse
+import gc
 import logging
 import os
 import queue
@@ -35,6 +36,8 @@ SERVER_NOT_INITIALIZED = -32002
 REQUEST_FAILED = -32803
 # The processor time that a request of a feature can take.
 MAX_SECONDS = 2.0
+# How many new objects, and how many collections of them, there are before older objects are looked at too.
+COLLECTED = (50_000, 20)
 
 
 class Server:
@@ -208,6 +211,8 @@ def _take_all_descriptors() -> None:
 
 def main(options: argparse.Namespace) -> int:
     _take_all_descriptors()
+    # The tree of a large file has many objects, none of which refers to itself.
+    gc.set_threshold(*COLLECTED)
     try:
         logging.basicConfig(filename=options.log, level=logging.ERROR)
     except OSError as error:

@@ -12,6 +12,8 @@ from .tree import Node, last_line, walk
 MAX_NAME_CHARACTERS = 80
 # The name of a step that has nothing to be named by.
 UNNAMED = "step"
+# A scalar in double quotes with an escape, or what looks like one.
+ESCAPED = re.compile(rb'(?:^|[:,\[{-])[ \t]*(?:[&!]\S+[ \t]+)?"[^"\\]*\\', re.M)
 BETWEEN_WORDS = re.compile(r"[\s'\"]+")
 
 
@@ -80,7 +82,7 @@ def parts_with(project: Project, file: str, query: str, may_read: bool) -> list[
 def _may_name(data: bytes, file: str, query: str) -> bool:
     """Whether a part of the file can have a name with a text in lower case. Names are words of the file, which may be on several lines, have
     quotes twice and escapes."""
-    if query in file.lower() or query in UNNAMED or b"\\" in data and b'"' in data:
+    if query in file.lower() or query in UNNAMED or b"\\" in data and ESCAPED.search(data):
         return True
     text = data.decode("utf-8", "replace").lower()
     return all(word in text for word in BETWEEN_WORDS.split(query))
