@@ -19,7 +19,7 @@ from .tree import Node, Path, last_line, walk
 
 NEEDS_QUOTES = re.compile(r"^[!&*\[\]{}|>@`%'\"#,?-]|: | #|:$")
 FLOW_SIGNS = re.compile(r"[\[\]{},]")
-COMMENT = re.compile(r"\s+#.*$|\s+$")
+COMMENT = re.compile(r"(?<!\s)\s+(?:#.*)?$")
 
 
 class Edit(NamedTuple):
