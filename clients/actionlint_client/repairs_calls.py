@@ -153,7 +153,8 @@ def right_uses(case: Case) -> Iterable[Repair]:
         indent = "\n" + " " * here.key.span.start.column
         steps = f"runs-on: ubuntu-latest{indent}steps:{indent}  - uses: {case.slice(here.value.span)}"
         yield case.replace("call it from a step", steps, Span(here.key.span.start, here.value.span.end))
-    bare = re.sub(r"@?\$\{\{.*?\}\}.*$", "", text)
+    bare, braces, rest = text.partition("${{")
+    bare = bare.removesuffix("@") if braces and "}}" in rest else text
     own = re.sub(r"^(?:\.?/)+", "", text)
     tries = []
     if case.project.has(own) or any(case.project.has(f"{own.removesuffix('/')}/{name}") for name in ACTION_NAMES):
@@ -169,7 +170,7 @@ def right_uses(case: Case) -> Iterable[Repair]:
         tries.append("actions/" + text)
     if re.fullmatch(r"[\w.-]+", text):
         tries.append(f"actions/{text}@main")
-    if not text.startswith("docker://") and re.fullmatch(r"docker:/*[\w./:-]+", text):
+    if not text.startswith("docker://") and re.fullmatch(r"docker:[\w./:-]+", text):
         tries.append(re.sub(r"^docker:/*", "docker://", text))
     if is_workflow(case.file) and text.rpartition("/")[2] and case.project.has(f"{WORKFLOWS}/{text.rpartition('/')[2]}"):
         tries.append(f"./{WORKFLOWS}/{text.rpartition('/')[2]}")
