@@ -9,15 +9,15 @@ from .expressions import CHAIN, NAME, STRING, links
 from .repair import NEEDS_QUOTES, Case, Repair, as_scalar, is_within_flow
 from .text import Point, Span
 
-BRACES = re.compile(r"\$\{\{(.*?)\}\}", re.S)
+BRACES = re.compile(r"\$\{\{((?:[^$}]|\$(?!\{\{)|\}(?!\}))*)\}\}")
 DOUBLE_QUOTED = re.compile(r'\\?"([^"\\]*)\\?"')
 SINGLE_EQUALS = re.compile(r"(?<![=!<>])=(?!=)")
 WORD_OPERATORS = {"and": "&&", "or": "||", "not": "!", "eq": "==", "ne": "!="}
 WORDS = re.compile(r"\b(" + "|".join(WORD_OPERATORS) + r")\b", re.I)
 VARIABLE = re.compile(r"\$\{?(GITHUB_)?([A-Z_][A-Z0-9_]*)\}?")
 METHOD = re.compile(rf"(?<![\w.-])({NAME}(?:\.{NAME})*?)\.(contains|startsWith|endsWith)\(")
-AMONG = re.compile(rf"(?<![\w.-])({NAME}(?:\.{NAME})*)\s+in\s+[\[(]([^\])]*)[\])]")
-LIST_ARGUMENT = re.compile(r"\(\s*\[([^\]]*)\]\s*,")
+AMONG = re.compile(rf"(?<![\w.-])({NAME}(?:\.{NAME})*)\s+in\s+[\[(]([^\[\]()]*)[\])]")
+LIST_ARGUMENT = re.compile(r"\(\s*\[([^\[\]]*)\]\s*,")
 CALL_OF_CHOICE = re.compile(r"\b(?:case|iif|if|ternary|choose)\s*\(")
 ARGUMENTS = re.compile(r"(?:'(?:[^']|'')*'|[^()']|\((?:[^()']|'[^']*')*\))*")
 ARGUMENT = re.compile(r"(?:'(?:[^']|'')*'|\((?:[^()']|'[^']*')*\)|[^,()'])+")
@@ -107,8 +107,8 @@ def _all_operators(text: str) -> str:
 
 
 def _double_braces(text: str) -> str | None:
-    match = re.fullmatch(r"\$?\{+(.*?)\}+", text.strip(), re.S)
-    return "${{ " + match[1].strip() + " }}" if match else None
+    bare = text.strip().removeprefix("$")
+    return "${{ " + bare.strip("{}").strip() + " }}" if bare[:1] == "{" and bare[-1:] == "}" else None
 
 
 def _github_variables(text: str) -> str:
@@ -159,7 +159,7 @@ chosen_by_call = rewritten('write "&&" and "||"', _chosen_by_call)
 def _formatted(text: str) -> str | None:
     """`a + 'b'` as a call of format. Without a string it may be a sum, which expressions don't have."""
     def call(match: re.Match) -> str:
-        parts = [part.strip() for part in re.split(r"\s*\+\s*", match[0])]
+        parts = [part.strip() for part in match[0].split("+")]
         if not any(part.startswith("'") for part in parts):
             return match[0]
         return f"format('{''.join('{%d}' % number for number in range(len(parts)))}', {', '.join(parts)})"
@@ -185,7 +185,7 @@ def _open_brackets(text: str) -> list[str]:
 def _without_rest(text: str) -> str | None:
     """An expression without the operator at its end, or without a surplus bracket."""
     stripped = text.rstrip()
-    changed = re.sub(r"\s*(?:&&|\|\||==|!=|[<>]=?|,|\.|\))$", "", stripped)
+    changed = re.sub(r"(?<!\s)\s*(?:&&|\|\||==|!=|[<>]=?|,|\.|\))$", "", stripped)
     return changed + text[len(stripped):] if changed != stripped else None
 
 
@@ -230,7 +230,7 @@ def word_as_text(case: Case) -> Iterable[Repair]:
     """The text around the fault, up to the nearest spaces, in quotes."""
     expression = expression_of(case)
     line, column = case.line, case.span.start.column
-    start = column - len(re.search(r"[^\s'\"()=!,]*$", line[:column])[0])
+    start = column - len(re.search(r"(?<![^\s'\"()=!,])[^\s'\"()=!,]*$", line[:column])[0])
     end = column + len(re.match(r"[^\s'\"()=!,}]*", line[column:])[0])
     if expression and start < end:
         span = Span.on_line(case.span.start.line, start, end)
@@ -283,7 +283,9 @@ def fewer_arguments(case: Case) -> Iterable[Repair]:
     start = column + match.end()
     end = line.find(")", start)
     inner = line[start:end] if end >= 0 else ""
-    parts = re.split(r",\s*(?=(?:[^']*'[^']*')*[^']*$)", inner) if inner.strip() else []
+    bare = STRING.sub(lambda text: " " * len(text[0]), inner)
+    commas = [-1, *(found.start() for found in re.finditer(",", bare)), len(inner)]
+    parts = [inner[first + 1:last].strip() for first, last in zip(commas, commas[1:])] if inner.strip() else []
     expression = expression_of(case)
     empty = in_yaml("''", expression) if expression and expression.style != "'" else "''''"
     span = Span.on_line(case.span.start.line, start, end)
