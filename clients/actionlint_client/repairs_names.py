@@ -19,6 +19,7 @@ from .tree import Node, Path
 
 # With this many properties, any of them may be meant.
 FEW_NAMES = 3
+MAX_SUM_CHARACTERS = 200
 SUM_OF_NUMBERS = re.compile(r"([\w.-]+?)\s*([-+*/%])\s*([\w.-]+)")
 CALL_OF_TEXT = re.compile(r"(\w+)\(\s*([\w.-]+)\s*(?:,\s*'([^'|]*)'\s*,\s*'([^'|]*)'\s*)?\)")
 # Words that are often written for a property of `github`.
@@ -108,7 +109,7 @@ def computed_by_shell(case: Case) -> Iterable[Repair]:
     if here is None or braces is None or here.path[-1:] != ("run",) or case.shell_of(here) not in ("bash", "sh"):
         return
     match, span = braces
-    sum_of = SUM_OF_NUMBERS.fullmatch(match[1].strip())
+    sum_of = SUM_OF_NUMBERS.fullmatch(match[1].strip()) if len(match[1]) <= MAX_SUM_CHARACTERS else None
     if sum_of:
         yield case.replace("let the shell compute it", f"$(( ${{{{ {sum_of[1]} }}}} {sum_of[2]} {sum_of[3]} ))", span)
     call = CALL_OF_TEXT.fullmatch(match[1].strip())
