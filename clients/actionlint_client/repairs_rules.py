@@ -27,9 +27,9 @@ OTHER_VALUES = {"text": "string", "str": "string", "int": "number", "integer": "
                 "node": "node20", "javascript": "node20", "shell": "bash", "bash.exe": "bash", "batch": "cmd", "python3": "python"}
 COMMAND = re.compile(r"""(?P<head>(?:echo|printf|Write-Output|Write-Host)\s+(?:-[en]+\s+)?|print\(f?)?(?P<quote>["']?)"""
                      r"""::(?P<command>set-output|save-state|set-env) name=(?P<name>[^:\n]+?)::(?P<value>[^\n]*?)(?P=quote)"""
-                     r"""(?:(?<=['"])\))?(?=\s*(?:$|[;&|]|\n))""", re.M)
+                     r"""(?:(?<=['"])\))?(?=\s{0,9}(?:$|[;&|]|\n))""", re.M)
 ADD_PATH = re.compile(r"""(?P<head>(?:echo|Write-Output|Write-Host)\s+)?(?P<quote>["']?)::add-path::(?P<value>[^\n]*?)(?P=quote)"""
-                      r"""(?=\s*(?:$|[;&|]|\n))""", re.M)
+                      r"""(?=\s{0,9}(?:$|[;&|]|\n))""", re.M)
 FILES = {"set-output": "GITHUB_OUTPUT", "save-state": "GITHUB_STATE", "set-env": "GITHUB_ENV", "add-path": "GITHUB_PATH"}
 POWERSHELLS = ("pwsh", "powershell")
 
@@ -195,7 +195,7 @@ def list_of_row(case: Case) -> Iterable[Repair]:
         yield from as_mapping(case, here.value)
     text = case.slice(here.value.span)
     if here.value.kind == "scalar":
-        words = re.split(r"\s*,\s*", here.value.value)
+        words = [word.strip() for word in here.value.value.split(",")]
         if len(words) > 1:
             yield case.replace("make it a list", "[" + ", ".join(words) + "]", here.value.span)
         yield case.replace("make it a list", f"[{text}]", here.value.span)
