@@ -14,6 +14,7 @@ COLON_WITHOUT_SPACE = re.compile(r"^ *(?:- +)?[A-Za-z_][\w-]*:(?=[^\s/:])")
 DASH_WITHOUT_SPACE = re.compile(r"^( *)-(?=[A-Za-z_][\w-]*:(?: |$))")
 FIRST_WORD = re.compile(r"^ *(?:- +)?([A-Za-z_][\w-]*)(?= |$)")
 KEY_IN_BRACKETS = re.compile(r"\s*[\w-]+: +")
+IN_BRACES = re.compile(r'"?\$\{\{((?:[^$}]|\$(?!\{\{)|\}(?!\}))*)\}\}"?')
 IN_QUOTES = re.compile(r"'[^']*'|\"[^\"]*\"")
 CLOSERS = {"[": "]", "{": "}"}
 
@@ -166,7 +167,7 @@ def as_expression(case: Case) -> Iterable[Repair]:
     if span and text.startswith("{{") and text.endswith("}}"):
         yield case.replace("write a dollar before the braces", "$" + text, span)
     if span and text.startswith('"') and "${{" in text:
-        bare = re.sub(r'"?\$\{\{\s*(.*?)\s*\}\}"?', r"\1", text).replace('"', "'")
+        bare = IN_BRACES.sub(lambda found: found[1].strip(), text).replace('"', "'")
         yield case.replace("write it as an expression", "${{ " + bare + " }}", span)
 
 
