@@ -40,10 +40,13 @@ class Editor:
     def _completion_item(self) -> dict:
         return self._capability("textDocument", "completion").get("completionItem") or {}
 
+    def takes_versions(self) -> bool:
+        """Whether an edit can tell for which versions of the files it is."""
+        return bool(self._capability("workspace", "workspaceEdit").get("documentChanges"))
+
     def makes_files(self) -> bool:
         """Whether an edit can create files."""
-        edit = self._capability("workspace", "workspaceEdit")
-        return bool(edit.get("documentChanges")) and "create" in (edit.get("resourceOperations") or [])
+        return self.takes_versions() and "create" in (self._capability("workspace", "workspaceEdit").get("resourceOperations") or [])
 
     def ask_to_watch(self) -> None:
         """Asks for changes on disk, which come as `workspace/didChangeWatchedFiles`."""

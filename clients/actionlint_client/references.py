@@ -86,7 +86,6 @@ class _Finder:
         self._anchors: dict[str, int] = {}
         self._jobs = {name.lower(): name for name in tree.names("jobs")}
         self._steps: dict[str | None, dict[str, Node]] = {}
-        self._secrets = {one.name.lower() for one in files.declarations(file, tree, "secrets")}
 
     def _callee(self, uses: str | None, of_job: bool) -> str | None:
         if (uses, of_job) not in self.calls:
@@ -205,7 +204,7 @@ class _Finder:
             yield 1, Symbol("input", self.file, "", names[1])
         elif names[:3] == ["github", "event", "inputs"] and len(names) > 3 and is_workflow(self.file):
             yield 3, Symbol("input", self.file, "", names[3])
-        elif context == "secrets" and names[1] in self._secrets:
+        elif context == "secrets":
             yield 1, Symbol("secret", self.file, "", names[1])
         elif context == "matrix" and job is not None:
             yield 1, Symbol("row", self.file, scope, names[1])

@@ -105,6 +105,11 @@ class Repository:
         document = self.documents.get(path)
         return next(iter(document.versions)) if document and document.versions else uri_of(self.root, path)
 
+    def version(self, path: str) -> int | None:
+        """The version of an open file under the URI above."""
+        document = self.documents.get(path)
+        return next(iter(document.versions.values()), None) if document else None
+
     def open(self, path: str) -> Document:
         """The open file. `edit` sets its text."""
         document = self.documents.get(path)

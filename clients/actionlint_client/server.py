@@ -24,7 +24,7 @@ from .folder import Folder, Program
 from .hover import Hover
 from .limit import LIMIT, TooSlow
 from .messages import Messages
-from .navigation import Navigation
+from .navigation import MOVES, Navigation
 from .repository import Repository
 from .symbols import Symbols
 from .uris import path_of
@@ -62,7 +62,7 @@ class Server:
             Completion(self._workspace, self._editor),
             Hover(self._workspace, self._editor, docs),
             CodeActions(self._workspace, diagnostics, self._editor, program),
-            Navigation(self._workspace, program),
+            Navigation(self._workspace, self._editor, program),
             Symbols(self._workspace),
         )
         self._named: list[bytes] = []
@@ -137,7 +137,7 @@ class Server:
         self._editor.take_capabilities(capabilities)
         told = {
             "textDocumentSync": {"openClose": True, "change": FULL_TEXT, "save": {"includeText": False}},
-            "workspace": {"workspaceFolders": {"supported": True, "changeNotifications": True}},
+            "workspace": {"workspaceFolders": {"supported": True, "changeNotifications": True}, "fileOperations": MOVES},
         }
         for feature in self._features:
             told.update(feature.capabilities)

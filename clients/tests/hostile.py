@@ -24,7 +24,6 @@ PLAIN = WORKFLOWS + "plain.yml"
 PLAIN_TEXT = "on: push\njobs:\n  one:\n    runs-on: u\n    steps: [{run: make}]\n  two:\n    needs: one\n    runs-on: u\n    steps: [{run: make}]\n"
 HEAD = "on: push\njobs:\n  a:\n    runs-on: u\n    steps:\n"
 STEP = HEAD + "      - run: "
-NODES = 30_000
 
 
 class Hostile(NamedTuple):
@@ -93,17 +92,19 @@ TEXTS: dict[str, Callable[[], Hostile]] = {
     "deep lists": lambda: at("on: push\n" + "".join(" " * depth + "-\n" for depth in range(900)), "-"),
     "deep parentheses": lambda: at(STEP + "${{ " + "(" * 20_000 + "\n", "("),
     "brackets in lines": lambda: at("on: [\n" + "[\n" * 5_000 + "a", "a"),
-    "a megabyte of lines": lambda: at(HEAD + "      - run: x\n" * 70_000, "- run"),
+    "a megabyte of lines": lambda: at(HEAD + "      - run: x\n" * 69_000, "- run"),
+    "keys that are deep above many lines": lambda: at("on: push\njobs:\n" + "".join(" " * depth + "a:\n" for depth in range(1, 60))
+                                                      + (" " * 60 + "a: b\n") * 10_000, "a:"),
     "100,000 lines": lambda: at(HEAD + "\n" * 100_000 + "      - ru", "ru"),
     "100,000 comments": lambda: at(HEAD + "      # a: b\n" * 100_000 + "      - ru", "ru"),
     "100,000 lines of a script": lambda: at(STEP + "|\n" + "          make\n" * 70_000 + "          ${{ github.", "github."),
     "100,000 keys": lambda: at("on: push\njobs:\n" + "".join(f"  j{number}:\n" for number in range(100_000)) + "  x", "  x", "j777:"),
-    "keys of a section that are wrong": lambda: at("on: push\n" + "".join(f"k{number}: 1\n" for number in range(45_000)) + "jobz: {}\n",
+    "keys of a section that are wrong": lambda: at("on: push\n" + "".join(f"k{number}: 1\n" for number in range(30_000)) + "jobz: {}\n",
                                                    "k44", "jobz"),
     "events that don't exist": lambda: at("on: [" + "pusch, " * 10_000 + "]\njobs: {}\n", "pusch"),
     "a list of all needs": lambda: at(needs_of_each_other(250), "needs: [", "j249"),
-    "steps on one line": lambda: at("on: push\njobs: {a: {runs-on: u, steps: [" + "{run: x, id: é}, " * 20_000 + "]}}\n", "run", "id"),
-    "characters of two units": lambda: at("on: push\njobs: {a: {runs-on: u, steps: [" + "{run: \U0001F600}, " * 20_000 + "]}}\n", "run"),
+    "steps on one line": lambda: at("on: push\njobs: {a: {runs-on: u, steps: [" + "{run: x, id: é}, " * 10_000 + "]}}\n", "run", "id"),
+    "characters of two units": lambda: at("on: push\njobs: {a: {runs-on: u, steps: [" + "{run: \U0001F600}, " * 10_000 + "]}}\n", "run"),
     "a line of a megabyte": lambda: at("name: " + "a" * 1_000_000 + "\non: push\n", "aaa"),
     "a name of a megabyte in quotes": lambda: at('name: "' + "\\u00e9" * 160_000 + '"\non: push\n', "e9"),
     "quotes that never close": lambda: at('name: "' + "a\\\n" * 100_000, "a\\"),
@@ -122,13 +123,13 @@ TEXTS: dict[str, Callable[[], Hostile]] = {
     "marks that change the direction": lambda: at(STEP + "\u202e\u2066" * 50_000 + "\n", "\u2066"),
     "documents": lambda: at("on: push\n" + "---\n" * 50_000 + "jobs:\n", "jobs"),
     "directives": lambda: at("%YAML 1.2\n" * 20_000 + "---\non: push\n", "push"),
-    "inputs of an action": lambda: at("name: a\ndescription: b\ninputs:\n" + "".join(f"  i{number}: {{default: a}}\n" for number in range(20_000))
+    "inputs of an action": lambda: at("name: a\ndescription: b\ninputs:\n" + "".join(f"  i{number}: {{default: a}}\n" for number in range(8_000))
                                       + "runs:\n  using: composite\n  steps:\n    - run: ${{ inputs. }}\n      shell: bash\n",
                                       "inputs.", "i777", file=ACTION),
-    "steps of an action": lambda: at("name: a\nruns:\n  using: composite\n  steps:\n" + "    - {id: a, run: x}\n" * 20_000, "id", "using",
+    "steps of an action": lambda: at("name: a\nruns:\n  using: composite\n  steps:\n" + "    - {id: a, run: x}\n" * 8_000, "id", "using",
                                      file=ACTION),
     "rows of a matrix": lambda: at(HEAD.replace("    steps:", "    strategy:\n      matrix:\n        include:\n"
-                                                + "".join(f"          - r{number}: 1\n" for number in range(10_000)) + "    steps:")
+                                                + "".join(f"          - r{number}: 1\n" for number in range(5_000)) + "    steps:")
                                    + "      - run: ${{ matrix. }}\n", "matrix.", "r777"),
 }
 HERE = {"position": {}}
@@ -174,7 +175,7 @@ def answers_all(editor: Editor, what: str, hostile: Hostile) -> None:
     editor.open(hostile.file, hostile.text)
     editor.settle()
     is_short = len(hostile.text) < SHORT_BYTES
-    positions = [position_of(hostile.text, offset) for offset in hostile.offsets]
+    positions = [position_of(hostile.text, offset) for offset in (0, *hostile.offsets)]
     for announced in editor.hello["result"]["capabilities"].keys() - NO_REQUEST:
         for method, params in REQUESTS[announced].items():
             for position in positions if "position" in params or "range" in params else positions[:1]:
