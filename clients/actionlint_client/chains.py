@@ -39,6 +39,9 @@ class ChainReader:
         # Whether the last chain begins where an operator is expected.
         self.begins_after_operand = False
         self.open_text: str | None = None
+        # The last chain that has ended, and the operators after it.
+        self._compared: Chain = None
+        self._operators = ""
         self._open: list[_Open] = [_Open("", None)]
         for token in TOKEN.finditer(text):
             self._take(token[0], token.start())
@@ -47,6 +50,10 @@ class ChainReader:
         """The chain whose index is the open text at the end."""
         last = self._open[-1]
         return last.chain if last.sign == "[" and last.parts == 1 and self.open_text is not None else None
+
+    def compared(self) -> Chain:
+        """The chain that the open text at the end is compared with."""
+        return self._compared if self.open_text is not None and self._operators in ("==", "!=") else None
 
     def all_chains(self) -> list[list[Link]]:
         """The chains of the whole text, in its order."""
@@ -72,6 +79,7 @@ class ChainReader:
             self._take_closing(token, start)
         else:
             self._end_chain()
+            self._operators += token
             self._open[-1].parts += 1
             self.is_after_operand = token[0].isdigit()
 
@@ -108,6 +116,7 @@ class ChainReader:
         else:
             self._open.append(_Open("[", self.chain))
             self.chain = None
+        self._compared = None
         self.is_after_dot = self.is_after_operand = False
 
     def _take_closing(self, token: str, start: int) -> None:
@@ -129,6 +138,7 @@ class ChainReader:
     def _end_chain(self) -> None:
         if self.chain:
             self.found.append(self.chain)
+            self._compared, self._operators = self.chain, ""
         self.chain, self.is_after_dot = None, False
 
 

@@ -6,6 +6,8 @@ from typing import Callable
 from .characters import terminal_text
 
 WARNING = 2
+# InsertTextMode of the protocol: further lines are indented as in the text, and not by the line's indentation besides.
+AS_IT_IS = 1
 WATCHED = ("**/.github/workflows/*.{yml,yaml}", "**/action.{yml,yaml}")
 
 
@@ -36,6 +38,10 @@ class Editor:
     def takes_snippets(self) -> bool:
         """Whether a completion can contain tab stops."""
         return bool(self._completion_item().get("snippetSupport"))
+
+    def takes_indentation(self) -> bool:
+        """Whether a completion can tell that its lines are indented already."""
+        return AS_IT_IS in ((self._completion_item().get("insertTextModeSupport") or {}).get("valueSet") or [])
 
     def _completion_item(self) -> dict:
         return self._capability("textDocument", "completion").get("completionItem") or {}

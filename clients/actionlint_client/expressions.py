@@ -7,8 +7,10 @@ from typing import Iterator, NamedTuple
 
 from . import project as files
 from .chains import ChainReader
+from .names import names as known_names
 from .paths import is_workflow
 from .project import Declaration, Project
+from .sections import github
 from .syntax import available, meaning, table
 from .tree import Node, Path
 
@@ -22,10 +24,11 @@ MAX_EXPRESSION_BYTES = 21_000
 
 
 class Before(NamedTuple):
-    """The chain of names before a cursor, and what is typed after its last dot or bracket."""
+    """The chain of names before a cursor, and what is typed after its last dot or bracket, or in a string that it is compared with."""
 
     chain: tuple[str, ...]
     typed: str
+    is_compared: bool = False
 
 
 class Property(NamedTuple):
@@ -48,11 +51,12 @@ def expression_before(text: str, is_condition: bool) -> str | None:
 
 
 def chain_before(expression: str) -> Before | None:
-    """The chain at the end of an expression. None inside a string that isn't an index, and where an operator is expected."""
+    """The chain at the end of an expression. None inside a string that is neither an index nor compared, and where an operator is
+    expected."""
     reader = ChainReader(expression)
     if reader.open_text is not None:
-        indexed = reader.indexed()
-        return Before(tuple(link.name for link in indexed), reader.open_text) if indexed else None
+        before = reader.indexed() or reader.compared()
+        return Before(tuple(link.name for link in before), reader.open_text, reader.indexed() is None) if before else None
     names = tuple(link.name for link in reader.chain or ())
     if reader.is_after_dot:
         return Before(names, "") if names else None
@@ -115,6 +119,21 @@ class Scope:
         if fixed is None or len(chain) > 1:
             return []
         return [Property(name, kind, meaning(f"properties of {context}", name)) for name, kind in fixed["properties"].items()]
+
+    def values(self, chain: tuple[str, ...]) -> list[str]:
+        """The texts that the value of a chain can be, as far as they are known."""
+        names = [name.lower() for name in chain]
+        if names == ["github", "event_name"]:
+            return known_names()["events"]
+        if names[:1] == ["inputs"] and len(names) == 2 or names[:3] == ["github", "event", "inputs"] and len(names) == 4:
+            return next((one.value.texts("options") for one in files.declarations(self.file, self.tree, "inputs")
+                         if one.name.lower() == names[-1]), [])
+        if names[:1] == ["matrix"] and len(names) == 2 and self.job:
+            row = next((row for name, row in files.matrix_rows(self.tree, self.job).items() if name.lower() == names[1]), None)
+            return [item.value for item in row.items if item.kind == "scalar" and "${{" not in item.value] if row else []
+        if names[:1] in (["needs"], ["steps"]) and len(names) == 3:
+            names[1] = "*"
+        return github()["values"].get(".".join(names), [])
 
     def _needs(self, names: tuple[str, ...]) -> list[Property]:
         if self.tree is None:
