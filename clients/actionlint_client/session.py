@@ -49,6 +49,11 @@ class Session:
         self._unread = b""
         self._is_reporting = False
 
+    def __del__(self) -> None:
+        """Stops the linter if nobody has, since what used it was cut short."""
+        if hasattr(self, "_unread"):
+            self.stop()
+
     def put(self, path: str, data: bytes) -> str:
         """The reply: `ok N` or `refused EN`. The path must fit in a command's line."""
         return self._answer_to(b"put %s %d\n" % (path.encode("utf-8"), len(data)), data, b"\n")

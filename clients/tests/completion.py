@@ -244,12 +244,15 @@ PLACES = {
     "no expressions in uses": (JOB + "    steps:\n      - uses: x@${{ |", set(), {"github"}),
     "keys after a script with a bracket": (JOB + "    steps:\n      - run: |\n          a: [\n        |", {"shell", "env"}, {"run"}),
     "entries that aren't there yet": ("on: [push, |, issues]\njobs: {}\n", {"pull_request"}, {"push", "issues"}),
-    "entries in lines that aren't there yet": ("on:\n  - push # first\n  - |\n  - 'issues'\njobs: {}\n", {"pull_request"}, {"push", "issues"}),
+    "entries in lines that aren't there yet": ("on:\n  - push # first\n  - |\n  - 'issues'\njobs: {}\n", {"pull_request"},
+                                               {"push", "issues"}),
     "activity types that aren't there yet": ("on:\n  issues:\n    types:\n      - opened\n      - cl|\n", {"closed"}, {"opened"}),
     "labels that aren't there yet": (JOB + "    runs-on: [self-hosted, ubuntu-latest, |]\n", {"windows-latest"}, {"ubuntu-latest"}),
     "entries of another list": ("on: push\njobs:\n  b:\n    needs: [a]\n  c:\n    needs: [|]\n  a:\n    runs-on: u\n", {"a", "b"}, {"c"}),
-    "keys of a step with a script": (JOB + "    steps:\n      - run: x\n        |", {"shell", "env", "working-directory"}, {"uses", "with", "run"}),
-    "keys of a step with a call": (JOB + "    steps:\n      - uses: x\n        |", {"with", "env", "if"}, {"run", "shell", "working-directory"}),
+    "keys of a step with a script": (JOB + "    steps:\n      - run: x\n        |", {"shell", "env", "working-directory"},
+                                     {"uses", "with", "run"}),
+    "keys of a step with a call": (JOB + "    steps:\n      - uses: x\n        |", {"with", "env", "if"},
+                                   {"run", "shell", "working-directory"}),
     "keys of a step with inputs": (JOB + "    steps:\n      - with: {a: b}\n        |", {"uses"}, {"run", "shell"}),
     "keys of a job with steps": (JOB + "    steps: []\n    |", {"runs-on", "env"}, {"uses", "with", "secrets"}),
     "keys of a job with secrets": (JOB + "    secrets: inherit\n    |", {"uses", "with"}, {"runs-on", "steps", "env"}),
@@ -270,10 +273,12 @@ PLACES = {
     "results": (JOB + "    if: needs.a.result != 'f|", {"failure", "success", "skipped"}, {"github"}),
     "no results for what isn't compared": (JOB + "    if: contains(needs.a.result, '|", set(), {"failure"}),
     "events in an expression": (JOB + "    if: github.event_name == '|' && x", {"push", "pull_request"}, {"github"}),
-    "values of a row": (JOB + "    strategy: {matrix: {os: [a1, b2]}}\n    steps:\n      - if: matrix['os'] == '|'\n", {"a1", "b2"}, {"os"}),
-    "versions that are used": (JOB + "    steps:\n      - uses: actions/checkout@v4\n      - uses: actions/ch|", {"actions/checkout@v4"}, {"actions/ch"}),
-    "labels that are used": ("on: push\njobs:\n  x:\n    runs-on: [big-one]\n    steps: []\n  y:\n    runs-on: |\n", {"big-one", "ubuntu-latest"},
-                             set()),
+    "values of a row": (JOB + "    strategy: {matrix: {os: [a1, b2]}}\n    steps:\n      - if: matrix['os'] == '|'\n", {"a1", "b2"},
+                        {"os"}),
+    "versions that are used": (JOB + "    steps:\n      - uses: actions/checkout@v4\n      - uses: actions/ch|", {"actions/checkout@v4"},
+                               {"actions/ch"}),
+    "labels that are used": ("on: push\njobs:\n  x:\n    runs-on: [big-one]\n    steps: []\n  y:\n    runs-on: |\n",
+                             {"big-one", "ubuntu-latest"}, set()),
     "secrets that are used": ("on: push\njobs:\n  x:\n    env: {A: '${{ secrets.DEPLOY_KEY }}'}\n    steps:\n      - run: ${{ secrets.|\n",
                               {"DEPLOY_KEY", "GITHUB_TOKEN"}, set()),
     "nothing in a script": (JOB + "    steps:\n      - run: |\n          na|", set(), {"name", "github"}),
@@ -381,7 +386,8 @@ def texts_and_order(program: str) -> None:
 def values_on_lines_of_their_own(program: str) -> None:
     """What can only be a mapping or a list begins on the next line, further to the right, and a list with a dash."""
     for text, label, inserted in (
-            ("|", "env", "env:\n  "), ("jobs:\n  a:\n    |", "steps", "steps:\n      - "), ("jobs:\n  a:\n    |", "strategy", "strategy:\n      "),
+            ("|", "env", "env:\n  "), ("jobs:\n  a:\n    |", "steps", "steps:\n      - "),
+            ("jobs:\n  a:\n    |", "strategy", "strategy:\n      "),
             (JOB + "    steps:\n      - |", "env", "env:\n          "), (JOB + "    steps:\n      -|", "env", " env:\n          "),
             (JOB + "    steps:\n      |", "name", "- name: "), (JOB + "    steps:\n      |", "env", "- env:\n          "),
             (JOB + "    steps: [{|}]\n", "env", "env: "), ("jobs:\n  a:\n    |: x", "steps", "steps"),
@@ -397,7 +403,8 @@ def indentation(program: str) -> None:
         item = {"insertTextModeSupport": {"valueSet": [1, 2]}} if takes else {}
         editor = start(program, {}, capabilities={"textDocument": {"completion": {"completionItem": item}}})
         editor.open(FILE, "on: push\n")
-        found = editor.request("textDocument/completion", {"textDocument": {"uri": editor.uri(FILE)}, "position": {"line": 1, "character": 0}})
+        found = editor.request("textDocument/completion", {"textDocument": {"uri": editor.uri(FILE)},
+                                                           "position": {"line": 1, "character": 0}})
         modes = {one["label"]: one.get("insertTextMode") for one in found["result"]["items"]}
         assert modes["env"] == (1 if takes else None) and modes["name"] is None, modes
         end(editor)
@@ -406,7 +413,8 @@ def indentation(program: str) -> None:
 @CASES.case
 def in_a_large_folder(program: str) -> None:
     """What other files use is read once, and only as long as there is time for it."""
-    texts = {f"{WORKFLOWS}w{number}.yml": f"name: W{number}\non: workflow_call\njobs:\n  a: {{runs-on: l{number}, steps: []}}\n" for number in range(30)}
+    texts = {f"{WORKFLOWS}w{number}.yml": f"name: W{number}\non: workflow_call\njobs:\n  a: {{runs-on: l{number}, steps: []}}\n"
+             for number in range(30)}
     project, read = project_of(texts), []
     good_tree = project.good_tree
     project.good_tree = lambda file: (read.append(file), good_tree(file))[1]
