@@ -7,7 +7,7 @@ from collections import Counter
 from dataclasses import replace
 from enum import Enum
 from itertools import islice
-from typing import Callable, Iterable, NamedTuple
+from typing import Callable, Iterable, NamedTuple, Tuple
 
 from . import (repairs_calls, repairs_expressions, repairs_keys, repairs_kinds, repairs_levels, repairs_names, repairs_rules,
                repairs_scripts, repairs_values, repairs_yaml)
@@ -33,6 +33,9 @@ MODULES = (repairs_yaml, repairs_levels, repairs_keys, repairs_kinds, repairs_ru
            repairs_scripts, repairs_calls)
 REPAIRS: dict[str, tuple[Callable[[Case], Iterable[Repair]], ...]] = {
     code: tuple(each for module in MODULES for each in module.REPAIRS.get(code, ())) for found in MODULES for code in found.REPAIRS}
+
+# How often each file has each message.
+Counted = Counter[Tuple[str, str]]
 
 
 class Fix(NamedTuple):
@@ -116,7 +119,7 @@ class Trial:
     def __init__(self, words: list[str], timeout: float, project: Project, file: str, max_files: int = MAX_FILES):
         self.session = Session(words, True, timeout)
         self._max_files = max_files
-        self.earlier: Counter = Counter()
+        self.earlier: Counted = Counter()
         self.project = project
         self.texts: dict[str, str] = {}
         callers = [path for path in project.paths() if path != file and _calls(project, path, file)]
@@ -135,7 +138,7 @@ class Trial:
             return Result.CLEAN
         return Result.UNCOVERS if all(_was_hidden(one, fault, repair) for one in after if (one.path, one.message) in new) else Result.WRONG
 
-    def faults_after(self, texts: dict[str, str]) -> Counter:
+    def faults_after(self, texts: dict[str, str]) -> Counted:
         """The faults if some files had other texts. The session is unchanged afterwards."""
         return _counted(self.report_after(texts))
 
@@ -153,7 +156,7 @@ class Trial:
                 self.session.delete(path)
         return after
 
-    def faults(self) -> Counter:
+    def faults(self) -> Counted:
         return _counted(self.report())
 
     def report(self) -> list[Fault]:
@@ -195,7 +198,7 @@ def _was_hidden(one: Fault, fault: Fault, repair: Repair) -> bool:
     return hidden[:1] == "Y" and keeps_lines and one.line not in touched
 
 
-def _counted(faults: Iterable[Fault]) -> Counter:
+def _counted(faults: Iterable[Fault]) -> Counted:
     """How often each file has each message. Places aren't compared, since they may move."""
     return Counter((fault.path, fault.message) for fault in faults)
 

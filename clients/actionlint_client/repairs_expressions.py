@@ -175,11 +175,11 @@ def from_context(case: Case) -> Iterable[Repair]:
     if expression is None:
         return
 
-    def property_of(match: re.Match) -> str:
+    def property_of(match: re.Match[str]) -> str:
         context = (match[1] or "env_")[:-1].lower()
         name = match[2].lower() if match[1] else match[2]
         if context == "env" and not re.search(rf"(?<!\w){re.escape(name)}['\"]?\s*[:=]", case.text):
-            return match[0]
+            return str(match[0])
         return f"{context}.{name}"
     text = _outside_texts(decoded(expression), lambda part: VARIABLE.sub(property_of, part))
     if text != decoded(expression):
@@ -247,10 +247,10 @@ def arguments_at(text: str, start: int) -> tuple[list[str], int]:
 
 def _formatted(text: str) -> str | None:
     """`a + 'b'` as a call of format. Without a string it may be a sum, which expressions don't have."""
-    def call(match: re.Match) -> str:
+    def call(match: re.Match[str]) -> str:
         parts = [part.strip() for part in match[0].split("+")]
         if not any(part.startswith("'") for part in parts):
-            return match[0]
+            return str(match[0])
         return f"format('{''.join('{%d}' % number for number in range(len(parts)))}', {', '.join(parts)})"
     return SUM.sub(call, text)
 

@@ -163,11 +163,11 @@ def _bounded(field: str, most: int) -> str:
     """A field in which values above the greatest one wrap around to the least."""
     least = 1 if most in (31, 12) else 0
 
-    def bounded(match: re.Match) -> str:
+    def bounded(match: re.Match[str]) -> str:
         value = int(match[0])
         if match.start() and field[match.start() - 1] == "/":
             return str(min(max(value, 1), most))
-        return match[0] if least <= value <= most else str(max(value % (most + 1), least))
+        return str(match[0]) if least <= value <= most else str(max(value % (most + 1), least))
     return re.sub(r"\d+", bounded, field)
 
 
