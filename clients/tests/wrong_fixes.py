@@ -71,5 +71,6 @@ WRONG_FIXES = (
     ("tabs_are_wide", "repairs_yaml.py", KEYS, "for width in (2, 4, 8, 1):", "for width in (8, 4, 2, 1):"),
     ("open_quotes_are_a_text", "repairs_yaml.py", KEYS, "            if not _opens_quote(text):\n", "            if True:\n"),
     ("quotes_are_always_meant", "repairs_yaml.py", KEYS, "is_safe=line == number and _takes_texts(case, span)", "is_safe=True"),
+    ("an_action_needs_a_description", "problems.py", "earlier.py severities", '== ("K2", "description"):', '== ("K2", "none"):'),
     ("versions_of_others_are_not_seen", "repairs_calls.py", NAMES, "[version for version, _ in found.most_common()] or", "[] or"),
 )
