@@ -172,7 +172,14 @@ def calls_and_names(program: str) -> None:
         check(program, slip)
 
 
-def every_text(suffix: str = "") -> Iterator[tuple[str, dict[str, str]]]:
+@CASES.case
+def in_a_workflow(program: str) -> None:
+    """Mistakes in a workflow of several jobs."""
+    for slip in read_slips(SLIPS / "workflow.txt"):
+        check(program, slip)
+
+
+def every_text() -> Iterator[tuple[str, dict[str, str]]]:
     """The texts of all slips, and those of the examples of all faults."""
     for path in sorted(SLIPS.glob("*.txt")):
         yield from ((slip.name, slip.texts) for slip in read_slips(path))
