@@ -7,7 +7,7 @@ from typing import Callable, Iterable
 
 from . import project as files
 from .names import likely, misspelled
-from .paths import ACTION_NAMES, WORKFLOWS, is_workflow
+from .paths import ACTION_NAMES, WORKFLOW_ENDINGS, WORKFLOWS, is_workflow
 from .repair import Case, Edit, Found, Repair, as_scalar, entries_of, is_within_flow, next_entry, without_entry
 from .repairs_keys import deleted, moved_below
 from .repairs_names import as_secret
@@ -204,7 +204,8 @@ def right_uses(case: Case) -> Iterable[Repair]:
     if here is None:
         return
     text = here.value.value.strip()
-    if len(here.path) == 3 and here.path[0] == "jobs" and here.key and is_workflow(case.file) and ".github/workflows/" not in text:
+    is_workflow_path = ".github/workflows/" in text or text.endswith(WORKFLOW_ENDINGS)
+    if len(here.path) == 3 and here.path[0] == "jobs" and here.key and is_workflow(case.file) and not is_workflow_path:
         yield from _called_from_step(case, here)
     for changed, is_safe in _right_calls(case, text):
         if changed != text:
@@ -231,6 +232,10 @@ def _right_calls(case: Case, text: str) -> Iterable[tuple[str, bool]]:
     own = re.sub(r"^(?:\.?/)+", "", text).partition("@")[0].removesuffix("/")
     if case.project.has(own) and is_workflow(own) or any(case.project.has(f"{own}/{name}") for name in ACTION_NAMES):
         yield "./" + own, True
+        return
+    named = [f"{own}{ending}" for ending in WORKFLOW_ENDINGS if case.project.has(f"{own}{ending}") and is_workflow(f"{own}{ending}")]
+    if named:
+        yield "./" + named[0], True
         return
     if is_workflow(case.file) and text.rpartition("/")[2] and case.project.has(f"{WORKFLOWS}/{text.rpartition('/')[2]}"):
         yield f"./{WORKFLOWS}/{text.rpartition('/')[2]}", False

@@ -24,6 +24,7 @@ NOT = re.compile(r"(?<![\w.-])not(?![\w.-])\s*", re.I)
 VARIABLE = re.compile(r"\$\{?(GITHUB_|RUNNER_)?([A-Z_][A-Z0-9_]*)\}?")
 METHOD = re.compile(rf"(?<![\w.-])({NAME}(?:\.{NAME})*?)\.(contains|startsWith|endsWith)\(")
 AMONG = re.compile(rf"(?<![\w.-])({NAME}(?:\.{NAME})*)\s+in\s+[\[(]([^\[\]()]*)[\])]")
+TEXT_IN = re.compile(rf"('[^']*')\s+in\s+({NAME}(?:\.{NAME})*)(?![\w.(\[])")
 LIST_ARGUMENT = re.compile(r"\(\s*\[([^\[\]]*)\]\s*,")
 CALL_OF_CHOICE = re.compile(r"\b(case|iif|if|ternary|choose)\s*\(")
 ARGUMENTS = re.compile(r"(?:'(?:[^']|'')*'|[^()']|\((?:[^()']|'[^']*')*\))*")
@@ -188,7 +189,8 @@ def from_context(case: Case) -> Iterable[Repair]:
 
 def _called(text: str) -> str:
     """`a.contains(b)` as `contains(a, b)`, `a in [b]` likewise, and `[b]` as a list from JSON."""
-    changed = METHOD.sub(lambda match: f"{match[2]}({match[1]}, ", text)
+    changed = TEXT_IN.sub(r"contains(\2, \1)", text)
+    changed = METHOD.sub(lambda match: f"{match[2]}({match[1]}, ", changed)
     changed = AMONG.sub(lambda match: f"contains({_json_list(match[2])}, {match[1]})", changed)
     return LIST_ARGUMENT.sub(lambda match: f"({_json_list(match[1])},", changed)
 
@@ -264,9 +266,10 @@ def closed_brackets(case: Case) -> Iterable[Repair]:
         return
     closers = "".join({"(": ")", "[": "]"}[token.text] for token in reversed(open_brackets))
     innermost = open_brackets[-1]
+    is_call = re.search(r"\w$", text[:innermost.start]) is not None
     ends = [token.start for token in tokens(text) if token.start > innermost.start and token.text in ("&&", "||")
             and token.depth == innermost.depth + 1]
-    for end in (*ends[:1], len(text)):
+    for end in (*ends[:1], len(text)) if is_call else (len(text),):
         inner = text[:end].rstrip()
         yield with_expression(case, "close the brackets", expression, inner + closers + text[len(inner):], not ends)
 

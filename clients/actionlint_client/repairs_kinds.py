@@ -58,14 +58,39 @@ def other_kind(case: Case) -> Iterable[Repair]:
         if pair:
             yield case.replace("make it a mapping", "{%s: %s}" % (pair[1], quoted(pair[2])), value.span)
     if value.kind == "mapping":
+        yield from _named_steps(case, value)
         if all(not entry.value and entry.kind == "scalar" for _, entry in value.entries):
             keys = ", ".join(case.slice(key.span) for key, _ in value.entries)
             yield case.replace("make it a list", f"[{keys}]", tight(case, value))
         if not value.is_flow:
             yield from as_list(case, value)
     if value.kind == "sequence":
+        yield from _by_name(case, value)
         yield from as_mapping(case, value)
         yield from _scalars_as_other(case, here)
+
+
+def _named_steps(case: Case, steps: Node) -> Iterable[Repair]:
+    """Steps below their names, each in a list."""
+    values = [value for _, value in steps.entries]
+    if case.arguments[0] != "steps" or steps.is_flow or any(value.kind != "mapping" or value.is_flow or value.get("name") for value in values):
+        return
+    if values and all(value.span.start.column == key.span.start.column + 2 for key, value in steps.entries):
+        edits = [Edit(Span(key.span.start, Point(key.span.end.line, key.span.end.column + 1)), f"- name: {case.slice(key.span)}")
+                 for key, _ in steps.entries]
+        yield case.of("make it a list of steps", *edits)
+
+
+def _by_name(case: Case, sequence: Node) -> Iterable[Repair]:
+    """A list of mappings that begin with a name, as a mapping by these names."""
+    firsts = [item.entries[0] for item in sequence.items if item.kind == "mapping" and not item.is_flow and len(item.entries) > 1]
+    if sequence.is_flow or len(firsts) != len(sequence.items) or any(key.value not in ("name", "id") for key, _ in firsts):
+        return
+    edits = []
+    for key, value in firsts:
+        line = key.span.start.line
+        edits.append(Edit(Span(Point(line, case.lines[line].index("-")), value.span.end), f"{case.slice(value.span)}:"))
+    yield case.of("make it a mapping", *edits)
 
 
 def _with_key(case: Case, here: Found) -> Iterable[Repair]:

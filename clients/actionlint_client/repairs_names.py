@@ -23,6 +23,10 @@ OTHER_PROPERTIES = {"branch": "ref_name", "branch_name": "ref_name", "tag": "ref
 OTHER_FUNCTIONS = {"failed": "failure", "succeeded": "success", "canceled": "cancelled", "toboolean": "fromJSON", "tonumber": "fromJSON",
                    "parsejson": "fromJSON", "tostring": "toJSON", "includes": "contains", "glob": "hashFiles", "hash": "hashFiles"}
 WORDS = ("true", "false", "null")
+OTHER_NULLS = ("none", "nil", "undefined")
+# Words for the state of a job or a step that the other one has.
+OTHER_STATES = {"needs": {"outcome": "result", "conclusion": "result", "status": "result", "state": "result"},
+                "steps": {"result": "outcome", "status": "outcome", "state": "outcome"}, "job": {"state": "status", "result": "status"}}
 # Whose properties can be meant by a word without a context.
 OF_CONTEXTS = ("matrix", "inputs", "env", "needs", "steps", "github", "runner")
 
@@ -77,7 +81,17 @@ def of_github(case: Case) -> Iterable[Repair]:
 
 
 def other_property(case: Case) -> Iterable[Repair]:
-    """The property of `github` that another word means."""
+    """The property that another word means: of `github`, or the state of a job or a step; or an output without `outputs`."""
+    before, wrong = _chain_before(case), case.arguments[0]
+    state = OTHER_STATES.get(before[0].lower(), {}).get(wrong.lower()) if before else None
+    if state and len(before) == (1 if before[0].lower() == "job" else 2):
+        yield case.replace(f'change to "{state}"', state)
+    scope = scope_of(case)
+    if scope and len(before) == 2 and before[0].lower() in ("steps", "needs"):
+        outputs = [one.name for one in scope.properties((*before, "outputs"))]
+        name = wrong if wrong in outputs else misspelled(wrong, outputs)
+        if name:
+            yield case.replace(f'change to "outputs.{name}"', f"outputs.{name}")
     meant = OTHER_PROPERTIES.get(case.arguments[0].lower())
     if meant and _chain_before(case)[:1] == ("github",):
         yield case.replace(f'change to "{meant}"', meant)
@@ -108,6 +122,9 @@ def unknown_word(case: Case) -> Iterable[Repair]:
     what is before it."""
     if case.arguments[0].lower() in [name.lower() for name in _functions(case)]:
         yield case.replace('add "()"', case.written + "()", is_safe=True)
+        return
+    if case.arguments[0].lower() in OTHER_NULLS:
+        yield case.replace('change to "null"', "null")
         return
     if case.arguments[0].lower() in WORDS:
         yield case.replace(f'change to "{case.arguments[0].lower()}"', case.arguments[0].lower(), is_safe=True)

@@ -7,14 +7,14 @@ from typing import Callable, Iterable
 
 from .expressions import CHAIN, links
 from .names import LISTS, likely, names
-from .repair import Case, Edit, Repair, as_scalar, is_within_flow, next_entry, quoted, without_key
+from .repair import Case, Edit, Found, Repair, as_scalar, is_within_flow, next_entry, quoted, without_key
 from .repairs_expressions import BRACES
 from .repairs_keys import deleted, in_its_quotes
 from .repairs_kinds import as_list, as_mapping
 from .stricter import takes_access
 from .syntax import table
 from .text import Point, Span
-from .tree import Node
+from .tree import Node, last_line
 
 # Events that are often written for another one.
 OTHER_EVENTS = {"tag": "push", "tags": "push", "commit": "push", "merge": "push", "pr": "pull_request", "pull": "pull_request",
@@ -261,6 +261,7 @@ def list_of_row(case: Case) -> Iterable[Repair]:
     if here is None:
         return
     if here.value.kind == "sequence":
+        yield from _as_include(case, here)
         yield from as_mapping(case, here.value)
     text = case.slice(here.value.span)
     if here.value.kind == "scalar":
@@ -273,6 +274,18 @@ def list_of_row(case: Case) -> Iterable[Repair]:
         yield case.replace("make it a list", f"[{text}]", here.value.span)
     elif here.value.kind == "mapping":
         yield from as_list(case, here.value)
+
+
+def _as_include(case: Case, here: Found) -> Iterable[Repair]:
+    """A list of mappings in place of a matrix, as its `include`."""
+    items = here.value.items
+    if here.path[-1:] != ("matrix",) or here.value.is_flow or not items or any(item.kind != "mapping" for item in items):
+        return
+    first = items[0].span.start.line
+    dash = case.lines[first].index("-")
+    lines = range(first + 1, last_line(here.value, case.lines) + 1)
+    yield case.of('put it below "include"', Edit(Span.at(Point(first, dash)), "include:\n" + " " * (dash + 2)),
+                  *(Edit(Span.at(Point(line, 0)), "  ") for line in lines if case.lines[line].strip()))
 
 
 def near_row(case: Case) -> Iterable[Repair]:

@@ -20,7 +20,7 @@ FIRST_WORD = re.compile(r"^ *(?:- +)?([A-Za-z_][\w-]*)(?= (?! *=)|$)")
 EQUALS = re.compile(r"^ *(?:- +)?([A-Za-z_][\w-]*) *= *(?=[^=\s])")
 KEY_IN_BRACKETS = re.compile(r"\s*[\w-]+: +")
 IS_PAIR = re.compile(r"[a-z][\w-]*: |[\[{].*[\]}]$|\*[\w-]+$")
-QUOTED_BRACES = re.compile(r'"?\$\{\{([^{}]*)\}\}"?')
+QUOTED_BRACES = re.compile(r"['\"]?\$\{\{([^{}]*)\}\}['\"]?")
 NEGATED_BRACES = re.compile(r"! *\$\{\{([^{}]*)\}\}")
 ANCHOR = re.compile(r"(?<!\S)&([^\s,\[\]{}]+)")
 ALIAS = re.compile(r"\*([^\s,\[\]{}]+)")
@@ -243,7 +243,7 @@ def as_expression(case: Case) -> Iterable[Repair]:
     text = case.slice(span).strip() if span else ""
     if span and text.startswith("{{") and text.endswith("}}"):
         yield case.replace("write a dollar before the braces", "$" + text, span, is_safe=True)
-    if span and text.startswith('"') and "${{" in text:
+    if span and text[:1] in ("'", '"') and "${{" in text and "}}" in text:
         bare = QUOTED_BRACES.sub(lambda match: match[1].strip(), text).replace('"', "'")
         yield case.replace("write it as an expression", "${{ " + bare + " }}", span)
     match = NEGATED_BRACES.fullmatch(text)
