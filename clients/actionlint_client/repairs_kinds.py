@@ -73,7 +73,9 @@ def other_kind(case: Case) -> Iterable[Repair]:
 def _named_steps(case: Case, steps: Node) -> Iterable[Repair]:
     """Steps below their names, each in a list."""
     values = [value for _, value in steps.entries]
-    if case.arguments[0] != "steps" or steps.is_flow or any(value.kind != "mapping" or value.is_flow or value.get("name") for value in values):
+    if case.arguments[0] != "steps" or steps.is_flow:
+        return
+    if any(value.kind != "mapping" or value.is_flow or value.get("name") for value in values):
         return
     if values and all(value.span.start.column == key.span.start.column + 2 for key, value in steps.entries):
         edits = [Edit(Span(key.span.start, Point(key.span.end.line, key.span.end.column + 1)), f"- name: {case.slice(key.span)}")
