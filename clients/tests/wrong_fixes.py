@@ -31,7 +31,7 @@ WRONG_FIXES = (
     ("each_variable_is_of_env", "repairs_expressions.py", EXPRESSIONS,
      'if context == "env" and not re.search', 'if context == "no" and not re.search'),
     ("brackets_are_closed_at_the_end", "repairs_expressions.py", EXPRESSIONS,
-     "for end in (*ends[:1], len(text)):", "for end in (len(text),):"),
+     "(*ends[:1], len(text)) if is_call else", "(len(text),) if is_call else"),
     ("not_holds_for_one_name", "repairs_expressions.py", EXPRESSIONS, "grouped(operand.strip(), COMPARISONS)", "operand.strip()"),
     ("a_lone_text_is_a_condition", "repairs_expressions.py", EXPRESSIONS, "if has_lone_text and", "if False and"),
     ("a_condition_loses_its_index", "repairs_values.py", EXPRESSIONS, "if not is_test and not", "if True or not"),
