@@ -78,14 +78,15 @@ def _is_slip(wrong: str, name: str) -> bool:
 
 
 def _is_slip_of_word(word: str, other: str) -> bool:
-    """Whether words are equal but for a plural or a few letters: one in a short word, two in a long one, none in one of two letters."""
+    """Whether words are equal but for a plural or a few letters: two in a long word, one in a short one, but not for another letter in one of
+    four, and for none in one of two."""
     short = min(len(word), len(other))
     if word == other or short > 2 and (word in (other + "s", other + "es") or other in (word + "s", word + "es")):
         return True
     if short < 3 or short > MAX_WORD_CHARACTERS:
         return False
     changed = difference(word, other, 2)
-    return changed == 1 and (short > 3 or sorted(word) == sorted(other) or len(word) != len(other)) or changed == 2 and short >= 8
+    return changed == 1 and (short > 4 or sorted(word) == sorted(other) or len(word) != len(other)) or changed == 2 and short >= 8
 
 
 def difference(one: str, other: str, most: int) -> int:

@@ -11,7 +11,7 @@ from .operators import grouped, parts
 from .paths import is_workflow
 from .report import Fault
 from .repair import Case, Edit, Found, Repair, first_entry, levels_of, next_entry, quoted, without_entry, without_key
-from .repairs_expressions import choice_by_call, expression_of, in_yaml, is_operand, whole_chain
+from .repairs_expressions import choice_by_call, expression_of, in_yaml, is_compared, is_operand, whole_chain
 from .syntax import table
 from .text import Point, Span
 from .tree import Path
@@ -36,7 +36,8 @@ def near_name(case: Case) -> Iterable[Repair]:
     wrong = case.arguments[0]
     quote = case.written[:1] if case.written[:1] == "'" else ""
     known = _properties_before(case) if case.code == "X13" else _scope_names(case)
-    for name, is_slip in likely(wrong, known):
+    word = misspelled(wrong, WORDS) if case.code == "X7" else None
+    for name, is_slip in [(word, True)] if word else likely(wrong, known):
         yield case.replace(f'change to "{name}"', quote + name + quote, is_safe=is_slip)
     meant = OTHER_FUNCTIONS.get(wrong.lower()) if case.code == "X9" else None
     if meant in known:
@@ -54,7 +55,7 @@ def _scope_names(case: Case) -> list[str]:
     scope = scope_of(case)
     if scope is None:
         return []
-    return scope.functions() if case.code == "X9" else [*(one.name for one in scope.contexts()), *WORDS]
+    return scope.functions() if case.code == "X9" else [one.name for one in scope.contexts()]
 
 
 def _properties_before(case: Case) -> list[str]:
@@ -120,7 +121,8 @@ def declared_row(case: Case) -> Iterable[Repair]:
 def unknown_word(case: Case) -> Iterable[Repair]:
     """A function with its missing brackets, a property with its missing context, or a text in quotes: that first, if it is compared with
     what is before it."""
-    if case.arguments[0].lower() in [name.lower() for name in _functions(case)]:
+    is_function = case.arguments[0].lower() in [name.lower() for name in _functions(case)]
+    if is_function and not is_compared(case.line[:case.span.start.column], case.line[case.span.end.column:]):
         yield case.replace('add "()"', case.written + "()", is_safe=True)
         return
     if case.arguments[0].lower() in OTHER_NULLS:

@@ -173,7 +173,7 @@ def written_to_file(case: Case) -> Iterable[Repair]:
         text = _appended(match, command, shell) if _is_whole(match, case.line) else None
         if text:
             title = f"append to {FILES[command]}" + ("" if shell else ", as bash does")
-            is_safe = shell in (*POSIX, *POWERSHELLS) and bool(match["head"]) and "-" not in match["head"].replace("Write-", "")
+            is_safe = shell in (*POSIX, *POWERSHELLS) and bool(re.fullmatch(r"(?:echo|Write-Output|Write-Host)\s+", match["head"] or ""))
             yield case.replace(title, text, Span.on_line(case.span.start.line, match.start(), match.end()), is_safe)
 
 
@@ -182,6 +182,8 @@ def _is_whole(match: re.Match[str], line: str) -> bool:
     value = match["value"]
     before = line[:match.start()].rstrip()
     begins = bool(match["head"]) or not before or before.endswith((";", "&&", "||", "run:"))
+    if (match["head"] or "").startswith("printf") and not value.endswith("\\n"):
+        return False
     return begins and value.count("(") == value.count(")") and value.count('"') % 2 == 0 and value.count("'") % 2 == 0
 
 
@@ -201,7 +203,8 @@ def _appended(match: re.Match[str], command: str, shell: str) -> str | None:
     if shell == "python":
         head = match["head"] or ""
         return f"import os; {head}{quote}{text}{quote}, file=open(os.environ['{file}'], 'a'))" if head.startswith("print(") else None
-    return f'{match["head"] or "echo "}{quote}{text}{quote} >> "${file}"' if shell in (*POSIX, "") else None
+    head = re.sub(r"\s+-n\s", " ", match["head"] or "echo ")
+    return f'{head}{quote}{text}{quote} >> "${file}"' if shell in (*POSIX, "") else None
 
 
 def computed_by_shell(case: Case) -> Iterable[Repair]:
