@@ -78,8 +78,8 @@ def _is_slip(wrong: str, name: str) -> bool:
 
 
 def _is_slip_of_word(word: str, other: str) -> bool:
-    """Whether words are equal but for a plural or a few letters: two in a long word, one in a short one, but not for another letter in one of
-    four, and for none in one of two."""
+    """Whether words are equal but for a plural or a few letters: two in a long word, one in a short one, though not for another letter in
+    one of four, and for none in one of two."""
     short = min(len(word), len(other))
     if word == other or short > 2 and (word in (other + "s", other + "es") or other in (word + "s", word + "es")):
         return True
