@@ -3,12 +3,10 @@ from __future__ import annotations
 
 from . import fixes
 from .diagnostics import Diagnostics
+from .edits import workspace_edit
 from .editor import Editor
 from .folder import Program
-from .positions import range_of_span
-from .repair import Edit
-from .repository import Document, Repository
-from .text import Point, Span
+from .repository import Document
 from .workspace import Workspace
 
 
@@ -33,19 +31,4 @@ class CodeActions:
     def _action(self, document: Document, fix: fixes.Fix) -> dict:
         return {"title": fix.repair.title, "kind": "quickfix", "isPreferred": fix.repair.is_safe,
                 "diagnostics": [self._diagnostics.of_fault(document.lines(), fix.fault)],
-                "edit": workspace_edit(document.repository, fix.repair.edits, fix.repair.new_files)}
-
-
-def workspace_edit(repository: Repository, edits: dict[str, tuple[Edit, ...]], new_files: dict[str, str] = {}) -> dict:
-    """Edits and new files as a WorkspaceEdit."""
-    changes = {repository.uri(path): [{"range": range_of_span(repository.project.lines(path), edit.span), "newText": edit.text}
-                                      for edit in some] for path, some in edits.items()}
-    if not new_files:
-        return {"changes": changes}
-    start = range_of_span([""], Span.at(Point(0, 0)))
-    made: list[dict] = []
-    for path, text in new_files.items():
-        uri = repository.uri(path)
-        made += [{"kind": "create", "uri": uri, "options": {"ignoreIfExists": True}},
-                 {"textDocument": {"uri": uri, "version": None}, "edits": [{"range": start, "newText": text}]}]
-    return {"documentChanges": made + [{"textDocument": {"uri": uri, "version": None}, "edits": some} for uri, some in changes.items()]}
+                "edit": workspace_edit(document.repository, fix.repair.edits, fix.repair.new_files, self._editor.takes_versions())}

@@ -5,7 +5,7 @@ import re
 
 from .asked import asked
 from .completion import Offer, offers
-from .editor import Editor
+from .editor import AS_IT_IS, Editor
 from .workspace import Workspace
 
 # CompletionItemKind of the protocol.
@@ -37,6 +37,8 @@ class Completion:
             "sortText": f"{offer.rank}{number:04}", "textEdit": {"range": where, "newText": offer.text}}
         if offer.documentation:
             item["documentation"] = {"kind": self._editor.documentation_format(), "value": offer.documentation}
+        if "\n" in offer.text and self._editor.takes_indentation():
+            item["insertTextMode"] = AS_IT_IS
         if offer.arguments and self._editor.takes_snippets():
             item |= {"insertTextFormat": SNIPPET, "textEdit": {"range": where, "newText": snippet(offer.text)}}
         return item

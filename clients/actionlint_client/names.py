@@ -16,7 +16,7 @@ MAX_NAME_CHARACTERS = 100
 # Of which only so many names, and in words so long, are compared by letters.
 MAX_NAMES = 400
 MAX_WORD_CHARACTERS = 40
-SEPARATORS = re.compile(r"[-_. ]+")
+SEPARATORS = re.compile(r"[-_. /]+")
 DIGITS = re.compile(r"\d+")
 
 # Of which names the argument of a fault should have been one.
@@ -26,7 +26,8 @@ LISTS = {"G1": "events", "G2": "activity types", "G12": "shells", "G13": "permis
 
 @lru_cache(maxsize=None)
 def names() -> dict[str, list[str]]:
-    return json.loads(TABLE.read_text(encoding="utf-8"))
+    found: dict[str, list[str]] = json.loads(TABLE.read_text(encoding="utf-8"))
+    return found
 
 
 def near(wrong: str, known: Iterable[str], count: int = 3, likeness: float = LEAST_LIKENESS) -> list[str]:
@@ -50,7 +51,15 @@ def likely(wrong: str, known: Iterable[str]) -> list[tuple[str, bool]]:
     """The names that may be meant by a wrong one, and whether it is a slip of that name alone. Then no other is likely."""
     names_ = list(islice(known, MAX_NAMES))
     meant = misspelled(wrong, names_)
-    return [(meant, True)] if meant is not None else [(name, False) for name in near(wrong, names_)]
+    if meant is not None:
+        return [(meant, True)]
+    found = near(wrong, names_) or [name for name in names_ if _begins_with(wrong, name) or _begins_with(name, wrong)]
+    return [(name, False) for name in found]
+
+
+def _begins_with(name: str, words: str) -> bool:
+    """Whether a name has some words before others."""
+    return len(words) > 2 and bool(SEPARATORS.match(name, len(words))) and name.startswith(words)
 
 
 def _bare(name: str) -> str:
@@ -64,19 +73,20 @@ def _is_slip(wrong: str, name: str) -> bool:
         return False
     words, others = SEPARATORS.split(wrong.lower()), SEPARATORS.split(name.lower())
     if len(words) != len(others):
-        return _is_slip_of_word(_bare(wrong), _bare(name))
+        return 1 in (len(words), len(others)) and " " not in wrong + name and _is_slip_of_word(_bare(wrong), _bare(name))
     return all(_is_slip_of_word(word, other) for word, other in zip(words, others))
 
 
 def _is_slip_of_word(word: str, other: str) -> bool:
-    """Whether words are equal but for a plural or a few letters: one in a short word, two in a long one, none in one of two letters."""
+    """Whether words are equal but for a plural or a few letters: two in a long word, one in a short one, though not for another letter in
+    one of four, and for none in one of two."""
     short = min(len(word), len(other))
     if word == other or short > 2 and (word in (other + "s", other + "es") or other in (word + "s", word + "es")):
         return True
     if short < 3 or short > MAX_WORD_CHARACTERS:
         return False
     changed = difference(word, other, 2)
-    return changed == 1 and (short > 3 or sorted(word) == sorted(other) or len(word) != len(other)) or changed == 2 and short >= 8
+    return changed == 1 and (short > 4 or sorted(word) == sorted(other) or len(word) != len(other)) or changed == 2 and short >= 8
 
 
 def difference(one: str, other: str, most: int) -> int:

@@ -3,25 +3,32 @@ from __future__ import annotations
 
 from pylsp_jsonrpc.exceptions import JsonRpcException
 
-from .actions import workspace_edit
 from .asked import Asked, asked
+from .editor import Editor
+from .edits import workspace_edit
 from .folder import Program
+from .moving import changed_calls, moved_files
 from .references import Occurrence, all_of, occurrence_at, occurrences
 from .renaming import Refusal, renamable_at, rename
 from .text import Point, Span
+from .uris import path_of
 from .workspace import Workspace
 
 START = Span.at(Point(0, 0))
 WRITE, READ = 3, 2
 REQUEST_FAILED = -32803
+# The moves that the server wants to know before they are done: those of workflows and actions, and of the folders around them.
+MOVES = {"willRename": {"filters": [
+    {"scheme": "file", "pattern": {"glob": "**/*.{yml,yaml}", "matches": "file"}},
+    {"scheme": "file", "pattern": {"glob": "**", "matches": "folder"}}]}}
 
 
 class Navigation:
     capabilities = {"definitionProvider": True, "referencesProvider": True, "documentHighlightProvider": True,
                     "renameProvider": {"prepareProvider": True}}
 
-    def __init__(self, workspace: Workspace, program: Program):
-        self._workspace, self._program = workspace, program
+    def __init__(self, workspace: Workspace, editor: Editor, program: Program):
+        self._workspace, self._editor, self._program = workspace, editor, program
 
     def handlers(self) -> dict:
         return {
@@ -30,6 +37,7 @@ class Navigation:
             "textDocument/documentHighlight": self.highlights,
             "textDocument/prepareRename": self.prepare_rename,
             "textDocument/rename": self.rename,
+            "workspace/willRenameFiles": self.will_rename_files,
         }
 
     def _name(self, document: dict, position: dict) -> tuple[Asked | None, Occurrence | None]:
@@ -73,6 +81,20 @@ class Navigation:
         if place is None:
             return None
         try:
-            return workspace_edit(place.repository, rename(self._program, place.project, place.file, place.point, newName))
+            edits = rename(self._program, place.project, place.file, place.point, newName)
         except Refusal as refusal:
             raise JsonRpcException(f"actionlint: {refusal}", REQUEST_FAILED) from refusal
+        return workspace_edit(place.repository, edits, is_versioned=self._editor.takes_versions())
+
+    def will_rename_files(self, files, **_) -> dict | None:
+        """The calls of what is moved, as they are to be afterwards."""
+        moves = [(old, new) for old, new in ((path_of(file["oldUri"]), path_of(file["newUri"])) for file in files) if old and new]
+        edit: dict = {}
+        for repository in self._workspace.repositories():
+            moved: dict[str, str] = {}
+            for old, new in moves:
+                moved.update(moved_files(repository.project, repository.root, old, new))
+            edits = changed_calls(repository.project, moved)
+            for key, changes in workspace_edit(repository, edits, is_versioned=self._editor.takes_versions()).items():
+                edit[key] = {**edit.get(key, {}), **changes} if isinstance(changes, dict) else [*edit.get(key, []), *changes]
+        return edit if any(edit.values()) else None

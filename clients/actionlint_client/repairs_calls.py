@@ -7,7 +7,7 @@ from typing import Callable, Iterable
 
 from . import project as files
 from .names import likely, misspelled
-from .paths import ACTION_NAMES, WORKFLOWS, is_workflow
+from .paths import ACTION_NAMES, WORKFLOW_ENDINGS, WORKFLOWS, is_workflow
 from .repair import Case, Edit, Found, Repair, as_scalar, entries_of, is_within_flow, next_entry, without_entry
 from .repairs_keys import deleted, moved_below
 from .repairs_names import as_secret
@@ -204,7 +204,8 @@ def right_uses(case: Case) -> Iterable[Repair]:
     if here is None:
         return
     text = here.value.value.strip()
-    if len(here.path) == 3 and here.path[0] == "jobs" and here.key and is_workflow(case.file) and ".github/workflows/" not in text:
+    is_workflow_path = ".github/workflows/" in text or text.endswith(WORKFLOW_ENDINGS)
+    if len(here.path) == 3 and here.path[0] == "jobs" and here.key and is_workflow(case.file) and not is_workflow_path:
         yield from _called_from_step(case, here)
     for changed, is_safe in _right_calls(case, text):
         if changed != text:
@@ -232,9 +233,13 @@ def _right_calls(case: Case, text: str) -> Iterable[tuple[str, bool]]:
     if case.project.has(own) and is_workflow(own) or any(case.project.has(f"{own}/{name}") for name in ACTION_NAMES):
         yield "./" + own, True
         return
+    named = [f"{own}{ending}" for ending in WORKFLOW_ENDINGS if case.project.has(f"{own}{ending}") and is_workflow(f"{own}{ending}")]
+    if named:
+        yield "./" + named[0], True
+        return
     if is_workflow(case.file) and text.rpartition("/")[2] and case.project.has(f"{WORKFLOWS}/{text.rpartition('/')[2]}"):
         yield f"./{WORKFLOWS}/{text.rpartition('/')[2]}", False
-    if re.fullmatch(r"docker:/*[\w./:-]+", text):
+    if re.fullmatch(r"docker:[\w./:-]+", text):
         yield re.sub(r"^docker:/*", "docker://", text), True
     bare = re.sub(r"^(?:https?://)?(?:www\.)?github\.com/", "", text)
     bare = re.sub(r"\.git(?=@|$)", "", bare).strip("/")
@@ -257,6 +262,13 @@ def versions(project: files.Project, name: str) -> list[str]:
     used = re.compile(rf"uses['\"]?\s*:\s*['\"]?{re.escape(name)}@([\w./-]+)", re.I)
     found = Counter(version for path in project.paths() for version in used.findall(project.text(path)))
     return [version for version, _ in found.most_common()] or [VERSIONS[name] for name in [name.lower()] if name in VERSIONS]
+
+
+def local_action_of_job(case: Case) -> Iterable[Repair]:
+    """An action of this repository that a job calls, called from a step."""
+    here = case.value
+    if here and here.key and len(here.path) == 3 and here.path[0] == "jobs" and ".github/workflows/" not in here.value.value:
+        yield from _called_from_step(case, here)
 
 
 def made_callable(case: Case) -> Iterable[Repair]:
@@ -306,6 +318,6 @@ REPAIRS: dict[str, tuple[Callable[[Case], Iterable[Repair]], ...]] = {
     "C5": (near_declared("secrets"),),
     "C6": (required("secrets"),),
     "C7": (right_uses,),
-    "C8": (made_callable,),
+    "C8": (local_action_of_job, made_callable),
     "C9": (without_step,),
 }

@@ -9,11 +9,12 @@ from .names import misspelled
 from .paths import is_workflow
 from .repair import Case, Edit, Found, Repair, indented, is_within_flow, quoted, tight
 from .repairs_keys import JOB
+from .repairs_levels import moved
 from .repairs_yaml import DASH_WITHOUT_SPACE
 from .stricter import takes_filter
 from .syntax import table
 from .text import Point, Span
-from .tree import Node, last_line, walk
+from .tree import Node, Path, last_line, walk
 
 WORKFLOW = f"on: push\njobs:\n  {JOB.replace(chr(10), chr(10) + '  ')}\n"
 ACTION = "name: Name\ndescription: Description\nruns:\n  using: composite\n  steps:\n    - run: make\n      shell: bash\n"
@@ -26,8 +27,8 @@ MINUTES = {"": 1.0, "m": 1.0, "min": 1.0, "mins": 1.0, "minute": 1.0, "minutes":
            "hours": 60.0, "d": 1440.0, "day": 1440.0, "days": 1440.0, "s": 1 / 60, "sec": 1 / 60, "secs": 1 / 60, "second": 1 / 60,
            "seconds": 1 / 60}
 CALL = re.compile(r"[\w.-]+/[\w./-]+@[\w./-]+|\./[\w./-]+|docker://\S+")
-COLON_LACKS_SPACE = re.compile(r"([a-z][\w-]*):(?=[^\s/:])")
-KEY_LACKS_COLON = re.compile(r"([a-z][\w-]*)(?= +\S)")
+COLON_LACKS_SPACE = re.compile(r"([A-Za-z_][\w-]*):(?=[^\s/:])")
+KEY_LACKS_COLON = re.compile(r"([A-Za-z_][\w-]*)(?= +[^\s=])")
 ODD_SPACE = re.compile("[\u00a0\u2000-\u200a\u202f\u3000]")
 
 
@@ -57,14 +58,41 @@ def other_kind(case: Case) -> Iterable[Repair]:
         if pair:
             yield case.replace("make it a mapping", "{%s: %s}" % (pair[1], quoted(pair[2])), value.span)
     if value.kind == "mapping":
+        yield from _named_steps(case, value)
         if all(not entry.value and entry.kind == "scalar" for _, entry in value.entries):
             keys = ", ".join(case.slice(key.span) for key, _ in value.entries)
             yield case.replace("make it a list", f"[{keys}]", tight(case, value))
         if not value.is_flow:
             yield from as_list(case, value)
     if value.kind == "sequence":
+        yield from _by_name(case, value)
         yield from as_mapping(case, value)
         yield from _scalars_as_other(case, here)
+
+
+def _named_steps(case: Case, steps: Node) -> Iterable[Repair]:
+    """Steps below their names, each in a list."""
+    values = [value for _, value in steps.entries]
+    if case.arguments[0] != "steps" or steps.is_flow:
+        return
+    if any(value.kind != "mapping" or value.is_flow or value.get("name") for value in values):
+        return
+    if values and all(value.span.start.column == key.span.start.column + 2 for key, value in steps.entries):
+        edits = [Edit(Span(key.span.start, Point(key.span.end.line, key.span.end.column + 1)), f"- name: {case.slice(key.span)}")
+                 for key, _ in steps.entries]
+        yield case.of("make it a list of steps", *edits)
+
+
+def _by_name(case: Case, sequence: Node) -> Iterable[Repair]:
+    """A list of mappings that begin with a name, as a mapping by these names."""
+    firsts = [item.entries[0] for item in sequence.items if item.kind == "mapping" and not item.is_flow and len(item.entries) > 1]
+    if sequence.is_flow or len(firsts) != len(sequence.items) or any(key.value not in ("name", "id") for key, _ in firsts):
+        return
+    edits = []
+    for key, value in firsts:
+        line = key.span.start.line
+        edits.append(Edit(Span(Point(line, case.lines[line].index("-")), value.span.end), f"{case.slice(value.span)}:"))
+    yield case.of("make it a mapping", *edits)
 
 
 def _with_key(case: Case, here: Found) -> Iterable[Repair]:
@@ -73,8 +101,7 @@ def _with_key(case: Case, here: Found) -> Iterable[Repair]:
     if value.style:
         return
     text = case.slice(value.span)
-    path = here.path[:-1] if isinstance(here.path[-1:], int) else here.path
-    keys = table()["shapes"]["Step"]["keys"] if path[-2:-1] == ("steps",) else None
+    keys = table()["shapes"]["Step"]["keys"] if here.path[-2:-1] == ("steps",) else None
     if ODD_SPACE.search(text):
         yield case.replace("write plain spaces", ODD_SPACE.sub(" ", text), value.span, is_safe=True)
     for pattern, sign, title in ((COLON_LACKS_SPACE, " ", "add a space after the colon"), (KEY_LACKS_COLON, ":", "add a colon")):
@@ -158,8 +185,15 @@ def _keys_beside_job(case: Case, here: Found) -> Iterable[Repair]:
 def jobs_below(case: Case) -> Iterable[Repair]:
     """Jobs that are beside an empty `jobs`, moved below it."""
     here = case.key
-    if here and len(here.path) == 1 and here.value.kind == "mapping" and here.value.get("steps"):
-        yield from _indented_jobs(case)
+    if here is None or here.key is None or len(here.path) != 1 or here.value.kind != "mapping":
+        return
+    if not {"steps", "runs-on", "uses"} & set(here.value.names()):
+        return
+    yield from _indented_jobs(case)
+    jobs = case.at("jobs")
+    if jobs and jobs.entries and not jobs.is_flow and not here.value.is_flow and here.value.alias is None:
+        lines = range(here.key.span.start.line, last_line(here.value, case.lines) + 1)
+        yield moved(case, f'move "{here.key.value}" below "jobs"', lines, jobs.entries[0][0].span.start.column)
 
 
 def _indented_keys(case: Case, here: Found) -> Iterable[Repair]:
@@ -229,7 +263,8 @@ def _without_merge(case: Case) -> Iterable[Repair]:
     """The alias alone if a mapping has nothing but `<<`, otherwise what the alias stands for in its place."""
     if case.tree is None:
         return
-    parents = {(): case.tree, **{path: value for path, _, value in walk(case.tree)}}
+    parents: dict[Path, Node] = {(): case.tree}
+    parents.update((path, value) for path, _, value in walk(case.tree))
     edits = []
     for path, key, value in walk(case.tree):
         parent = parents[path[:-1]]

@@ -1,14 +1,17 @@
 """Symbols, links and folds for editors."""
 from __future__ import annotations
 
+import time
+
 from .asked import Asked, asked
-from .structure import Part, folds, links, part_of
+from .structure import Part, folds, links, part_of, parts_with
 from .text import Point
 from .workspace import Workspace
 
 # SymbolKind of the protocol.
 KINDS = {"workflow": 2, "action": 2, "job": 5, "step": 6}
 MAX_SYMBOLS = 1_000
+READING_SECONDS = 1.0
 START = Point(0, 0)
 
 
@@ -33,14 +36,16 @@ class Symbols:
         return [_symbol(place, part)] if place and part else []
 
     def of_workspace(self, query="", **_) -> list[dict]:
-        """The first 1,000 workflows, jobs and steps whose names contain the text, in any case."""
+        """The first 1,000 workflows, jobs and steps whose names contain the text, in any case. After a second no more files are read; those
+        that were are known the next time."""
         found: list[dict] = []
+        end = time.thread_time() + READING_SECONDS
         for repository in self._workspace.repositories():
             for path in sorted(repository.folder.paths()):
                 place = Asked(repository, path, START)
-                found += [{"name": part.name, "kind": KINDS[part.kind], "containerName": around,
+                found += [{"name": part.name, "kind": KINDS[part.kind], "containerName": part.around,
                            "location": place.location(part.naming, path)}
-                          for part, around in _all(part_of(place.project, path), path) if query.lower() in part.name.lower()]
+                          for part in parts_with(place.project, path, query.lower(), time.thread_time() < end)]
                 if len(found) >= MAX_SYMBOLS:
                     return found[:MAX_SYMBOLS]
         return found
@@ -59,9 +64,3 @@ def _symbol(place: Asked, part: Part) -> dict:
     return {"name": part.name, "detail": part.kind, "kind": KINDS[part.kind], "range": place.range(part.span),
             "selectionRange": place.range(part.naming), "children": [_symbol(place, inner) for inner in part.parts]}
 
-
-def _all(part: Part | None, around: str) -> list[tuple[Part, str]]:
-    """A part and those in it, each with the name of the one around it."""
-    if part is None:
-        return []
-    return [(part, around), *(found for inner in part.parts for found in _all(inner, part.name))]

@@ -40,6 +40,8 @@ FIXED = {
     "far from all": ("on: zzzzzz\njobs: {}\n", None, None),
     "no fault": (RIGHT, None, None),
 }
+# Those whose name isn't a slip of it alone.
+GUESSES = ("input type", "permission value")
 
 
 @CASES.case
@@ -100,6 +102,7 @@ def fixes(program: str) -> None:
         title = f'change to "{name}"'
         assert title in titles, (what, titles, editor.texts(FILE))
         action = found[titles.index(title)]
+        assert action["isPreferred"] == (what not in GUESSES), what
         (diagnostic,) = action["diagnostics"]
         assert diagnostic in editor.diagnostics()[FILE] and action["kind"] == "quickfix"
         ((uri, (edit,)),) = action["edit"]["changes"].items()

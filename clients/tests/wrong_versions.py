@@ -16,6 +16,8 @@ from concurrent.futures import ThreadPoolExecutor
 from pathlib import Path
 from typing import NamedTuple
 
+from wrong_fixes import WRONG_FIXES
+
 CLIENTS = Path(__file__).resolve().parent.parent
 SECONDS = 600
 SIDE_BY_SIDE = 4
@@ -32,6 +34,7 @@ class WrongVersion(NamedTuple):
 
 
 WRONG_VERSIONS = {name: WrongVersion(*row) for name, *row in (
+    *WRONG_FIXES,
     ("only_open_files_are_shown", "repository.py", "promises.py a_renamed_file",
      "for path in sorted(paths):", "for path in sorted(paths & self.documents.keys()):"),
     ("columns_are_characters", "positions.py", "promises.py ranges",
@@ -80,8 +83,6 @@ WRONG_VERSIONS = {name: WrongVersion(*row) for name, *row in (
     ("everything_goes_on_after_shutdown", "server.py", "protocol.py before_and_after",
      "if self._is_shut_down or self._is_initialized and", "if self._is_initialized and"),
     ("a_folder_that_is_gone_is_still_shown", "repository.py", "promises.py several_folders", "editor.publish(uri, None, [])", "pass"),
-    ("fixes_are_not_tried", "fixes.py", "fixes.py random_slips", "if trial.mends(repair, fault):", "if True:"),
-    ("fixes_may_cause_faults", "fixes.py", "fixes.py random_slips", " and not after - self.before - self.earlier", ""),
     ("a_trial_knows_no_callers", "fixes.py", "fixes.py a_trial", "self._include([file, *callers])", "self._include([file])"),
     ("a_folder_has_a_linter_for_ever", "workspace.py", "life.py a_folder_is_let_go",
      "if root not in kept and not repository.documents:", "if False:"),
