@@ -20,8 +20,8 @@ class TooSlow(BaseException):
 
 
 class TimeLimit:
-    """Counts the processor time of the main thread, which alone can be limited, and by one call at a time: signals are handled there, whichever
-    thread used the time."""
+    """Counts the processor time of the main thread, which alone can be limited, and by one call at a time: signals are handled there,
+    whichever thread used the time."""
 
     def __init__(self) -> None:
         self._is_running = False

@@ -376,6 +376,8 @@ def texts_and_order(program: str) -> None:
     assert found["permissions"].documentation and found["name"].text == "name: "
     who = next(offer for offer in offered(JOB + "    steps:\n      - uses: ./greet\n        with:\n          |") if offer.label == "who")
     assert who.documentation == "Whom to greet." and "required" in who.detail and who.text == "who: "
+    texts = {offer.label: offer.text for offer in offered(JOB + "    uses: ./.github/workflows/called.yml\n    with:\n      |")}
+    assert texts == {"name": "name: ", "fast": "fast: true"}, texts
     (cron, *_) = [offer for offer in offered("on:\n  schedule:\n    - cron: |") if offer.label == "*/15 * * * *"]
     assert cron.text == "'*/15 * * * *'" and cron.documentation
     call = next(offer for offer in offered(JOB + "    if: |") if offer.label == "contains")

@@ -22,36 +22,42 @@ from actionlint_client.text import Point
 
 CASES = Cases("renaming")
 JOB = "    runs-on: u\n    steps: [{run: make}]\n"
+FIRST = "on: push\njobs:\n  <>:\n" + JOB
 # Texts in which each `<>` stands for a name, with the name's place in the first of them.
 SAME = {
-    "a job in brackets beside a text": "on: push\njobs:\n  <>:\n" + JOB + "  b:\n    needs: <>\n    if: needs['<>'].result == 'success'\n" + JOB,
-    "a job in spaced brackets": "on: push\njobs:\n  <>:\n" + JOB + "  b:\n    needs: [ <> ]\n    if: needs [ '<>' ] . result == '<x>'\n" + JOB,
-    "a job after a text and in other brackets": "on: push\njobs:\n  <>:\n" + JOB + "  b:\n    needs: <>\n"
+    "a job in brackets beside a text": FIRST + "  b:\n    needs: <>\n    if: needs['<>'].result == 'success'\n" + JOB,
+    "a job in spaced brackets": FIRST + "  b:\n    needs: [ <> ]\n    if: needs [ '<>' ] . result == '<x>'\n" + JOB,
+    "a job after a text and in other brackets": FIRST + "  b:\n    needs: <>\n"
                                                 "    if: contains('x', 'y') && fromJSON('[1]')[0] && needs['<>']['result'] == 'b'\n" + JOB,
-    "a job in single quotes": "on: push\njobs:\n  <>:\n" + JOB + "  b:\n    needs: '<>'\n"
+    "a job in single quotes": FIRST + "  b:\n    needs: '<>'\n"
                               "    if: 'needs[''<>''].result == ''it'''' is'' && ''needs.x'' != needs.<>.result'\n" + JOB,
-    "a job in single quotes after an apostrophe": "on: push\njobs:\n  <>:\n" + JOB + "  b:\n    needs: \"<>\"\n"
+    "a job in single quotes after an apostrophe": FIRST + "  b:\n    needs: \"<>\"\n"
                                                   "    name: 'it''s ${{ needs[''<>''].result }}'\n" + JOB,
-    "a job after escapes": "on: push\njobs:\n  <>:\n" + JOB + "  b:\n    needs: <>\n    name: \"\\t\\\"\\n${{\\n needs.<>.result }}\"\n" + JOB,
-    "a job beside braces in a text": "on: push\njobs:\n  <>:\n" + JOB + "  b:\n    needs: <>\n"
+    "a job after escapes": FIRST + "  b:\n    needs: <>\n    name: \"\\t\\\"\\n${{\\n needs.<>.result }}\"\n" + JOB,
+    "a job beside braces in a text": FIRST + "  b:\n    needs: <>\n"
                                      "    name: ${{ format('{{}}', needs.<>.result) }} ${{ needs.<>.result }}\n" + JOB,
-    "a job in parentheses": "on: push\njobs:\n  <>:\n" + JOB + "  b:\n    needs: <>\n    if: (needs).<>.result || !(needs.<>.result == 'x')\n" + JOB,
+    "a job in parentheses": FIRST + "  b:\n    needs: <>\n    if: (needs).<>.result || !(needs.<>.result == 'x')\n" + JOB,
     "a row in brackets": "on: push\njobs:\n  b:\n    strategy: {matrix: {<>: [1, 2], include: [{<>: 3}], exclude: [{<>: 2}]}}\n"
                          "    runs-on: ${{ matrix['<>'] == 1 && 'a' || 'b' }}\n    steps: [{run: '${{ matrix[''<>''] }}'}]\n",
     "an input by its event": "on:\n  workflow_dispatch:\n    inputs:\n      <>: {type: string}\njobs:\n  b:\n    runs-on: u\n"
-                             "    steps:\n      - run: ${{ github['event']['inputs']['<>'] }} ${{ inputs['<>'] || github.event.inputs.<> }}\n",
+                             "    steps:\n      - run: ${{ github['event']['inputs']['<>'] }}\n"
+                             "      - run: ${{ inputs['<>'] || github.event.inputs.<> }}\n",
     "a secret beside a text": "on:\n  workflow_call:\n    secrets:\n      <>: {required: true}\njobs:\n  b:\n    runs-on: u\n"
                               "    env: {A: \"${{ secrets['<>'] || 'none' }}\"}\n    steps: [{run: make}]\n",
     "a step in brackets": "on: push\njobs:\n  b:\n    runs-on: u\n    steps:\n      - id: <>\n        run: echo a=b >> $GITHUB_OUTPUT\n"
                           "      - if: steps['<>'].outputs['a'] == 'x' && steps[\"no\"] != 1\n        run: make\n",
-    "a job that an index names": "on: push\njobs:\n  <>:\n" + JOB + "  b:\n    needs: <>\n"
-                                 "    strategy: {matrix: {k: [result]}}\n    name: ${{ needs.<>[matrix.k] }} ${{ matrix[needs['<>'].result] }}\n" + JOB,
+    "a job that an index names": FIRST + "  b:\n    needs: <>\n"
+                                 "    strategy: {matrix: {k: [result]}}\n"
+                                 "    name: ${{ needs.<>[matrix.k] }} ${{ matrix[needs['<>'].result] }}\n" + JOB,
 }
 TWO = "on: push\njobs:\n  one:\n    runs-on: u\n    steps:\n      - {id: p, run: make}\n      - {id: q, run: make}\n  two:\n" + JOB
-ROWS = "on: push\njobs:\n  a:\n    strategy: {matrix: {x: [1], include: [{y: 2}]}}\n    runs-on: ${{ matrix.x }}\n    steps: [{run: make}]\n"
-ANCHORS = "on: push\njobs:\n  a:\n    runs-on: u\n    env: &p {A: b}\n    steps:\n      - {run: x, env: *p}\n      - {run: x, env: &q {C: d}}\n"
-DECLARED = ("on:\n  workflow_call:\n    inputs:\n      ver: {type: string}\n      Other: {type: string}\n    secrets:\n      key: {required: false}\n"
-            "    outputs:\n      url: {value: a}\n      size: {value: b}\njobs:\n  a:\n    runs-on: u\n"
+ROWS = ("on: push\njobs:\n  a:\n    strategy: {matrix: {x: [1], include: [{y: 2}]}}\n    runs-on: ${{ matrix.x }}\n"
+        "    steps: [{run: make}]\n")
+ANCHORS = ("on: push\njobs:\n  a:\n    runs-on: u\n    env: &p {A: b}\n    steps:\n      - {run: x, env: *p}\n"
+           "      - {run: x, env: &q {C: d}}\n")
+DECLARED = ("on:\n  workflow_call:\n    inputs:\n      ver: {type: string}\n      Other: {type: string}\n"
+            "    secrets:\n      key: {required: false}\n    outputs:\n      url: {value: a}\n      size: {value: b}\n"
+            "jobs:\n  a:\n    runs-on: u\n"
             "    env: {A: '${{ secrets.ORG }}'}\n    steps: [{run: make}]\n")
 ALIASED = ("on: push\njobs:\n  a:\n    runs-on: u\n    steps: [&s {id: p, run: make}]\n  b:\n    runs-on: u\n    steps:\n      - *s\n"
            "      - run: ${{ steps.p.outcome }}\n")
@@ -79,7 +85,8 @@ REFUSED = {
 # Names that are free, although something is called so.
 FREE = {
     "the same name in another case": (TWO, "\n  ", "ONE"),
-    "the id of a step of another job": (TWO.replace("two:\n" + JOB, "two:\n    runs-on: u\n    steps: [{id: z, run: make}]\n"), "{id: ", "z"),
+    "the id of a step of another job": (TWO.replace("two:\n" + JOB, "two:\n    runs-on: u\n    steps: [{id: z, run: make}]\n"),
+                                        "{id: ", "z"),
     "the name of something of another kind": (TWO, "\n  ", "p"),
     "an anchor in another case": (ANCHORS, "env: &", "Q"),
     "an anchor called null": (ANCHORS, "env: &", "null"),
