@@ -2,6 +2,7 @@
 from __future__ import annotations
 
 import signal
+import threading
 import time
 from contextlib import contextmanager
 from types import FrameType
@@ -39,7 +40,10 @@ class TimeLimit:
 
     @contextmanager
     def uninterrupted(self) -> Iterator[None]:
-        """Within this the exception isn't raised; it is afterwards."""
+        """Within this the exception isn't raised; it is afterwards. Other threads have no limit."""
+        if threading.current_thread() is not threading.main_thread():
+            yield
+            return
         self._shields += 1
         try:
             yield
