@@ -21,6 +21,7 @@ from actionlint_client.project import Project
 from actionlint_client.report import Fault, parse_report
 from actionlint_client.sections import can_stand
 from actionlint_client.session import Session
+from actionlint_client.syntax import available
 from actionlint_client.text import Point, Span
 from actionlint_client.used import used_in
 
@@ -236,11 +237,13 @@ PLACES = {
     "braces over lines without a header": (JOB + "    name: x ${{ github.ref ==\n      github.r|", {"ref"}, {"name"}),
     "where an operator is wanted": (JOB + "    if: always() |", set(), {"github", "always"}),
     "where an operator is wanted over lines": (JOB + "    if: always()\n      |", set(), {"github", "always", "name"}),
+    "a name where an operator is wanted": (JOB + "    if: always() git|", set(), {"github", "always"}),
     "after an operator": (JOB + "    if: always() && !|", {"github", "always"}, set()),
     "an argument": (JOB + "    if: contains(github.ref, |", {"github"}, set()),
     "below a value": (JOB + "    runs-on: u\n      |", set(), {"group", "name"}),
     "below an entry in brackets": (JOB + "    steps:\n      - {run: x}\n        |", set(), {"name"}),
     "below an anchor": (JOB + "    steps: &a\n      - &b\n        |", {"run", "name"}, set()),
+    "no expressions in needs": (JOB + "  c:\n    needs: ${{ |", set(), {"github"}),
     "no expressions in uses": (JOB + "    steps:\n      - uses: x@${{ |", set(), {"github"}),
     "keys after a script with a bracket": (JOB + "    steps:\n      - run: |\n          a: [\n        |", {"shell", "env"}, {"run"}),
     "entries that aren't there yet": ("on: [push, |, issues]\njobs: {}\n", {"pull_request"}, {"push", "issues"}),
@@ -277,6 +280,7 @@ PLACES = {
                         {"os"}),
     "versions that are used": (JOB + "    steps:\n      - uses: actions/checkout@v4\n      - uses: actions/ch|", {"actions/checkout@v4"},
                                {"actions/ch"}),
+    "a version that is being typed": (JOB + "    steps:\n      - uses: a/b@v|", {"./greet"}, {"a/b@v"}),
     "labels that are used": ("on: push\njobs:\n  x:\n    runs-on: [big-one]\n    steps: []\n  y:\n    runs-on: |\n",
                              {"big-one", "ubuntu-latest"}, set()),
     "secrets that are used": ("on: push\njobs:\n  x:\n    env: {A: '${{ secrets.DEPLOY_KEY }}'}\n    steps:\n      - run: ${{ secrets.|\n",
@@ -365,7 +369,9 @@ def in_actions(program: str) -> None:
         labels = {offer.label for offer in offered(text, "x/action.yml")}
         assert wanted <= labels, (text, labels)
     labels = {offer.label for offer in offered(head + "runs:\n  using: composite\n  steps:\n    - if: |", "x/action.yml")}
-    assert {"github", "always", "hashFiles"} <= labels and not {"secrets", "needs", "jobs"} & labels, labels
+    assert {"github", "always", "hashFiles"} <= labels and not {"secrets", "needs", "jobs", "vars"} & labels, labels
+    contexts, _ = available("x/action.yml", ("runs", "steps", 0, "run"), ({}, {}, {}, {}))
+    assert "vars" in contexts and not {"secrets", "needs", "jobs"} & set(contexts), "what the linter accepts"
 
 
 @CASES.case

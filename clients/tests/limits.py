@@ -129,12 +129,11 @@ def other_threads(_: str) -> None:
     limit, ended = TimeLimit(), []
     other = threading.Thread(target=lambda: (burn(1.5), ended.append(1)))
 
-    def waiting() -> str:
+    def waiting() -> None:
         other.start()
         other.join()
-        return "a"
 
-    assert limit.call(0.5, waiting) == "a" and ended == [1]
+    assert not is_cut(limit, 0.5, waiting) and ended == [1]
 
 
 @CASES.case

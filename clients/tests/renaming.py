@@ -100,9 +100,18 @@ def point_after(text: str, sign: str) -> Point:
 
 
 def renamed(program: str, text: str, point: Point, name: str) -> str:
+    """The text with the new name. Raises Refusal."""
     edits = rename(Program([program], SECONDS), project_of({FILE: text}), FILE, point, name)
     assert set(edits) == {FILE}
     return replaced(text, edits[FILE])
+
+
+def taken(program: str, text: str, point: Point, name: str) -> str:
+    """The text with a name that must not be refused."""
+    try:
+        return renamed(program, text, point, name)
+    except Refusal as refusal:
+        raise AssertionError(f"{name} is refused in\n{text}") from refusal
 
 
 @CASES.case
@@ -110,9 +119,9 @@ def each_place(program: str) -> None:
     """All places that mean the name change, and none that only looks like one."""
     for what, text in SAME.items():
         old, new = text.replace("<>", "tests"), text.replace("<>", "check")
-        found = renamed(program, old, point_after(text, text[:text.index("<>")]), "check")
+        found = taken(program, old, point_after(text, text[:text.index("<>")]), "check")
         assert found == new, (what, found)
-        assert renamed(program, new, point_after(text, text[:text.index("<>")]), "tests") == old, what
+        assert taken(program, new, point_after(text, text[:text.index("<>")]), "tests") == old, what
 
 
 @CASES.case
@@ -129,7 +138,7 @@ def names_that_are_refused(program: str) -> None:
 @CASES.case
 def names_that_are_free(program: str) -> None:
     for what, (text, sign, name) in FREE.items():
-        assert renamed(program, text, point_after(text, sign), name) != text, what
+        assert taken(program, text, point_after(text, sign), name) != text, what
 
 
 @CASES.case
@@ -162,7 +171,7 @@ def versions(program: str) -> None:
             found = {change["textDocument"]["uri"]: change["textDocument"]["version"] for change in edit["documentChanges"]}
             assert found == {editor.uri(ACTION): 2, editor.uri(FILE): None} and "changes" not in edit, edit
         else:
-            assert set(edit["changes"]) == {editor.uri(ACTION), editor.uri(FILE)} and "documentChanges" not in edit, edit
+            assert "documentChanges" not in edit and set(edit["changes"]) == {editor.uri(ACTION), editor.uri(FILE)}, edit
         end(editor)
 
 
