@@ -16,7 +16,7 @@ from promises import end, start
 from repositories import ACTION, FILE, WORKFLOWS
 
 CASES = Cases("hostile")
-SHORT_BYTES = 200_000
+SHORT_BYTES = 100_000
 # The server ends a request after two seconds. Short texts take far less.
 REQUEST_SECONDS, SHORT_REQUEST_SECONDS = 10.0, 2.0
 TOO_SLOW = -32803
