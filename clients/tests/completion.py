@@ -253,6 +253,7 @@ def in_actions(program: str) -> None:
         assert wanted <= labels, (text, labels)
     labels = {offer.label for offer in offered(head + "runs:\n  using: composite\n  steps:\n    - if: |", "x/action.yml")}
     assert {"github", "always", "hashFiles"} <= labels and not {"secrets", "needs", "jobs", "vars"} & labels, labels
+    assert not offered(head + "runs:\n  using: composite\n  steps:\n    - uses: ./x/${{ |", "x/action.yml")
     contexts, _ = available("x/action.yml", ("runs", "steps", 0, "run"), ({}, {}, {}, {}))
     assert "vars" in contexts and not {"secrets", "needs", "jobs"} & set(contexts), "what the linter accepts"
 

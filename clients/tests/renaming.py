@@ -87,7 +87,7 @@ FREE = {
     "the same name in another case": (TWO, "\n  ", "ONE"),
     "the id of a step of another job": (TWO.replace("two:\n" + JOB, "two:\n    runs-on: u\n    steps: [{id: z, run: make}]\n"),
                                         "{id: ", "z"),
-    "the name of something of another kind": (TWO, "\n  ", "p"),
+    "the name of something of another kind": (DECLARED, "inputs:\n      ", "size"),
     "an anchor in another case": (ANCHORS, "env: &", "Q"),
     "an anchor called null": (ANCHORS, "env: &", "null"),
     "a word that only begins like another": (TWO, "\n  ", "nulls"),

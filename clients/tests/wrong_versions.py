@@ -289,7 +289,7 @@ WRONG_VERSIONS = {name: WrongVersion(*row) for name, *row in (
      'if name not in ("secrets", "jobs", "needs")]', 'if name not in ("secrets",)]'),
     ("what_github_has_not_in_actions_is_offered", "completion.py", "completion.py in_actions", 'NOT_IN_ACTIONS = ("vars",)',
      "NOT_IN_ACTIONS = ()"),
-    ("needs_take_expressions", "syntax.py", "completion.py by_place", '{"job": ("needs", "uses"), "step"', '{"job": (), "step"'),
+    ("calls_take_expressions", "syntax.py", "completion.py in_actions", '{"step": ("uses", "id"),', '{"step": ("id",),'),
     ("inputs_have_no_values", "completion.py", "completion.py texts_and_order",
      'value = {"boolean": "true", "number": "0"}.get(kind, "")', 'value = ""'),
     ("dots_are_no_signs_of_anchors", "readable.py", "navigation.py what_the_linter_reads",
