@@ -241,4 +241,5 @@ def _common_keys(row: Node) -> list[str]:
         return row.names()
     if not row.items or any(item.kind != "mapping" for item in row.items):
         return []
-    return [key for key in row.items[0].names() if all(key in item.names() for item in row.items)]
+    names = [set(item.names()) for item in row.items]
+    return [key for key in row.items[0].names() if all(key in known for known in names)]

@@ -67,6 +67,9 @@ def needs_of_each_other(count: int) -> str:
 # Each is built when it is its turn.
 TEXTS: dict[str, Callable[[], Hostile]] = {
     "properties that could be cut anywhere": lambda: at(HEAD + "      - name: " + "&" * 60 + " x\n          foo\n", "foo", "name"),
+    "keys of a row": lambda: at(HEAD.replace("    steps:", "    strategy: {matrix: {r: [{"
+                                             + ", ".join(f"k{number}: 1" for number in range(8_000)) + "}]}}\n    steps:")
+                                + "      - run: ${{ matrix.r. }}\n", "matrix.r.", "k77: "),
     "tags that could be cut anywhere": lambda: at(HEAD + "      - name: " + "!" * 20_000 + " x\n          foo\n", "foo"),
     "properties one after another": lambda: at(HEAD + "      - name: " + "&a " * 20_000 + "x\n          foo\n", "foo"),
     "jobs that alias a job": lambda: at(jobs_that_alias(1_000), "  j99", "- run"),

@@ -173,6 +173,8 @@ WRONG_VERSIONS = {name: WrongVersion(*row) for name, *row in (
     ("properties_are_cut_anywhere", "place.py", "hostile.py each_request_at_each_text", r"(?:[&!]\S+(?:\s+|$))*", r"(?:[&!]\S+\s*)*"),
     ("jobs_have_the_parts_of_their_anchor", "structure.py", "navigation.py parts",
      'value.get("steps") if value.alias is None else None', 'value.get("steps")'),
+    ("keys_of_a_row_are_compared_with_each_other", "expressions.py", "hostile.py each_request_at_each_text",
+     "all(key in known for known in names)", "all(key in item.names() for item in row.items)"),
     ("a_request_has_no_limit", "server.py", "limits.py requests_that_never_end", "LIMIT.call(MAX_SECONDS, request)", "request()"),
     ("the_limit_is_caught_by_what_is_cut", "limit.py", "limits.py calls", "class TooSlow(BaseException):", "class TooSlow(Exception):"),
     ("the_limit_goes_on_after_the_call", "limit.py", "limits.py calls",
