@@ -13,7 +13,8 @@ START = Span.at(Point(0, 0))
 
 def workspace_edit(repository: Repository, edits: Mapping[str, tuple[Edit, ...]], new_files: Mapping[str, str] = {},
                    is_versioned: bool = False) -> dict:
-    """Edits and new files as a WorkspaceEdit, which with `is_versioned` holds only for the versions of the open files that it was made for."""
+    """Edits and new files as a WorkspaceEdit, which with `is_versioned` holds only for the versions of the open files that it was made
+    for."""
     changes = {path: [{"range": range_of_span(repository.project.lines(path), edit.span), "newText": edit.text} for edit in some]
                for path, some in edits.items()}
     if not new_files and not is_versioned:

@@ -7,7 +7,7 @@ from typing import Callable, Collection, Iterable, NamedTuple
 
 from .paths import ACTION_NAMES, is_action, is_path, is_workflow
 from .text import LINE_BREAK
-from .tree import Node, read_tree
+from .tree import Node, Path, read_tree
 
 # Files whose texts and trees are held, besides those that are open.
 MAX_HELD = 64
@@ -42,8 +42,8 @@ NO_FILE = _Known(b"", "", [""], is_read=True)
 
 
 class Project:
-    """`read` returns the current bytes of a file, `paths` the linted workflows and actions, `actions` all actions. `is_open` tells whether a
-    file is open in the editor, and `is_too_large` whether the linter refuses it as too large; such a file has no tree."""
+    """`read` returns the current bytes of a file, `paths` the linted workflows and actions, `actions` all actions. `is_open` tells whether
+    a file is open in the editor, and `is_too_large` whether the linter refuses it as too large; such a file has no tree."""
 
     def __init__(self, read: Callable[[str], bytes | None], paths: Callable[[], Iterable[str]],
                  actions: Callable[[], Iterable[str]] | None = None, is_open: Callable[[str], bool] = lambda _: False,
@@ -134,7 +134,7 @@ def declarations(file: str, tree: Node | None, what: str, of_call: bool = False)
     """The inputs, secrets or outputs that a file declares. Inputs are those of calls and of manual starts, or of calls only."""
     if tree is None:
         return []
-    ways = [("on", "workflow_call", what)] if is_workflow(file) else [(what,)]
+    ways: list[Path] = [("on", "workflow_call", what)] if is_workflow(file) else [(what,)]
     if is_workflow(file) and what == "inputs" and not of_call:
         ways.append(("on", "workflow_dispatch", what))
     found: dict[str, Declaration] = {}

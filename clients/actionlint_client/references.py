@@ -116,13 +116,13 @@ class _Finder:
             if len(path) == 2 and path[0] == "jobs":
                 return Symbol("job", self.file, "", name)
             if len(path) == 4 and path[0] == "on" and path[2] in ("inputs", "outputs", "secrets"):
-                return Symbol(path[2].removesuffix("s"), self.file, "", name)
+                return Symbol(str(path[2]).removesuffix("s"), self.file, "", name)
             if len(path) == 4 and path[0] == "jobs" and path[2] == "outputs":
                 return Symbol("output", self.file, str(path[1]).lower(), name)
             if path[:1] == ("jobs",) and path[2:4] == ("strategy", "matrix") and self._is_row(path[4:]):
                 return Symbol("row", self.file, str(path[1]).lower(), name)
         elif len(path) == 2 and path[0] in ("inputs", "outputs"):
-            return Symbol(path[0].removesuffix("s"), self.file, "", name)
+            return Symbol(str(path[0]).removesuffix("s"), self.file, "", name)
         return None
 
     @staticmethod
@@ -232,8 +232,8 @@ class _Finder:
 
 
 def _without_escapes(written: str, style: str) -> str:
-    """A scalar with a space outside of the expression's strings beside each quote that single quotes have doubled, and with spaces in place of
-    the escapes of double quotes, so that all names stay where they are."""
+    """A scalar with a space outside of the expression's strings beside each quote that single quotes have doubled, and with spaces in place
+    of the escapes of double quotes, so that all names stay where they are."""
     if style == '"':
         return ESCAPE.sub("  ", written)
     return written[:1] + DOUBLED.sub(_Doubled().spaced, written[1:-1]) + written[-1:] if style == "'" else written

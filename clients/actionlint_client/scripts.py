@@ -8,9 +8,10 @@ from __future__ import annotations
 from dataclasses import dataclass
 from typing import Iterator
 
+from .readable import NO_BREAKS
 from .shells import default_shell, shell_of
 from .text import Places
-from .tree import NO_BREAKS, Node, NotYaml, parse_tree
+from .tree import Node, NotYaml, parse_tree
 
 BLANKS = frozenset(" \t\n\r")
 BREAKS = frozenset("\n\r")

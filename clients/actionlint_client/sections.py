@@ -41,4 +41,4 @@ def _pairs(section: str) -> list[tuple[str, str]]:
 
 def activity_types(event: str) -> list[str]:
     """The activity types of an event, by the linter's list or else by GitHub's."""
-    return table()["activity types"].get(event) or github()["activity types"].get(event, [])
+    return list(table()["activity types"].get(event) or github()["activity types"].get(event, ()))

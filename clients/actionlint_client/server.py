@@ -10,7 +10,7 @@ import resource
 import sys
 from functools import partial
 from pathlib import Path
-from typing import BinaryIO, Callable
+from typing import BinaryIO, Callable, Protocol
 
 from pylsp_jsonrpc.endpoint import Endpoint
 from pylsp_jsonrpc.exceptions import JsonRpcException, JsonRpcInvalidRequest, JsonRpcMethodNotFound, JsonRpcServerError
@@ -41,6 +41,15 @@ MAX_SECONDS = 2.0
 COLLECTED = (50_000, 20)
 
 
+class Feature(Protocol):
+    """What answers some of the requests."""
+
+    capabilities: dict
+
+    def handlers(self) -> dict[str, Callable]:
+        """The functions by method, called with the message's parameters by name."""
+
+
 class Server:
     """Takes messages one after another. Diagnostics are sent when no further message waits, and before each answer to a request.
 
@@ -61,7 +70,7 @@ class Server:
         self._workspace = Workspace(
             lambda root: Repository(root, Folder(root, program, self._editor.say, keeps_calls=shows_earlier), shows_earlier),
             self._editor, diagnostics)
-        self._features = (
+        self._features: tuple[Feature, ...] = (
             Completion(self._workspace, self._editor),
             Hover(self._workspace, self._editor, docs),
             CodeActions(self._workspace, diagnostics, self._editor, program),

@@ -16,8 +16,8 @@ TABLE = File(__file__).parent / "syntax.json"
 CONDITIONS = {"job": ("if",), "step": ("if",), "node runs": ("pre-if", "post-if"), "docker runs": ("pre-if", "post-if")}
 STATUS_FUNCTIONS = ("always", "cancelled", "success", "failure")
 RUNS_BY_USING = {"docker": "DockerRuns", "composite": "CompositeRuns"}
-# Values that aren't expressions (docs/CONTEXTS.md, "What is checked").
-NO_EXPRESSIONS = {"job": ("needs", "uses"), "step": ("uses", "id"), "runs": ("using",)}
+# Values of an action that aren't expressions (docs/CONTEXTS.md, "What is checked").
+NO_EXPRESSIONS = {"step": ("uses", "id"), "runs": ("using",)}
 VALUE_WORDS = {"AnyScalar": "text", "NotNull": "text", "Bools": "true or false", "Numbers": "number", "Chunks": "expression"}
 
 
