@@ -5,11 +5,12 @@ import re
 import time
 from collections import Counter
 from dataclasses import replace
+from enum import Enum
 from itertools import islice
 from typing import Callable, Iterable, NamedTuple
 
-from . import (repairs_calls, repairs_expressions, repairs_keys, repairs_kinds, repairs_levels, repairs_names, repairs_rules, repairs_scripts,
-               repairs_yaml)
+from . import (repairs_calls, repairs_expressions, repairs_keys, repairs_kinds, repairs_levels, repairs_names, repairs_rules,
+               repairs_scripts, repairs_values, repairs_yaml)
 from .disk import MAX_FILE_BYTES
 from .entries import entry_of
 from .paths import is_workflow
@@ -28,8 +29,8 @@ MAX_REPORT_BYTES = 4 * 1_048_576
 # Faults of expressions that can't be read.
 UNREADABLE = ("X1", "X2", "X3", "X4", "X5", "X6", "X20")
 LOCAL_CALL = re.compile(r"\./[^\s'\"#,}\]]*")
-MODULES = (repairs_yaml, repairs_levels, repairs_keys, repairs_kinds, repairs_rules, repairs_expressions, repairs_names, repairs_scripts,
-           repairs_calls)
+MODULES = (repairs_yaml, repairs_levels, repairs_keys, repairs_kinds, repairs_rules, repairs_expressions, repairs_names, repairs_values,
+           repairs_scripts, repairs_calls)
 REPAIRS: dict[str, tuple[Callable[[Case], Iterable[Repair]], ...]] = {
     code: tuple(each for module in MODULES for each in module.REPAIRS.get(code, ())) for found in MODULES for code in found.REPAIRS}
 
@@ -59,9 +60,9 @@ def repairs(project: Project, fault: Fault) -> list[Repair]:
 
 def fixes(words: list[str], timeout: float, project: Project, faults: Iterable[Fault], earlier: Iterable[Fault] = (),
           seconds: float = MAX_SECONDS) -> list[Fix]:
-    """For the first 20 faults, the repairs after which the linter no longer reports the fault, and none that it didn't report before, as
-    many as can be tried in some seconds, and at least one. `words` start the linter. While a file isn't valid YAML, `earlier` are the
-    faults that it had when it last was; these may come back."""
+    """For the first 20 faults, the repairs after which the linter no longer reports the fault, and none that it didn't report before but
+    what the fault has hidden, as many as can be tried in some seconds, and at least one. One that shows what was hidden is a guess. `words`
+    start the linter. While a file isn't valid YAML, `earlier` are the faults that it had when it last was; these may come back."""
     deadline = time.monotonic() + seconds
     mended: list[Fix] = []
     trial = None
@@ -76,8 +77,9 @@ def fixes(words: list[str], timeout: float, project: Project, faults: Iterable[F
                     trial.earlier = _counted(earlier)
                 elif time.monotonic() > deadline:
                     break
-                if trial.mends(repair, fault):
-                    right.append(repair)
+                result = trial.result(repair, fault)
+                if result is not Result.WRONG:
+                    right.append(repair if result is Result.CLEAN else replace(repair, is_safe=False))
             mended += [Fix(fault, repair) for repair in _to_show(right)]
     except (LinterEnded, ReportTooLong):
         pass
@@ -88,8 +90,8 @@ def fixes(words: list[str], timeout: float, project: Project, faults: Iterable[F
 
 
 def _to_show(found: list[Repair]) -> list[Repair]:
-    """The first repair with each title: the safe one, guesses, and guesses that delete something. Several safe ones are several readings, so
-    each is a guess; beside a single one nothing is deleted. Last resorts only if there are no others."""
+    """The first repair with each title: the safe one, guesses, and guesses that delete something. Several safe ones are several readings,
+    so each is a guess; beside a single one nothing is deleted. Last resorts only if there are no others."""
     better = [repair for repair in found if not repair.is_last_resort] or found
     safe = sum(repair.is_safe for repair in better)
     if safe > 1:
@@ -97,6 +99,14 @@ def _to_show(found: list[Repair]) -> list[Repair]:
     in_order = sorted(better, key=lambda repair: (not repair.is_safe, repair.deletes))
     by_title = {repair.title: repair for repair in reversed(in_order) if repair.is_safe or safe != 1 or not repair.deletes}
     return list(by_title.values())[::-1][:MAX_SHOWN]
+
+
+class Result(Enum):
+    """What a repair does: it leaves the fault or causes another one, it leaves neither, or it shows what the fault has hidden."""
+
+    WRONG = "wrong"
+    CLEAN = "clean"
+    UNCOVERS = "uncovers"
 
 
 class Trial:
@@ -112,14 +122,18 @@ class Trial:
         callers = [path for path in project.paths() if path != file and _calls(project, path, file)]
         self._include([file, *callers])
 
-    def mends(self, repair: Repair, fault: Fault) -> bool:
-        """Whether the report after a repair lacks the fault and has no new one but those that the fault hid."""
+    def result(self, repair: Repair, fault: Fault) -> Result:
+        """What the report after a repair says."""
         changed = {path: replaced(self.project.text(path), edits) for path, edits in repair.edits.items()}
         after = self.report_after(changed | repair.new_files)
         counted = _counted(after)
         key = fault.path, fault.message
         new = counted - self.before - self.earlier
-        return counted[key] < self.before[key] and all(_was_hidden(one, fault, repair) for one in after if (one.path, one.message) in new)
+        if counted[key] >= self.before[key]:
+            return Result.WRONG
+        if not new:
+            return Result.CLEAN
+        return Result.UNCOVERS if all(_was_hidden(one, fault, repair) for one in after if (one.path, one.message) in new) else Result.WRONG
 
     def faults_after(self, texts: dict[str, str]) -> Counter:
         """The faults if some files had other texts. The session is unchanged afterwards."""
@@ -168,13 +182,13 @@ class Trial:
 
 
 def _was_hidden(one: Fault, fault: Fault, repair: Repair) -> bool:
-    """Whether a fault was there before a repair, hidden by the repaired one: an expression that can't be read has no other fault, and a file
-    that isn't YAML has none on its other lines."""
+    """Whether a fault was there before a repair, hidden by the repaired one: an expression that can't be read has no other fault, and a
+    file that isn't YAML has none on its other lines."""
     code, hidden = (entry.code if (entry := entry_of(each.message)) else "" for each in (one, fault))
     if one.path != fault.path or code in UNREADABLE or code[:1] in ("Y", "K"):
         return False
     if hidden in UNREADABLE:
-        return one.line == fault.line and code[:1] == "X"
+        return one.line == fault.line and code[:1] == "X" and code not in ("X7", "X9")
     edits = repair.edits.get(fault.path, ())
     touched = {line + 1 for edit in edits for line in range(edit.span.start.line, edit.span.end.line + 1)}
     keeps_lines = all("\n" not in edit.text and edit.span.start.line == edit.span.end.line for edit in edits)

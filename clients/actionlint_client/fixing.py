@@ -7,8 +7,9 @@ from dataclasses import dataclass
 from typing import Callable, Iterable
 
 from .actions_on_disk import actions_below
+from .entries import entry_of
 from .faults import FileFaults
-from .fixes import MAX_FAULTS, fixes
+from .fixes import MAX_FAULTS, UNREADABLE, fixes
 from .folder import Folder, Program
 from .positions import BYTE_ORDER_MARK
 from .project import Project
@@ -70,7 +71,7 @@ class Fixing:
         return {path: Change(before, after[path]) for path, before in sorted(self._before.items()) if after[path] != before}
 
     def _go_on(self) -> None:
-        """Applies fixes until there are none that leave fewer faults and no other ones. One that doesn't do so alone is given up."""
+        """Applies fixes until there are none that leave the folder better. One that doesn't do so alone is given up."""
         faults = self._faults()
         is_cautious = False
         for _ in range(MAX_ROUNDS):
@@ -80,7 +81,7 @@ class Fixing:
             taken = dict(list(found.items())[:1]) if is_cautious else found
             texts = self._apply(taken.values())
             after = self._faults()
-            if after is not None and _is_better(after, faults):
+            if after is not None and _is_better(after, faults, len(taken) == 1):
                 faults, is_cautious = after, False
                 continue
             for path, data in texts.items():
@@ -165,9 +166,19 @@ def _touch(one: Edit, other: Edit) -> bool:
     return one.span.start <= other.span.end and other.span.start <= one.span.end
 
 
-def _is_better(after: dict[str, FileFaults], before: dict[str, FileFaults]) -> bool:
-    """Whether there are fewer faults, and none that wasn't there. Places aren't compared, since they move."""
-    return _count(after) < _count(before) and not _messages(after) - _messages(before)
+def _is_better(after: dict[str, FileFaults], before: dict[str, FileFaults], may_uncover: bool) -> bool:
+    """Whether there are fewer faults, and none that wasn't there. Places aren't compared, since they move. A fix that was tried alone may
+    also leave fewer of those faults that hide others, whatever they have hidden."""
+    if may_uncover and _count_hiding(after) < _count_hiding(before):
+        return True
+    return (_count_hiding(after) <= _count_hiding(before) and _count(after) < _count(before)
+            and not _messages(after) - _messages(before))
+
+
+def _count_hiding(faults: dict[str, FileFaults]) -> int:
+    """How many faults hide others: what isn't YAML, and expressions that can't be read."""
+    entries = (entry_of(fault.message) for of_file in faults.values() for fault in of_file.faults)
+    return sum(entry is not None and (entry.code.startswith("Y") or entry.code in UNREADABLE) for entry in entries)
 
 
 def _count(faults: dict[str, FileFaults]) -> int:

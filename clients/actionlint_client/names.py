@@ -16,7 +16,7 @@ MAX_NAME_CHARACTERS = 100
 # Of which only so many names, and in words so long, are compared by letters.
 MAX_NAMES = 400
 MAX_WORD_CHARACTERS = 40
-SEPARATORS = re.compile(r"[-_. ]+")
+SEPARATORS = re.compile(r"[-_. /]+")
 DIGITS = re.compile(r"\d+")
 
 # Of which names the argument of a fault should have been one.
@@ -64,7 +64,7 @@ def _is_slip(wrong: str, name: str) -> bool:
         return False
     words, others = SEPARATORS.split(wrong.lower()), SEPARATORS.split(name.lower())
     if len(words) != len(others):
-        return _is_slip_of_word(_bare(wrong), _bare(name))
+        return 1 in (len(words), len(others)) and " " not in wrong + name and _is_slip_of_word(_bare(wrong), _bare(name))
     return all(_is_slip_of_word(word, other) for word, other in zip(words, others))
 
 

@@ -111,9 +111,10 @@ def _around(text: str, mark: Token) -> tuple[int, int]:
     """The offsets of the bracket or the argument around a token."""
     start, end = 0, len(text)
     for token in tokens(text):
-        if token.start < mark.start and (token.depth == mark.depth - 1 and token.text in OPEN or token.depth == mark.depth and token.text == ","):
+        is_comma = token.depth == mark.depth and token.text == ","
+        if token.start < mark.start and (is_comma or token.depth == mark.depth - 1 and token.text in OPEN):
             start = token.start + 1
-        if token.start > mark.start and (token.depth < mark.depth or token.depth == mark.depth and token.text == ","):
+        if token.start > mark.start and (is_comma or token.depth < mark.depth):
             end = token.start
             break
     return start, end

@@ -5,7 +5,7 @@ import re
 from typing import NamedTuple
 
 HEREDOC = re.compile(r"<<-?[ \t]*(\\?)(['\"]?)([A-Za-z_]\w*)\2")
-EXPRESSION = re.compile(r"\$\{\{.*?\}\}", re.S)
+EXPRESSION = re.compile(r"\$\{\{(?:[^$}]|\$(?!\{\{)|\}(?!\}))*\}\}")
 # Commands that only print or store what they read.
 READERS = re.compile(r"(?:^|[;&|(]|\$\()\s*(?:cat|tee)\b[^;&|]*$")
 

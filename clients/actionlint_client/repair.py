@@ -22,7 +22,7 @@ from .tree import Node, Path, last_line, walk
 
 NEEDS_QUOTES = re.compile(r"^[!&*\[\]{}|>@`%'\"#,?-]|: | #|:$")
 FLOW_SIGNS = re.compile(r"[\[\]{},]")
-COMMENT = re.compile(r"\s+#.*$|\s+$")
+COMMENT = re.compile(r"(?<!\s)\s+(?:#.*)?$")
 Levels = tuple[dict[str, str], ...]
 
 
@@ -35,9 +35,9 @@ class Edit(NamedTuple):
 
 @dataclass(frozen=True)
 class Repair:
-    """What can be done about a fault: edits by file, and new files. A safe one means what was written, or is the only reading that the fault
-    leaves; any other is a guess. One that deletes something comes after all others. A last resort is offered only if nothing else repairs
-    the fault."""
+    """What can be done about a fault: edits by file, and new files. A safe one means what was written, or is the only reading that the
+    fault leaves; any other is a guess. One that deletes something comes after all others. A last resort is offered only if nothing else
+    repairs the fault."""
 
     title: str
     edits: dict[str, tuple[Edit, ...]]
@@ -67,7 +67,7 @@ class Nodes:
         if tree is None:
             return
         self.values[tree.span.start] = Found((), None, tree, tree)
-        parents = {(): tree}
+        parents: dict[Path, Node] = {(): tree}
         for path, key, value in walk(tree):
             parents[path] = value
             found = Found(path, key, value, parents[path[:-1]])
@@ -281,6 +281,13 @@ def without_entry(case: Case, mapping: Node, key: Node) -> Edit:
         return Edit(Span(Point(key.span.start.line, 0), Point(line + 1, 0)), "")
     above = max(key.span.start.line - 1, 0)
     return Edit(Span(Point(above, len(case.lines[above])), Point(line, len(case.lines[line]))), "")
+
+
+def without_key(case: Case, mapping: Node, name: str) -> Edit:
+    """A mapping without the entry that has a key, which isn't the only one."""
+    key = mapping.key(name)
+    assert key
+    return without_entry(case, mapping, key)
 
 
 def indented(case: Case, entries: Iterable[tuple[Node, Node]], by: str) -> list[Edit]:

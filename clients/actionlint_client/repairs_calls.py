@@ -234,7 +234,7 @@ def _right_calls(case: Case, text: str) -> Iterable[tuple[str, bool]]:
         return
     if is_workflow(case.file) and text.rpartition("/")[2] and case.project.has(f"{WORKFLOWS}/{text.rpartition('/')[2]}"):
         yield f"./{WORKFLOWS}/{text.rpartition('/')[2]}", False
-    if re.fullmatch(r"docker:/*[\w./:-]+", text):
+    if re.fullmatch(r"docker:[\w./:-]+", text):
         yield re.sub(r"^docker:/*", "docker://", text), True
     bare = re.sub(r"^(?:https?://)?(?:www\.)?github\.com/", "", text)
     bare = re.sub(r"\.git(?=@|$)", "", bare).strip("/")
@@ -257,6 +257,13 @@ def versions(project: files.Project, name: str) -> list[str]:
     used = re.compile(rf"uses['\"]?\s*:\s*['\"]?{re.escape(name)}@([\w./-]+)", re.I)
     found = Counter(version for path in project.paths() for version in used.findall(project.text(path)))
     return [version for version, _ in found.most_common()] or [VERSIONS[name] for name in [name.lower()] if name in VERSIONS]
+
+
+def local_action_of_job(case: Case) -> Iterable[Repair]:
+    """An action of this repository that a job calls, called from a step."""
+    here = case.value
+    if here and here.key and len(here.path) == 3 and here.path[0] == "jobs" and ".github/workflows/" not in here.value.value:
+        yield from _called_from_step(case, here)
 
 
 def made_callable(case: Case) -> Iterable[Repair]:
@@ -306,6 +313,6 @@ REPAIRS: dict[str, tuple[Callable[[Case], Iterable[Repair]], ...]] = {
     "C5": (near_declared("secrets"),),
     "C6": (required("secrets"),),
     "C7": (right_uses,),
-    "C8": (made_callable,),
+    "C8": (local_action_of_job, made_callable),
     "C9": (without_step,),
 }

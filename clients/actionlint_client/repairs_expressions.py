@@ -1,20 +1,21 @@
-"""Repairs of expressions that can't be read, or whose values don't fit."""
+"""Repairs of expressions that can't be read, and what other repairs of expressions use."""
 from __future__ import annotations
 
-import itertools
 import re
 from typing import Callable, Iterable, NamedTuple
 
 from .expressions import CHAIN, NAME, STRING, links
-from .operators import Choice, Token, choice, choice_in, grouped, operators, tokens
+from .operators import Choice, Token, choice, choice_in, grouped, operators, parts, tokens
 from .repair import NEEDS_QUOTES, Case, Repair, as_scalar, is_within_flow
 from .syntax import is_condition
 from .text import Point, Span
 
-BRACES = re.compile(r"\$\{\{(.*?)\}\}", re.S)
+BRACES = re.compile(r"\$\{\{((?:[^$}]|\$(?!\{\{)|\}(?!\}))*)\}\}")
+MANY_BRACES = re.compile(r"\$\{{3,}([^{}]*)\}{2,}")
 NESTED_BRACES = re.compile(r"\$\{\{([^{}]*)\$\{\{([^{}]*)\}\}([^{}]*)\}\}")
 DOUBLE_QUOTED = re.compile(r'\\?"([^"\\]*)\\?"')
-CURLY_QUOTED = re.compile("[\u2018\u2019\u201a\u201c\u201d\u201e\u00b4`]([^'\"\u2018\u2019\u201c\u201d`]*)[\u2018\u2019\u201c\u201d\u00b4`]")
+CURLY = "\u2018\u2019\u201a\u201c\u201d\u201e\u00b4`"
+CURLY_QUOTED = re.compile(rf"[{CURLY}]([^'\"{CURLY}]*)[{CURLY}]")
 ODD_SPACES = re.compile("[\u00a0\u2000-\u200a\u202f\u3000]")
 SINGLE_EQUALS = re.compile(r"(?<![=!<>])=(?!=)")
 WORD_OPERATORS = {"and": "&&", "or": "||", "eq": "==", "ne": "!="}
@@ -22,19 +23,17 @@ WORDS = re.compile(r"(?<![\w.-])(" + "|".join(WORD_OPERATORS) + r")(?![\w.-])", 
 NOT = re.compile(r"(?<![\w.-])not(?![\w.-])\s*", re.I)
 VARIABLE = re.compile(r"\$\{?(GITHUB_|RUNNER_)?([A-Z_][A-Z0-9_]*)\}?")
 METHOD = re.compile(rf"(?<![\w.-])({NAME}(?:\.{NAME})*?)\.(contains|startsWith|endsWith)\(")
-AMONG = re.compile(rf"(?<![\w.-])({NAME}(?:\.{NAME})*)\s+in\s+[\[(]([^\])]*)[\])]")
-LIST_ARGUMENT = re.compile(r"\(\s*\[([^\]]*)\]\s*,")
+AMONG = re.compile(rf"(?<![\w.-])({NAME}(?:\.{NAME})*)\s+in\s+[\[(]([^\[\]()]*)[\])]")
+LIST_ARGUMENT = re.compile(r"\(\s*\[([^\[\]]*)\]\s*,")
 CALL_OF_CHOICE = re.compile(r"\b(case|iif|if|ternary|choose)\s*\(")
 ARGUMENTS = re.compile(r"(?:'(?:[^']|'')*'|[^()']|\((?:[^()']|'[^']*')*\))*")
 ARGUMENT = re.compile(r"(?:'(?:[^']|'')*'|\((?:[^()']|'[^']*')*\)|[^,()'])+")
 MAX_CONDITION_CHARACTERS = 5_000
-PLACEHOLDER = re.compile(r"\{(\d{1,3})\}")
 TWO_QUOTES = "''"
 NO_SIGNS = (";", "$", "\\")
 SUM = re.compile(rf"({CHAIN.pattern}|'[^']*')((?:\s*\+\s*(?:{CHAIN.pattern}|'[^']*'))+)")
+WORD = re.compile(r"[^\s'\"()=!,]*")
 COMPARISONS = ("==", "!=", "<", ">", "<=", ">=")
-# What of a job or a step is compared with a text, and of which objects.
-COMPARED = {"needs": "result", "steps": "outcome", "job": "status"}
 
 
 class Expression(NamedTuple):
@@ -103,11 +102,11 @@ def in_yaml(text: str, expression: Expression) -> str:
 
 def _outside_texts(text: str, change: Callable[[str], str]) -> str:
     """A text with changes only outside of quotes."""
-    parts, at = [], 0
+    found, at = [], 0
     for match in STRING.finditer(text):
-        parts += [change(text[at:match.start()]), match[0]]
+        found += [change(text[at:match.start()]), match[0]]
         at = match.end()
-    return "".join([*parts, change(text[at:])])
+    return "".join([*found, change(text[at:])])
 
 
 def _single_quotes(text: str) -> str:
@@ -119,17 +118,29 @@ def _plain_spaces(text: str) -> str:
     return _outside_texts(text, lambda part: ODD_SPACES.sub(" ", part))
 
 
-def _operators(text: str) -> str:
+def _operators(text: str, with_lone_texts: bool = False) -> str:
     changed = _outside_texts(text, lambda part: WORDS.sub(lambda match: WORD_OPERATORS[match[1].lower()], part))
     changed = _outside_texts(changed, lambda part: re.sub(r"===+", "==", part).replace("!==", "!=").replace("<>", "!="))
-    return _without_words(_outside_texts(changed, lambda part: re.sub(r"! (?=\S)", "!", part)))
+    changed = _without_words(_outside_texts(changed, lambda part: re.sub(r"! (?=\S)", "!", part)))
+    has_lone_text = len(parts(changed, "||")) > 1 and any(STRING.fullmatch(part) for part in parts(changed, "||")[1:])
+    return text if has_lone_text and "==" in changed and not with_lone_texts else changed
+
+
+def _spread(text: str) -> str | None:
+    """`a == 'x' or 'y'` as `a == 'x' || a == 'y'`."""
+    found = parts(_operators(text, True), "||")
+    first = re.fullmatch(r"(.+?)\s*==\s*'[^']*'", found[0])
+    if first is None or len(operators(found[0])) != 1 or not any(STRING.fullmatch(part) for part in found[1:]):
+        return None
+    return " || ".join(f"{first[1]} == {part}" if STRING.fullmatch(part) else part for part in found)
 
 
 def _without_words(text: str) -> str:
     """`not a == b` as `!(a == b)`: the word holds for all up to the next `&&` or `||`."""
     while (match := next((match for match in NOT.finditer(text) if not _is_in_text(text, match.start())), None)) is not None:
         rest = text[match.end():]
-        end = next((token.start for token in tokens(rest) if token.depth < 0 or token.depth == 0 and token.text in ("&&", "||", ",")), len(rest))
+        ends = (token.start for token in tokens(rest) if token.depth < 0 or token.depth == 0 and token.text in ("&&", "||", ","))
+        end = next(ends, len(rest))
         operand = rest[:end]
         tail = operand[len(operand.rstrip()):]
         text = text[:match.start()] + "!" + grouped(operand.strip(), COMPARISONS) + tail + rest[end:]
@@ -154,8 +165,8 @@ def _all_operators(text: str) -> str:
 
 
 def _double_braces(text: str) -> str | None:
-    match = re.fullmatch(r"\$?\{+(.*?)\}+", text.strip(), re.S)
-    return "${{ " + match[1].strip() + " }}" if match else None
+    bare = text.strip().removeprefix("$")
+    return "${{ " + bare.strip("{}").strip() + " }}" if bare[:1] == "{" and bare[-1:] == "}" else None
 
 
 def from_context(case: Case) -> Iterable[Repair]:
@@ -206,7 +217,7 @@ def choice_by_call(case: Case) -> Iterable[Repair]:
     call = CALL_OF_CHOICE.search(text)
     if expression is None or call is None:
         return
-    arguments, end = _arguments(text, call.end())
+    arguments, end = arguments_at(text, call.end())
     made = _choice_of(arguments) if call[1] == "case" or len(arguments) == 3 else None
     if made and text[end:end + 1] == ")":
         before, after = text[:call.start()], text[end + 1:]
@@ -227,16 +238,17 @@ def _choice_of(arguments: list[str]) -> Choice | None:
     return made
 
 
-def _arguments(text: str, start: int) -> tuple[list[str], int]:
+def arguments_at(text: str, start: int) -> tuple[list[str], int]:
     """The arguments of a call that begin at an offset, and the offset after them."""
     match = ARGUMENTS.match(text, start)
-    return [part.strip() for part in ARGUMENT.findall(match[0])], match.end()
+    end = match.end() if match else start
+    return [part.strip() for part in ARGUMENT.findall(text[start:end])], end
 
 
 def _formatted(text: str) -> str | None:
     """`a + 'b'` as a call of format. Without a string it may be a sum, which expressions don't have."""
     def call(match: re.Match) -> str:
-        parts = [part.strip() for part in re.split(r"\s*\+\s*", match[0])]
+        parts = [part.strip() for part in match[0].split("+")]
         if not any(part.startswith("'") for part in parts):
             return match[0]
         return f"format('{''.join('{%d}' % number for number in range(len(parts)))}', {', '.join(parts)})"
@@ -274,7 +286,7 @@ def without_rest(case: Case) -> Iterable[Repair]:
     expression = expression_of(case)
     text = decoded(expression) if expression else ""
     stripped = text.rstrip()
-    match = re.search(r"\s*(&&|\|\||,|\))$", stripped)
+    match = re.search(r"(?<!\s)\s*(&&|\|\||,|\))$", stripped)
     if expression and match and match.start():
         yield with_expression(case, f'delete "{match[1]}" at the end', expression, stripped[:match.start()] + text[len(stripped):],
                               deletes=True)
@@ -297,10 +309,14 @@ def without_character(case: Case) -> Iterable[Repair]:
 
 
 def inner_braces(case: Case) -> Iterable[Repair]:
-    """Braces around a part of what is in braces already are taken away."""
+    """Braces around a part of what is in braces already are taken away, and more than two in a row."""
+    many = MANY_BRACES.search(case.line)
+    if many:
+        span = Span.on_line(case.span.start.line, many.start(), many.end())
+        yield case.replace("write two braces", "${{" + many[1] + "}}", span, is_safe=True)
     column = case.span.start.column
-    match = next((match for match in NESTED_BRACES.finditer(case.line) if match.start() <= column < match.end() or case.code == "G18"), None)
-    if match:
+    match = NESTED_BRACES.search(case.line)
+    if match and (match.start() <= column < match.end() or case.code == "G18"):
         span = Span.on_line(case.span.start.line, match.start(), match.end())
         yield case.replace("take away the inner braces", "${{" + match[1] + match[2].strip() + match[3] + "}}", span, is_safe=True)
 
@@ -341,8 +357,8 @@ def word_as_text(case: Case) -> Iterable[Repair]:
     """The text around the fault, up to the nearest spaces, in quotes, if it is compared or an argument."""
     expression = expression_of(case)
     line, column = case.line, case.span.start.column
-    start = column - len(re.search(r"[^\s'\"()=!,]*$", line[:column])[0])
-    end = column + len(re.match(r"[^\s'\"()=!,}]*", line[column:])[0])
+    start = column - len(WORD.findall(line[:column][::-1])[0])
+    end = column + len(WORD.findall(line[column:])[0].partition("}")[0])
     if expression and re.match(r"[\w./*-]", line[start:end]) and is_operand(line[:start], line[end:]):
         span = Span.on_line(case.span.start.line, start, end)
         yield case.replace("put it in quotes", in_yaml(f"'{line[start:end]}'", expression), span)
@@ -357,61 +373,9 @@ def is_compared(before: str, after: str) -> bool:
     return re.search(r"(?:[=!]=|[<>]=?)\s*$", before) is not None or re.match(r"\s*(?:[=!]=|[<>])", after) is not None
 
 
-def without_index(case: Case) -> Iterable[Repair]:
-    """The chain up to what can't be indexed, unless that makes a condition constant."""
-    chain, span = whole_chain(case)
-    line = case.line
-    dot = max(line.rfind(sign, span.start.column, case.span.start.column + 1) for sign in (".", "["))
-    here = case.scalar
-    if not chain or dot <= span.start.column or here is None:
-        return
-    is_test = is_in_condition(case) and not is_operand(line[:span.start.column], line[span.end.column:])
-    if not is_test and not line[:span.start.column].rstrip().endswith("!"):
-        index = line[dot:span.end.column]
-        yield case.replace(f'delete "{index}"', "", Span(Point(case.span.start.line, dot), span.end), deletes=True)
-
-
 def is_in_condition(case: Case) -> bool:
     here = case.scalar
     return here is not None and is_condition(case.file, here.path, case.levels(here.path))
-
-
-def compared_part(case: Case) -> Iterable[Repair]:
-    """What of a needed job, a step or an event is compared with a text, in place of all of it."""
-    if case.code == "X18" and not is_in_condition(case):
-        return
-    for match in CHAIN.finditer(case.line):
-        span = Span.on_line(case.span.start.line, match.start(), match.end())
-        if not is_compared(case.line[:match.start()], case.line[match.end():]) and not span.holds(case.span.start):
-            continue
-        here = [name.lower() for name in links(match[0])]
-        if here == ["github", "event"]:
-            yield case.replace("change to github.event_name", "github.event_name", span)
-        elif here[0] in COMPARED and len(here) == (1 if here[0] == "job" else 2):
-            name = COMPARED[here[0]]
-            yield case.replace(f'compare its "{name}"', f"{match[0]}.{name}", span)
-
-
-def all_results(case: Case) -> Iterable[Repair]:
-    """The results of all needed jobs, for `contains`."""
-    chain, span = whole_chain(case)
-    if [name.lower() for name in chain] == ["needs"] and case.line[:span.start.column].lower().rstrip(" ").endswith("contains("):
-        yield case.replace("take the results of all needed jobs", "needs.*.result", span)
-
-
-def as_json(case: Case) -> Iterable[Repair]:
-    """The value as a text, except in a condition, where a text is always true."""
-    chain, span = whole_chain(case)
-    if is_in_condition(case) and case.code == "X18":
-        return
-    if chain:
-        yield case.replace("convert it to JSON", f"toJSON({case.slice(span)})", span)
-        if span.end.column > span.start.column and "*" in chain:
-            expression = expression_of(case)
-            literal = in_yaml("', '", expression) if expression else "', '"
-            yield case.replace("join its entries", f"join({case.slice(span)}, {literal})", span)
-    elif (expression := expression_of(case)) and expression.text.strip():
-        yield case.replace("convert it to JSON", f" toJSON({expression.text.strip()}) ", expression.span)
 
 
 def one_pair(case: Case) -> Iterable[Repair]:
@@ -436,82 +400,20 @@ def one_pair(case: Case) -> Iterable[Repair]:
             yield case.replace(f"delete the {rest} beside the braces", alone, here.value.span, deletes=True)
 
 
-def fewer_arguments(case: Case) -> Iterable[Repair]:
-    """A call without its last arguments, if the function takes as few."""
-    line, column = case.line, case.span.start.column
-    match = re.match(rf"{NAME}\s*\(", line[column:])
-    if not match:
-        return
-    start = column + match.end()
-    arguments, end = _arguments(line, start)
-    for kept in range(len(arguments) - 1, -1, -1):
-        yield case.replace(f"delete {', '.join(arguments[kept:])}", ", ".join(arguments[:kept]), Span.on_line(case.span.start.line, start, end),
-                           deletes=True)
-
-
-def _format_call(case: Case) -> tuple[list[str], Span] | None:
-    """The arguments of the call of format around the fault, and their place."""
-    start = case.line.rfind("format(", 0, case.span.end.column)
-    if start < 0:
-        return None
-    begin = start + len("format(")
-    parts, end = _arguments(case.line, begin)
-    return parts, Span.on_line(case.span.start.line, begin, end)
-
-
-def right_format(case: Case) -> Iterable[Repair]:
-    """As many placeholders as arguments, numbered from 0; braces that aren't placeholders doubled."""
-    call = _format_call(case)
-    if call is None or not call[0]:
-        return
-    (text, *arguments), span = call
-    numbers = {int(number) for number in PLACEHOLDER.findall(text)}
-    quote = TWO_QUOTES if text.startswith(TWO_QUOTES) else "'"
-    unused = [number for number in range(len(arguments)) if number not in numbers]
-    places = "".join(f" {{{number}}}" for number in unused)
-    tries = [("number the placeholders", [_numbered(text, len(arguments)), *arguments]),
-             ("write the braces twice", [re.sub(r"\{(?!\d+\})([^{}]*)\}", r"{{\1}}", text), *arguments]),
-             ("put it into the text", [text.removesuffix(quote) + places + quote, *arguments])]
-    for title, changed in tries:
-        if changed != [text, *arguments]:
-            yield case.replace(title, ", ".join(changed), span)
-            if changed[0] == _numbered(text, len(arguments)):
-                return
-    if unused and unused == list(range(unused[0], len(arguments))):
-        yield case.replace(f"delete {', '.join(arguments[unused[0]:])}", ", ".join([text, *arguments[:unused[0]]]), span, deletes=True)
-
-
-def _numbered(text: str, count: int) -> str:
-    """A text with its placeholders numbered: those without a number one after another, or as many different ones as arguments by their
-    order."""
-    used = sorted({int(number) for number in PLACEHOLDER.findall(text)})
-    if used:
-        order = {number: place for place, number in enumerate(used)}
-        return PLACEHOLDER.sub(lambda match: "{%d}" % order[int(match[1])], text) if len(used) == count else text
-    numbers = itertools.count()
-    return re.sub(r"\{\}|%s", lambda match: "{%d}" % next(numbers), text)
-
-
 SINGLE_QUOTES = rewritten("write single quotes", _single_quotes, True)
 DOUBLED = rewritten('write "==", "&&", "||"', _doubled, True)
+SPREAD = rewritten("compare it with each", _spread)
 OPERATORS = rewritten('write "&&", "||", "!"', _operators, True)
 
 REPAIRS: dict[str, tuple[Callable[[Case], Iterable[Repair]], ...]] = {
-    "X1": (SINGLE_QUOTES, rewritten("write plain spaces", _plain_spaces, True), DOUBLED, as_choice, OPERATORS,
+    "X1": (SINGLE_QUOTES, rewritten("write plain spaces", _plain_spaces, True), DOUBLED, as_choice, OPERATORS, SPREAD,
            rewritten('write "||", which takes the second for an empty text too', _coalesced), inner_braces,
            rewritten("write a call of format", _formatted), rewritten("write the operators of expressions", _all_operators, True),
            rewritten('write "${{" and "}}"', _double_braces, True), from_context, word_as_text, without_character),
     "X2": (closed_text,),
-    "X3": (OPERATORS, DOUBLED, as_choice, rewritten("call a function", _called), inner_braces, closed_brackets, with_comma, without_rest,
-           without_character),
+    "X3": (OPERATORS, SPREAD, DOUBLED, as_choice, rewritten("call a function", _called), inner_braces, closed_brackets, with_comma,
+           without_rest, without_character),
     "X4": (closed_brackets, without_rest),
-    "X11": (fewer_arguments,),
-    "X12": (all_results, as_json),
-    "X14": (without_index,),
-    "X15": (compared_part,),
-    "X16": (right_format,),
-    "X17": (right_format,),
-    "X18": (as_json, compared_part),
     "X20": (closed_braces,),
     "G18": (inner_braces, one_pair),
 }

@@ -2,15 +2,17 @@
 from __future__ import annotations
 
 import re
+from itertools import islice
 from typing import Callable, Iterable
 
 from .names import likely, misspelled
 from .paths import is_workflow
 from .repairs_levels import moves
-from .repair import Case, Edit, Found, Repair, entries_of, first_entry, indented, next_entry, quoted, tight, without_entry
+from .repair import (FLOW_SIGNS, Case, Edit, Found, Repair, entries_of, first_entry, indented, next_entry, quoted, tight, without_entry,
+                     without_key)
 from .syntax import shape_at, table
 from .text import Point, Span
-from .tree import Node, Path
+from .tree import Node, Path, last_line
 
 JOB = "build:\n  runs-on: ubuntu-latest\n  steps:\n    - run: make"
 # The values of missing keys.
@@ -24,8 +26,11 @@ OTHER_NAMES = {"timeout": "timeout-minutes", "command": "run", "script": "run", 
                "condition": "if", "when": "if", "title": "name", "dir": "working-directory", "cwd": "working-directory", "triggers": "on",
                "environments": "environment", "variables": "env", "vars": "env", "args": "with", "params": "with", "secret": "secrets",
                "allow-failure": "continue-on-error", "allow_failure": "continue-on-error", "os": "runs-on", "type": "types", "job": "jobs",
-               "workdir": "working-directory",
+               "workdir": "working-directory", "inputs": "with", "input": "with", "parameters": "with", "environment": "env",
+               "cmd": "run", "commands": "run", "action": "uses", "runner": "runs-on", "dependencies": "needs", "description": "name",
                "continue-on-failure": "continue-on-error", "ignore-errors": "continue-on-error", "matrix": "strategy"}
+# Where a missing key is looked for.
+MAX_PLACES = 20
 STEP_STARTS = ("name", "id", "if")
 
 
@@ -178,7 +183,8 @@ def repeated(case: Case) -> Iterable[Repair]:
         yield case.of('join both conditions with "&&"', Edit(first.span, both), without_entry(case, here.parent, here.key))
     if here.path != ("jobs", name):
         value = f' ("{here.value.value}")' if here.value.kind == "scalar" and 0 < len(here.value.value) < 40 else ""
-        yield case.of(f'delete the second "{name}"{value}{entries_of(here.value)}', without_entry(case, here.parent, here.key), deletes=True)
+        title = f'delete the second "{name}"{value}{entries_of(here.value)}'
+        yield case.of(title, without_entry(case, here.parent, here.key), deletes=True)
 
 
 def _merged(case: Case, here: Found, first: Node) -> Iterable[Repair]:
@@ -186,17 +192,42 @@ def _merged(case: Case, here: Found, first: Node) -> Iterable[Repair]:
     second = here.value
     assert here.key
     removed = without_entry(case, here.parent, here.key)
-    is_same_kind = first.kind == second.kind and first.is_flow == second.is_flow and first.alias is None is second.alias
-    if first.kind == "mapping" and is_same_kind and first.entries and second.entries:
-        if not set(first.names()) & set(second.names()):
-            texts = [case.slice(Span(key.span.start, tight(case, value).end)) for key, value in second.entries]
+    title = f'merge it with the first "{here.key.value}"'
+    if first.alias or second.alias:
+        return
+    if first.kind == second.kind == "mapping" and first.entries and second.entries:
+        is_plain = first.is_flow == second.is_flow or all(_fits_anywhere(value) for _, value in second.entries)
+        shared = [key.value for key, _ in second.entries if first.get(key.value)]
+        new = [(key, value) for key, value in second.entries if key.value not in shared]
+        if is_plain and new:
+            texts = [case.slice(Span(key.span.start, tight(case, value).end)) for key, value in new]
+            lost = ", without its " + ", ".join(f'"{name}"' for name in shared) if shared else ""
             indent, between = "\n" + " " * second.span.start.column, ", " if first.is_flow else "\n"
             added = next_entry(case, first, first.entries[-1][0].value, between.join(text.replace(indent, "\n") for text in texts))
-            yield case.of(f'merge it with the first "{here.key.value}"', added, removed, is_safe=True)
-    elif here.key.value == "needs":
-        names_ = list(dict.fromkeys([*(item.value for item in first.items or [first]), *(item.value for item in second.items or [second])]))
-        if first.kind == "scalar" or first.is_flow:
-            yield case.of('merge it with the first "needs"', Edit(first.span, f"[{', '.join(names_)}]"), removed, is_safe=True)
+            yield case.of(title + lost, added, removed, is_safe=not shared, deletes=bool(shared))
+    elif first.kind == second.kind == "sequence" and not first.is_flow and not second.is_flow and first.items and second.items:
+        line = last_line(first, case.lines)
+        lines = case.lines[second.items[0].span.start.line:last_line(second, case.lines) + 1]
+        dash, column = (case.lines[node.items[0].span.start.line].index("-") for node in (second, first))
+        text = "".join("\n" + (" " * column + one[dash:] if one.strip() else "") for one in lines)
+        yield case.of(title, Edit(Span.at(Point(line, len(case.lines[line]))), text), removed)
+    elif _takes_list(case, here) and (first.kind == "scalar" or first.is_flow) and {first.kind, second.kind} <= {"scalar", "sequence"}:
+        items = [item for node in (first, second) for item in (node.items or [node])]
+        if not all(item.kind == "scalar" and item.value not in ("", "~", "null") for item in items):
+            return
+        texts = [case.slice(item.span) for item in items]
+        yield case.of(title, Edit(first.span, f"[{', '.join(dict.fromkeys(texts))}]"), removed, is_safe=True)
+
+
+def _fits_anywhere(value: Node) -> bool:
+    """Whether a value means the same in brackets and on a line of its own."""
+    return value.kind == "scalar" and value.style in ("", "'", '"') and not FLOW_SIGNS.search(value.value)
+
+
+def _takes_list(case: Case, here: Found) -> bool:
+    """Whether the value of a key can be a list of texts."""
+    shape = shape_at(case.file, here.path, case.levels((*here.path, "")))
+    return shape is not None and shape["items"] == "Text"
 
 
 def missing_key(case: Case) -> Iterable[Repair]:
@@ -227,10 +258,11 @@ def _renamed(case: Case, unknown: list[Node], wanted: list[str]) -> Iterable[Rep
 
 def _moved_here(case: Case, path: Path, wanted: list[str]) -> Iterable[Repair]:
     """A missing key that stands in another section, which doesn't have it."""
-    for found in case.nodes.keys.values():
-        if found.key and found.key.value in wanted and found.path[:-1] != path:
-            if not found.key.value in case.known_keys(found.path[:-1]):
-                yield from (repair for goal, repair in moves(case, found) if goal == path)
+    others = (found for found in case.nodes.keys.values() if found.path[-1] in wanted and found.path[:-1] != path)
+    near = (found for found in others if len(found.path) < 3 or found.path[:2] == path[:2])
+    for found in islice(near, MAX_PLACES):
+        if found.path[-1] not in case.known_keys(found.path[:-1]):
+            yield from (repair for goal, repair in moves(case, found) if goal == path)
 
 
 def _joined(case: Case, here: Found) -> Iterable[Repair]:
@@ -322,7 +354,7 @@ def excluded_patterns(case: Case) -> Iterable[Repair]:
         items = [case.slice(item.span) for item in (first.items or [first])]
         items += [quoted("!" + item.value) for item in (second.items or [second])]
         yield case.of(f'put its patterns below "{kept}", each with "!"', Edit(first.span, f"[{', '.join(items)}]"),
-                      without_entry(case, here.parent, here.parent.key(ignored)))
+                      without_key(case, here.parent, ignored))
 
 
 REPAIRS: dict[str, tuple[Callable[[Case], Iterable[Repair]], ...]] = {

@@ -13,7 +13,7 @@ from .repairs_yaml import DASH_WITHOUT_SPACE
 from .stricter import takes_filter
 from .syntax import table
 from .text import Point, Span
-from .tree import Node, last_line, walk
+from .tree import Node, Path, last_line, walk
 
 WORKFLOW = f"on: push\njobs:\n  {JOB.replace(chr(10), chr(10) + '  ')}\n"
 ACTION = "name: Name\ndescription: Description\nruns:\n  using: composite\n  steps:\n    - run: make\n      shell: bash\n"
@@ -26,8 +26,8 @@ MINUTES = {"": 1.0, "m": 1.0, "min": 1.0, "mins": 1.0, "minute": 1.0, "minutes":
            "hours": 60.0, "d": 1440.0, "day": 1440.0, "days": 1440.0, "s": 1 / 60, "sec": 1 / 60, "secs": 1 / 60, "second": 1 / 60,
            "seconds": 1 / 60}
 CALL = re.compile(r"[\w.-]+/[\w./-]+@[\w./-]+|\./[\w./-]+|docker://\S+")
-COLON_LACKS_SPACE = re.compile(r"([a-z][\w-]*):(?=[^\s/:])")
-KEY_LACKS_COLON = re.compile(r"([a-z][\w-]*)(?= +\S)")
+COLON_LACKS_SPACE = re.compile(r"([A-Za-z_][\w-]*):(?=[^\s/:])")
+KEY_LACKS_COLON = re.compile(r"([A-Za-z_][\w-]*)(?= +[^\s=])")
 ODD_SPACE = re.compile("[\u00a0\u2000-\u200a\u202f\u3000]")
 
 
@@ -73,8 +73,7 @@ def _with_key(case: Case, here: Found) -> Iterable[Repair]:
     if value.style:
         return
     text = case.slice(value.span)
-    path = here.path[:-1] if isinstance(here.path[-1:], int) else here.path
-    keys = table()["shapes"]["Step"]["keys"] if path[-2:-1] == ("steps",) else None
+    keys = table()["shapes"]["Step"]["keys"] if here.path[-2:-1] == ("steps",) else None
     if ODD_SPACE.search(text):
         yield case.replace("write plain spaces", ODD_SPACE.sub(" ", text), value.span, is_safe=True)
     for pattern, sign, title in ((COLON_LACKS_SPACE, " ", "add a space after the colon"), (KEY_LACKS_COLON, ":", "add a colon")):
@@ -229,7 +228,8 @@ def _without_merge(case: Case) -> Iterable[Repair]:
     """The alias alone if a mapping has nothing but `<<`, otherwise what the alias stands for in its place."""
     if case.tree is None:
         return
-    parents = {(): case.tree, **{path: value for path, _, value in walk(case.tree)}}
+    parents: dict[Path, Node] = {(): case.tree}
+    parents.update((path, value) for path, _, value in walk(case.tree))
     edits = []
     for path, key, value in walk(case.tree):
         parent = parents[path[:-1]]

@@ -51,8 +51,8 @@ def _last_line(case: Case, number: int, own: int) -> int:
 
 
 def _section(case: Case, number: int, column: int) -> tuple[Path, int]:
-    """The path of the mapping that a line would be in at a column. With it, 0 if the section has the line's key and lacks it, 1 if any key can
-    stand there, 2 otherwise."""
+    """The path of the mapping that a line would be in at a column. With it, 0 if the section has the line's key and it isn't there yet,
+    1 if any key can stand there, 2 otherwise."""
     elements = case.outline.lines[number].elements
     if number > MAX_LINES or not elements or elements[0].name is None:
         return (), 2
@@ -91,6 +91,9 @@ def another_level(case: Case) -> Iterable[Repair]:
 def moves(case: Case, here: Found) -> Iterator[tuple[Path, Repair]]:
     """The sections that have a key, and the repairs that move it there."""
     if here.key is None or here.parent.is_flow or case.lines[here.key.span.start.line][:here.key.span.start.column].strip():
+        return
+    if here.key.value == "environment" and here.value.entries and here.value.get("name") is None:
+        # variables
         return
     lines = range(here.key.span.start.line, last_line(here.value, case.lines) + 1)
     for path, names, column in (*_sections_before(case, here), *_sections_around(case, here)):

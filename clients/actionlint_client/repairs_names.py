@@ -6,15 +6,15 @@ from typing import Callable, Iterable
 
 from . import project as files
 from .expressions import Scope, chain_before
-from .names import likely, names
+from .names import likely
 from .operators import parts
 from .paths import is_workflow
 from .report import Fault
-from .repair import Case, Edit, Found, Repair, first_entry, levels_of, next_entry, quoted, without_entry
-from .repairs_expressions import choice_by_call, expression_of, in_yaml, is_compared, is_operand, whole_chain
+from .repair import Case, Edit, Found, Repair, first_entry, levels_of, next_entry, quoted, without_entry, without_key
+from .repairs_expressions import choice_by_call, expression_of, in_yaml, is_operand, whole_chain
 from .syntax import table
 from .text import Point, Span
-from .tree import Node, Path
+from .tree import Path
 
 # Words that are often written for a property of `github`.
 OTHER_PROPERTIES = {"branch": "ref_name", "branch_name": "ref_name", "tag": "ref_name", "tag_name": "ref_name", "sha_short": "sha",
@@ -104,8 +104,8 @@ def declared_row(case: Case) -> Iterable[Repair]:
 
 
 def unknown_word(case: Case) -> Iterable[Repair]:
-    """A function with its missing brackets, a property with its missing context, or a text in quotes: that first, if it is compared with what
-    is before it."""
+    """A function with its missing brackets, a property with its missing context, or a text in quotes: that first, if it is compared with
+    what is before it."""
     if case.arguments[0].lower() in [name.lower() for name in _functions(case)]:
         yield case.replace('add "()"', case.written + "()", is_safe=True)
         return
@@ -139,23 +139,25 @@ def as_text(case: Case) -> Iterable[Repair]:
     """A word that isn't a context, in quotes, if it is compared or an argument. What is compared on the right side can be nothing else."""
     chain, span = whole_chain(case)
     expression = expression_of(case)
-    match = re.match(r"[\w./*-]+", case.line[span.start.column:]) if chain else None
+    match = re.match(r"[\w./*-]+(?:\[\w+\])?", case.line[span.start.column:]) if chain else None
     if match is None or expression is None:
         return
     end = span.start.column + len(match[0])
     before, after = case.line[:span.start.column], case.line[end:]
     if not is_operand(before, after):
         return
-    is_alone = is_compared(before, "") and not case.written.isupper() and not list(with_context(case)) and not likely(chain[0], _scope_names(case))
-    text = case.line[span.start.column:end]
-    yield case.replace("put it in quotes", in_yaml("'" + text + "'", expression), Span.on_line(span.start.line, span.start.column, end), is_alone)
+    is_word = "." not in match[0] and not match[0].isupper() and not likely(chain[0], _scope_names(case)) and not list(with_context(case))
+    is_compared_with_name = re.search(r"[\w\])]\s*[=!]=\s*$", before) is not None
+    place = Span.on_line(span.start.line, span.start.column, end)
+    yield case.replace("put it in quotes", in_yaml(f"'{match[0]}'", expression), place, is_word and is_compared_with_name)
 
 
 def sibling_property(case: Case) -> Iterable[Repair]:
     """A property of what is before the value that can't be indexed, in place of that value's."""
     chain, span = whole_chain(case)
     scope = scope_of(case)
-    number = len(chain_before(case.line[span.start.column:case.span.start.column] + ".").chain) if chain else 0
+    before = chain_before(case.line[span.start.column:case.span.start.column] + ".") if chain else None
+    number = len(before.chain) if before else 0
     if scope is None or not 1 < number < len(chain):
         return
     name = chain[number]
@@ -228,7 +230,7 @@ def declared_input(case: Case) -> Iterable[Repair]:
     name = case.arguments[0]
     if any(is_slip for _, is_slip in likely(name, _properties_before(case))):
         return
-    ways = [("on", "workflow_dispatch"), ("on", "workflow_call")] if is_workflow(case.file) else [()]
+    ways: list[Path] = [("on", "workflow_dispatch"), ("on", "workflow_call")] if is_workflow(case.file) else [()]
     for way in ways:
         yield from _declaring(case, way, name, f'declare the input "{name}"')
     on = case.tree.get("on")
@@ -251,7 +253,8 @@ def _declaring(case: Case, way: Path, name: str, title: str, *edits: Edit) -> It
 
 
 def other_context(case: Case) -> Iterable[Repair]:
-    """An available context in place of one that isn't, or what it stands for: the value of a variable, a needed job, an input of an action."""
+    """An available context in place of one that isn't, or what it stands for: the value of a variable, a needed job, an input of an
+    action."""
     chain, span = whole_chain(case)
     if len(chain) < 2 or case.tree is None:
         return
@@ -307,7 +310,7 @@ def as_secret(case: Case, here: Found) -> Iterable[Repair]:
     if here.key is None or job is None or here.path[2:3] != ("with",) or len(here.path) != 4:
         return
     secrets, text = job.get("secrets"), f"{here.key.value}: {case.slice(here.value.span)}"
-    removed = without_entry(case, here.parent, here.key) if len(here.parent.entries) > 1 else without_entry(case, job, job.key("with"))
+    removed = without_entry(case, here.parent, here.key) if len(here.parent.entries) > 1 else without_key(case, job, "with")
     if secrets is None:
         added = next_entry(case, job, "uses", f"secrets: {{{text}}}" if job.is_flow or here.parent.is_flow else f"secrets:\n  {text}")
     elif secrets.entries:
@@ -354,10 +357,9 @@ def _moved_to_steps(case: Case, chain: tuple[str, ...], span: Span) -> Iterable[
     """The condition of a job, moved to each of its steps, with a variable of the job in place of a secret. What is beside it after `&&` and
     has no such context stays."""
     job = case.at("jobs", case.job or "")
-    condition, steps = (job.key("if"), job.get("steps")) if job else (None, None)
-    if not job or condition is None or steps is None or any(step.get("if") or step.kind != "mapping" for step in steps.items):
+    value, steps = (job.get("if"), job.get("steps")) if job else (None, None)
+    if not job or value is None or steps is None or any(step.get("if") or step.kind != "mapping" for step in steps.items):
         return
-    value = job.get("if")
     text, whole = value.value.strip().removeprefix("${{").removesuffix("}}").strip(), case.slice(span)
     moved = [part for part in parts(text, "&&") if re.search(rf"\b{re.escape(chain[0])}\b", part)]
     stays = [part for part in parts(text, "&&") if part not in moved]
@@ -368,7 +370,7 @@ def _moved_to_steps(case: Case, chain: tuple[str, ...], span: Span) -> Iterable[
         name, entry = _secret_variable(chain)
         new = new.replace(whole, f"env.{name}")
         variable = [next_entry(case, job, "runs-on", f"env: {{{entry}}}" if job.is_flow else f"env:\n  {entry}")]
-    kept = Edit(value.span, _as_condition(" && ".join(stays))) if stays else without_entry(case, job, condition)
+    kept = Edit(value.span, _as_condition(" && ".join(stays))) if stays else without_key(case, job, "if")
     edits = [first_entry(case, step, f"if: {_as_condition(new, step.is_flow)}") for step in steps.items]
     yield case.of("put the condition on the steps" if not stays else f'put "{new}" on the steps', kept, *variable, *edits)
 
@@ -395,7 +397,7 @@ def moved_variable(case: Case) -> Iterable[Repair]:
             edits.append(first_entry(case, step, f"env: {{{flow_entry}}}" if step.is_flow else f"env:\n  {entry}"))
     if not edits:
         return
-    removed = without_entry(case, here.parent, here.key) if len(here.parent.entries) > 1 else without_entry(case, job, job.key("env"))
+    removed = without_entry(case, here.parent, here.key) if len(here.parent.entries) > 1 else without_key(case, job, "env")
     yield case.of("move it to the steps", removed, *edits)
 
 
@@ -413,7 +415,8 @@ def declared_output(case: Case) -> Iterable[Repair]:
         yield from _declared_by(case, callee, name)
         return
     steps = [step for step in files.steps_of(case.tree, chain[1]) if step.text("id")]
-    step = next((step.text("id") for step in reversed(steps) if name in files.written_outputs(step)), steps[-1].text("id") if steps else None)
+    writes = [step for step in steps if name in files.written_outputs(step)] or steps
+    step = writes[-1].text("id") if writes else None
     entry = f"{name}: {quoted('${{ steps.%s.outputs.%s }}' % (step, name)) if step else quoted('')}"
     outputs = job.get("outputs")
     title = f'add the output "{name}" to "{chain[1]}", ' + (f'from its step "{step}"' if step else "without a value")

@@ -7,7 +7,7 @@ from typing import Callable, Iterable
 
 from .expressions import CHAIN, links
 from .names import LISTS, likely, names
-from .repair import Case, Edit, Repair, as_scalar, is_within_flow, next_entry, quoted, without_entry
+from .repair import Case, Edit, Repair, as_scalar, is_within_flow, next_entry, quoted, without_key
 from .repairs_expressions import BRACES
 from .repairs_keys import deleted, in_its_quotes
 from .repairs_kinds import as_list, as_mapping
@@ -27,12 +27,13 @@ GREATEST = (59, 23, 31, 12, 6)
 MAX_SCHEDULE_CHARACTERS = 200
 # Values that are often written instead of another one that isn't similar enough to be found.
 OTHER_VALUES = {"text": "string", "str": "string", "int": "number", "integer": "number", "float": "number", "bool": "boolean",
-                "list": "choice", "array": "string", "readonly": "read", "read-only": "read", "rw": "write", "admin": "write",
+                "list": "choice", "array": "string", "choice": "string", "environment": "string", "readonly": "read",
+                "read-only": "read", "rw": "write", "admin": "write",
                 "all": "write-all", "merged": "closed", "merge": "closed", "updated": "synchronize", "pushed": "synchronize",
                 "commented": "created", "approved": "submitted", "node18": "node20", "node22": "node24", "node14": "node20",
                 "node": "node20", "javascript": "node20", "shell": "bash", "bash.exe": "bash", "batch": "cmd", "python3": "python"}
 # Programs that run a script, given as a file.
-INTERPRETERS = ("zsh", "fish", "dash", "ksh", "node", "perl", "ruby", "Rscript", "nu", "php", "lua", "tclsh", "python2", "deno", "bun", "elvish")
+INTERPRETERS = ("zsh", "fish", "dash", "ksh", "nu", "elvish", "node", "deno", "bun", "perl", "ruby", "Rscript", "php", "lua", "tclsh")
 WORDS_OF_SCALARS = {"read": "read-all", "write": "write-all", "readonly": "read-all", "all": "write-all"}
 RANGE_WITHOUT_END = re.compile(r"\[((?:\w-\w)+)(?=[^]\w-]|$)")
 
@@ -61,6 +62,12 @@ def other_event(case: Case) -> Iterable[Repair]:
 def near_listed(case: Case) -> Iterable[Repair]:
     """A similar name of the list, or the one that is meant by another word."""
     known, wrong = _listed(case), case.arguments[0]
+    words = re.split(r"[\s,|]+", wrong.strip())
+    here = case.value
+    if case.code == "G2" and len(words) > 1 and here and all(word in known for word in words):
+        text = ", ".join(words)
+        yield case.replace("make it a list", text if isinstance(here.path[-1], int) else f"[{text}]", here.value.span, is_safe=True)
+        return
     found = likely(wrong, known)
     meant = OTHER_VALUES.get(wrong.lower())
     if case.code == "G12" and wrong in INTERPRETERS:
@@ -82,6 +89,8 @@ def _listed(case: Case) -> list[str]:
         return table()["activity types"].get(str(here.path[1]), known)
     if case.code == "G14" and here and here.path[-1:] != ("permissions",):
         return [name for name in ("read", "write", "none") if takes_access(str(here.path[-1]), name)]
+    if case.code == "G19" and here and here.path[:2] == ("on", "workflow_call"):
+        return list(table()["call input types"])
     return ["read-all", "write-all"] if case.code == "G14" else known
 
 
@@ -95,8 +104,12 @@ def access_to_all(case: Case) -> Iterable[Repair]:
 
 def command_line(case: Case) -> Iterable[Repair]:
     """The program's command line, if it isn't one of the shells that GitHub knows by their names."""
-    if case.arguments[0] in INTERPRETERS:
-        yield in_its_quotes(case, case.arguments[0] + " {0}", True)
+    program, _, options = case.arguments[0].partition(" ")
+    name = program.rpartition("/")[2].removesuffix(".exe")
+    if case.arguments[0] in INTERPRETERS or options and "{0}" not in options:
+        yield in_its_quotes(case, case.arguments[0] + " {0}", not options)
+    elif name != program and name in names()["shells"]:
+        yield in_its_quotes(case, name)
 
 
 def pattern(case: Case) -> Iterable[Repair]:
@@ -105,6 +118,15 @@ def pattern(case: Case) -> Iterable[Repair]:
     if here is None:
         return
     text = here.value.value
+    dashes = [line for line in range(here.value.span.start.line, here.value.span.end.line + 1) if re.match(r" *-\S", case.lines[line])]
+    if text.startswith("-") and not here.value.style and dashes and dashes[0] == here.value.span.start.line:
+        yield case.of("add a space after each dash", *(Edit(Span.at(Point(line, case.lines[line].index("-") + 1)), " ") for line in dashes),
+                      is_safe=True)
+        return
+    words = text.replace(",", " ").split()
+    if "," in text and len(words) > 1 and not is_within_flow(case, here.path) and not isinstance(here.path[-1], int):
+        yield case.replace("make it a list", "[" + ", ".join(quoted(word) for word in words) + "]", here.value.span)
+        return
     without_dot = re.sub(r"^(!?)(?:\./)+", r"\1", text)
     plain = re.sub(r"^\^|\$$", "", text)
     closed = RANGE_WITHOUT_END.sub(r"[\1]", plain)
@@ -184,7 +206,8 @@ def another_id(case: Case) -> Iterable[Repair]:
     here = case.key or case.value
     node = here.key if here and case.key and here.key else here.value if here else None
     if node:
-        name = next(name for number in itertools.count(2) if (name := f"{node.value}-{number}") not in case.text)
+        taken = set(re.findall(r"-(\d+)(?!\d)", case.text))
+        name = f"{node.value}-" + next(str(number) for number in itertools.count(2) if str(number) not in taken)
         yield case.replace(f'change to "{name}"', name, node.span)
 
 
@@ -210,10 +233,12 @@ def without_need(case: Case) -> Iterable[Repair]:
     title = f'take "{here.value.value}" out of "needs"'
     job = case.at("jobs", case.job)
     needs = job.get("needs") if job else None
-    if needs and needs.kind == "scalar" or needs and len(needs.items) == 1:
+    if job is None or needs is None:
+        return
+    if needs.kind == "scalar" or len(needs.items) == 1:
         if len(job.entries) > 1:
-            yield case.of(title, without_entry(case, job, job.key("needs")), deletes=True)
-    elif needs:
+            yield case.of(title, without_key(case, job, "needs"), deletes=True)
+    else:
         yield case.of(title, _without_item(case, needs, here.value), deletes=True)
 
 
@@ -235,7 +260,7 @@ def list_of_row(case: Case) -> Iterable[Repair]:
         yield from as_mapping(case, here.value)
     text = case.slice(here.value.span)
     if here.value.kind == "scalar":
-        words = [word for word in re.split(r"\s*,\s*", here.value.value) if word]
+        words = [word.strip() for word in here.value.value.split(",") if word.strip()]
         if len(words) > 1:
             yield case.replace("make it a list", "[" + ", ".join(words) + "]", here.value.span)
         elif not here.value.style.strip("'\""):

@@ -19,12 +19,13 @@ SYSTEM_VARIABLES = {"PATH", "HOME", "USER", "SHELL", "PWD", "IFS", "TEMP", "TMP"
 RUNS_ARGUMENTS = re.compile(r"(?:^|[\s;&|(])(?:eval|ssh|xargs|Invoke-Expression|iex)\s|\s-(?:c|e|-eval|Command)\s", re.I)
 COMMAND = re.compile(r"""(?P<head>(?:echo|printf|Write-Output|Write-Host)\s+(?:-[en]+\s+)?|print\(f?)?(?P<quote>["']?)"""
                      r"""::(?P<command>set-output|save-state|set-env) name=(?P<name>[^:\n]+?)::(?P<value>[^\n]*?)(?P=quote)"""
-                     r"""(?:(?<=['"])\))?(?=\s*(?:$|[;&]|\|\||\n))""", re.M)
+                     r"""(?:(?<=['"])\))?(?=\s{0,9}(?:$|[;&]|\|\||\n))""", re.M)
 ADD_PATH = re.compile(r"""(?P<head>(?:echo|Write-Output|Write-Host)\s+)?(?P<quote>["']?)::add-path::(?P<value>[^\n]*?)(?P=quote)"""
-                      r"""(?=\s*(?:$|[;&]|\|\||\n))""", re.M)
+                      r"""(?=\s{0,9}(?:$|[;&]|\|\||\n))""", re.M)
 FILES = {"set-output": "GITHUB_OUTPUT", "save-state": "GITHUB_STATE", "set-env": "GITHUB_ENV", "add-path": "GITHUB_PATH"}
 # What these commands decode, and files don't.
 ENCODED = re.compile(r"%(?:0A|0D|25)", re.I)
+MAX_SUM_CHARACTERS = 200
 OPERAND = r"[A-Za-z_][\w.-]*|\d+(?:\.\d+)?"
 SUM_OF_NUMBERS = re.compile(rf"({OPERAND})\s*([-+*/%])\s*({OPERAND})")
 NUMBERS_OF_GITHUB = ("run_number", "run_attempt", "run_id", "retention_days")
@@ -39,7 +40,7 @@ class Place(NamedTuple):
     """An expression in a script, the script before it, and the shell."""
 
     script: Found
-    braces: re.Match
+    braces: re.Match[str]
     span: Span
     before: str
     shell: str
@@ -108,8 +109,10 @@ def _uses(case: Case, place: Place, name: str) -> list[Edit]:
     if used is None:
         return []
     span = place.span
-    if used == f"'\"${name}\"'" and place.before.endswith("'") and after.startswith("'") and place.script.value.style != "'":
-        used, span = f'"${name}"', Span.on_line(span.start.line, span.start.column - 1, span.end.column + 1)
+    if used in (f"'\"${name}\"'", f"'$env:{name}'"):
+        if not (place.before.endswith("'") and after.startswith("'")) or place.script.value.style == "'":
+            return [Edit(span, _in_style(used, place))] if place.shell in POSIX else []
+        used, span = used[1:-1], Span.on_line(span.start.line, span.start.column - 1, span.end.column + 1)
     return [Edit(span, _in_style(used, place))]
 
 
@@ -131,11 +134,12 @@ def _in_bash(place: Place, name: str, after: str) -> str | None:
 
 
 def _in_powershell(place: Place, name: str, after: str) -> str | None:
-    """Not in single quotes, where nothing is replaced."""
+    """Not in single quotes, where nothing is replaced, unless all of them is."""
     line = place.before[place.before.rfind("\n") + 1:]
-    in_document = place.before.count("@'\n") > place.before.count("\n'@")
-    if quote_in_line(line) == "'" or in_document:
+    if place.before.count("@'\n") > place.before.count("\n'@"):
         return None
+    if quote_in_line(line) == "'":
+        return f"'$env:{name}'"
     return f"${{env:{name}}}" if re.match(r"[\w:]", after) else f"$env:{name}"
 
 
@@ -173,7 +177,7 @@ def written_to_file(case: Case) -> Iterable[Repair]:
             yield case.replace(title, text, Span.on_line(case.span.start.line, match.start(), match.end()), is_safe)
 
 
-def _is_whole(match: re.Match, line: str) -> bool:
+def _is_whole(match: re.Match[str], line: str) -> bool:
     """Whether a command is all that stands there: it begins a line or has its head, and all brackets and quotes of its value are closed."""
     value = match["value"]
     before = line[:match.start()].rstrip()
@@ -181,7 +185,7 @@ def _is_whole(match: re.Match, line: str) -> bool:
     return begins and value.count("(") == value.count(")") and value.count('"') % 2 == 0 and value.count("'") % 2 == 0
 
 
-def _appended(match: re.Match, command: str, shell: str) -> str | None:
+def _appended(match: re.Match[str], command: str, shell: str) -> str | None:
     file = FILES[command]
     named = f"{match['name']}=" if command != "add-path" else ""
     has_quotes = not match["quote"] and ('"' in match["value"] or "'" in match["value"])
@@ -209,7 +213,7 @@ def computed_by_shell(case: Case) -> Iterable[Repair]:
     if found.quote == "'" or found.is_quoted:
         return
     inner = place.braces[1].strip()
-    sum_of = SUM_OF_NUMBERS.fullmatch(inner)
+    sum_of = SUM_OF_NUMBERS.fullmatch(inner) if len(inner) <= MAX_SUM_CHARACTERS else None
     if sum_of and all(_can_be_number(sum_of[group]) for group in (1, 3)):
         left, right = (one if one[0].isdigit() else f"${{{{ {one} }}}}" for one in (sum_of[1], sum_of[3]))
         yield case.replace("let the shell compute it", f"$(( {left} {sum_of[2]} {right} ))", place.span)

@@ -16,7 +16,8 @@ from .text import Point, Span
 FLOW_ITEM = re.compile(r"[^,\[\]{}]*")
 COLON_WITHOUT_SPACE = re.compile(r"^ *(?:- +)?[A-Za-z_][\w-]*:(?=[^\s/:])")
 DASH_WITHOUT_SPACE = re.compile(r"^( *)-(?=[A-Za-z_][\w-]*:(?: |$))")
-FIRST_WORD = re.compile(r"^ *(?:- +)?([A-Za-z_][\w-]*)(?= |$)")
+FIRST_WORD = re.compile(r"^ *(?:- +)?([A-Za-z_][\w-]*)(?= (?! *=)|$)")
+EQUALS = re.compile(r"^ *(?:- +)?([A-Za-z_][\w-]*) *= *(?=[^=\s])")
 KEY_IN_BRACKETS = re.compile(r"\s*[\w-]+: +")
 IS_PAIR = re.compile(r"[a-z][\w-]*: |[\[{].*[\]}]$|\*[\w-]+$")
 QUOTED_BRACES = re.compile(r'"?\$\{\{([^{}]*)\}\}"?')
@@ -25,7 +26,7 @@ ANCHOR = re.compile(r"(?<!\S)&([^\s,\[\]{}]+)")
 ALIAS = re.compile(r"\*([^\s,\[\]{}]+)")
 ODD_SPACE = re.compile("[\u00a0\u2000-\u200a\u202f\u3000]")
 ODD_START = re.compile("[ \u00a0\u2000-\u200a\u202f\u3000-]*(?:[\\w-]+:)?[ \u00a0\u2000-\u200a\u202f\u3000]*")
-MAX_LINES_ABOVE = 20
+MAX_LINES_ABOVE = 200
 IN_QUOTES = re.compile(r"'[^']*'|\"[^\"]*\"")
 CLOSERS = {"[": "]", "{": "}"}
 
@@ -53,7 +54,8 @@ def _takes_texts(case: Case, span: Span) -> bool:
     shape = shape_at(case.file, place.path, (*place.around, {}))
     text = case.slice(span)
     is_text = shape is not None and not shape["items"] and not shape["free"] and "keys" not in shape and shape["scalars"] == "AnyScalar"
-    return is_text and text[:1] not in ("|", ">") and place.path[-1:] not in (("if",), ("uses",)) and "?" not in text and not IS_PAIR.match(text)
+    has_meaning = text[:1] in ("|", ">", "'", '"') or "?" in text or IS_PAIR.match(text) is not None
+    return is_text and not has_meaning and place.path[-1:] not in (("if",), ("uses",))
 
 
 def as_schedule(case: Case) -> Iterable[Repair]:
@@ -71,13 +73,18 @@ def _quoted_item(case: Case) -> Iterable[Repair]:
     start = max(line.rfind(sign, 0, text_start) for sign in "[{,") + 1
     key = KEY_IN_BRACKETS.match(line, start)
     start = key.end() if key and key.end() <= text_start else start + len(line[start:]) - len(line[start:].lstrip())
-    ends = [FLOW_ITEM.match(line, max(column + 1, start)).end(), *(match.end() for match in re.finditer(r"\}\}", line)),
+    ends = [_end_of_item(line, max(column + 1, start)), *(match.end() for match in re.finditer(r"\}\}", line)),
             line.find(", ", column), line.rfind("]")]
     for end in dict.fromkeys(end for end in ends if end > column):
         text = line[start:end].rstrip()
-        if text and start <= column:
+        if text and start <= column and not _opens_quote(text):
             span = Span.on_line(case.span.start.line, start, start + len(text))
             yield case.replace("put it in quotes", quoted(text), span)
+
+
+def _end_of_item(line: str, start: int) -> int:
+    match = FLOW_ITEM.match(line, start)
+    return match.end() if match else start
 
 
 def as_block(case: Case) -> Iterable[Repair]:
@@ -111,6 +118,24 @@ def as_condition(case: Case) -> Iterable[Repair]:
     made = choice_in(text) if case.line.lstrip(" -").startswith("if:") and "${{" not in text and not text[:1] in ("'", '"') else None
     if here and made:
         yield case.replace(title_of(made), "${{ " + made.text.strip() + " }}", here, is_safe=not made.doubtful)
+
+
+def inner_quotes(case: Case) -> Iterable[Repair]:
+    """A text in quotes that has the same quotes inside, which are doubled or get a backslash. A condition has strings of its own."""
+    span = case.rest_span(case.span.start.line)
+    text = case.slice(span) if span else ""
+    quote, key = text[:1], case.outline.lines[case.span.start.line].elements[-1:]
+    if span and len(text) > 2 and quote in ("'", '"') and text.endswith(quote) and not (key and key[0].name == "if"):
+        inner = text[1:-1].replace("''", "'").replace("'", "''") if quote == "'" else re.sub(r'(?<!\\)"', r'\\"', text[1:-1])
+        yield case.replace("write the quotes inside as a text", quote + inner + quote, span)
+
+
+def list_in_line(case: Case) -> Iterable[Repair]:
+    """A list whose first dash follows its key on the same line."""
+    span = case.rest_span(case.span.start.line)
+    text = case.slice(span) if span else ""
+    if span and text.startswith("- ") and ": " not in text:
+        yield case.replace("make it a list", "[" + ", ".join(text[2:].split(" - ")) + "]", span)
 
 
 def closed_above(case: Case) -> Iterable[Repair]:
@@ -178,9 +203,9 @@ def spaces_for_tabs(case: Case) -> Iterable[Repair]:
         if edits:
             yield case.of("replace tabs by spaces", *edits)
     indent = next((len(line) - len(line.lstrip(" ")) for line in reversed(case.lines[:case.span.start.line]) if line.strip()), 0)
-    head = Span.on_line(case.span.start.line, 0, len(case.line) - len(case.line.lstrip(" \t")))
+    start = Span.on_line(case.span.start.line, 0, len(case.line) - len(case.line.lstrip(" \t")))
     for spaces in (indent, indent + 2):
-        yield case.replace("replace tabs by spaces", " " * spaces, head)
+        yield case.replace("replace tabs by spaces", " " * spaces, start)
 
 
 def script_in_lines(case: Case) -> Iterable[Repair]:
@@ -204,8 +229,8 @@ def script_in_lines(case: Case) -> Iterable[Repair]:
 
 
 def as_expression(case: Case) -> Iterable[Repair]:
-    """A condition that begins in double quotes, as in a shell, or with `!` before its braces, as one expression; or one whose braces lack the
-    dollar."""
+    """A condition that begins in double quotes, as in a shell, or with `!` before its braces, as one expression; or one whose braces lack
+    the dollar."""
     span = case.rest_span(case.span.start.line)
     text = case.slice(span).strip() if span else ""
     if span and text.startswith("{{") and text.endswith("}}"):
@@ -244,10 +269,19 @@ def _is_text(case: Case, number: int, column: int) -> bool:
     return line.indent >= column and not (line.elements and line.elements[0].column == column)
 
 
+def comment(case: Case) -> Iterable[Repair]:
+    """A comment that begins as in other languages."""
+    match = re.match(r" *(//)(?!\S*:)", case.line)
+    if match:
+        yield case.replace('write "#"', "#", Span.on_line(case.span.start.line, match.start(1), match.end(1)))
+
+
 def near_alias(case: Case) -> Iterable[Repair]:
     """An alias of a similar anchor."""
     match = ALIAS.match(case.line, case.span.start.column)
-    for name, is_slip in likely(match[1], dict.fromkeys(ANCHOR.findall(case.text))) if match else ():
+    if match is None:
+        return
+    for name, is_slip in likely(match[1], dict.fromkeys(ANCHOR.findall(case.text))):
         span = Span.on_line(case.span.start.line, match.start(1), match.end(1))
         yield case.replace(f'change to "*{name}"', name, span, is_slip)
 
@@ -268,7 +302,10 @@ def with_space(case: Case) -> Iterable[Repair]:
 
 
 def with_colon(case: Case) -> Iterable[Repair]:
-    """A colon after a word that is alone on its line, or before the value on it."""
+    """A colon after a word that is alone on its line, or before the value on it, also in place of an equals sign."""
+    for place, match in _after_match(case, EQUALS):
+        line = place.start.line
+        yield case.replace(f'write a colon after "{match[1]}"', ": ", Span.on_line(line, match.end(1), match.end()))
     for place, match in _after_match(case, FIRST_WORD):
         yield case.replace(f'add a colon after "{match[1]}"', ":", place)
 
@@ -297,7 +334,9 @@ def single_quotes(case: Case) -> Iterable[Repair]:
 def without_character(case: Case) -> Iterable[Repair]:
     end = Point(case.span.start.line, case.span.start.column + 1)
     edit = Edit(Span(case.span.start, end), "")
-    yield Repair("delete the character", {case.file: (edit,)}, is_last_resort=True, deletes=True)
+    sign = case.slice(edit.span)
+    title = f'delete the "{sign}"' if sign.isprintable() and sign.strip() else "delete the character"
+    yield Repair(title, {case.file: (edit,)}, is_last_resort=True, deletes=True)
 
 
 def without_line(case: Case) -> Iterable[Repair]:
@@ -328,7 +367,7 @@ def quoted_key(case: Case) -> Iterable[Repair]:
 REPAIRS: dict[str, tuple[Callable[[Case], Iterable[Repair]], ...]] = {
     "Y2": (without_character,),
     "Y3": (spaces_for_tabs,),
-    "Y4": (plain_spaces, with_colon, with_space, script_below, moved_line, with_quotes),
+    "Y4": (plain_spaces, comment, list_in_line, with_colon, with_space, script_below, moved_line, with_quotes),
     "Y5": (closed_quote,),
     "Y6": (closed_bracket, with_quotes),
     "Y7": (with_quotes, quoted_key),
@@ -337,8 +376,9 @@ REPAIRS: dict[str, tuple[Callable[[Case], Iterable[Repair]], ...]] = {
     "Y10": (with_quotes, without_line),
     "Y11": (without_line,),
     "Y12": (single_quotes,),
-    "Y13": (plain_spaces, as_condition, as_expression, as_schedule, closed_above, pair_below, script_in_lines, script_below, with_quotes, as_block,
-            with_space, with_colon, brackets_closed_above, moved_line, without_character),
+    "Y13": (plain_spaces, comment, as_condition, as_expression, as_schedule, list_in_line, closed_above, inner_quotes, pair_below,
+            script_in_lines, script_below, with_quotes, as_block, with_space, with_colon, brackets_closed_above, moved_line,
+            without_character),
     "Y16": (text_on_next_line,),
     "Y17": (as_expression, with_colon, with_quotes, quoted_key),
     "Y18": (near_alias, with_quotes),

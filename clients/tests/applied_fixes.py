@@ -297,6 +297,15 @@ def what_a_safe_fix_repairs(program: str) -> None:
 
 
 @CASES.case
+def what_a_fault_hides(program: str) -> None:
+    """A guess that repairs YAML is taken, also beside others; then what it shows is fixed. A safe fix shows nothing new."""
+    text = WRONG.replace("runs-on: ubuntu", "runs-on:ubuntu")
+    with new_folder({FILE: text, CALLED: FILES[CALLED], ACTION: FILES[ACTION]}) as folder:
+        status, _, _ = report(program, folder, "--fix", "--guesses", "--form", "jsonl")
+        assert contents(folder)[FILE].decode() == RIGHT and status == 0, contents(folder)
+
+
+@CASES.case
 def fixes_that_never_end(program: str) -> None:
     """Fixes that leave as many faults as before are given up, and the text is what it was."""
     text = "on: push\njobs: {}\nk0: 1\n"

@@ -16,6 +16,8 @@ from concurrent.futures import ThreadPoolExecutor
 from pathlib import Path
 from typing import NamedTuple
 
+from wrong_fixes import WRONG_FIXES
+
 CLIENTS = Path(__file__).resolve().parent.parent
 SECONDS = 600
 SIDE_BY_SIDE = 4
@@ -32,6 +34,7 @@ class WrongVersion(NamedTuple):
 
 
 WRONG_VERSIONS = {name: WrongVersion(*row) for name, *row in (
+    *WRONG_FIXES,
     ("only_open_files_are_shown", "repository.py", "promises.py a_renamed_file",
      "for path in sorted(paths):", "for path in sorted(paths & self.documents.keys()):"),
     ("columns_are_characters", "positions.py", "promises.py ranges",
@@ -80,8 +83,6 @@ WRONG_VERSIONS = {name: WrongVersion(*row) for name, *row in (
     ("everything_goes_on_after_shutdown", "server.py", "protocol.py before_and_after",
      "if self._is_shut_down or self._is_initialized and", "if self._is_initialized and"),
     ("a_folder_that_is_gone_is_still_shown", "repository.py", "promises.py several_folders", "editor.publish(uri, None, [])", "pass"),
-    ("fixes_are_not_tried", "fixes.py", "fixes.py random_slips", "if trial.mends(repair, fault):", "if True:"),
-    ("fixes_may_cause_faults", "fixes.py", "fixes.py random_slips", " and not after - self.before - self.earlier", ""),
     ("a_trial_knows_no_callers", "fixes.py", "fixes.py a_trial", "self._include([file, *callers])", "self._include([file])"),
     ("a_folder_has_a_linter_for_ever", "workspace.py", "life.py a_folder_is_let_go",
      "if root not in kept and not repository.documents:", "if False:"),
@@ -224,10 +225,12 @@ WRONG_VERSIONS = {name: WrongVersion(*row) for name, *row in (
     ("files_that_are_not_linted_are_fixed", "applying.py", "applied_fixes.py what_is_left_alone", "fault.path in paths and not", "not"),
     ("fixes_overlap", "fixing.py", "applied_fixes.py fixes_that_touch", "if not any(_touch(one, other)", "if True or any(_touch(one, other)"),
     ("fixes_may_cause_other_faults", "fixing.py", "applied_fixes.py fixes_that_do_not_go_together",
-     "_count(after) < _count(before) and not _messages(after) - _messages(before)", "_count(after) < _count(before)"),
+     "and not _messages(after) - _messages(before))", ")"),
     ("what_fails_together_stays", "fixing.py", "applied_fixes.py fixes_that_do_not_go_together",
      "for path, data in texts.items():\n                self._folder.edit(path, data)", "pass"),
-    ("fixes_go_round", "fixing.py", "applied_fixes.py fixes_that_never_end", "_count(after) < _count(before) and not _messages(after) - _messages(before)", "True"),
+    ("fixes_go_round", "fixing.py", "applied_fixes.py fixes_that_never_end", "if may_uncover and _count_hiding(after) < _count_hiding(before):", "if may_uncover:"),
+    ("hidden_faults_forbid_a_fix", "fixing.py", "applied_fixes.py what_a_fault_hides",
+     "if may_uncover and _count_hiding(after) < _count_hiding(before):", "if False:"),
     ("guesses_come_with_safe_fixes", "fixing.py", "applied_fixes.py what_a_safe_fix_repairs",
      "(repair.is_safe or self._takes_guesses)", "(repair.is_safe or self._choice.with_guesses)"),
     ("guesses_are_taken_unasked", "fixing.py", "applied_fixes.py guesses", "(repair.is_safe or self._takes_guesses)", "True"),
