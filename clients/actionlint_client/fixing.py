@@ -4,7 +4,7 @@ from __future__ import annotations
 import os
 from collections import Counter
 from dataclasses import dataclass
-from typing import Callable, Iterable
+from typing import Callable, Iterable, Iterator
 
 from .actions_on_disk import actions_below
 from .entries import entry_of
@@ -18,6 +18,9 @@ from .report import Fault
 from .text import LINE_BREAK, Places
 
 MAX_ROUNDS = 100
+# Fixes are tried for so many faults, and for so many bytes of the files that have them, in all rounds.
+MAX_TRIED = 1_000
+MAX_TRIED_BYTES = 30_000_000
 SECONDS_OF_A_FILE = 60.0
 BEHIND_A_LINK = "a symbolic link leads to it"
 
@@ -39,17 +42,20 @@ class Choice:
 
 
 class Fixing:
-    """The texts are changed in memory only. `left` are the files that aren't changed, with the reason."""
+    """The texts are changed in memory only. `left` are the files that aren't changed, with the reason. Too many faults aren't all tried; then
+    `is_cut`, and another run goes on."""
 
     def __init__(self, program: Program, root: bytes, choice: Choice, say: Callable[[str], None]):
         self.left: dict[str, str] = {}
+        self.is_cut = False
         self._program, self._root, self._choice = program, root, choice
         self._folder = Folder(root, program, say)
         self._project = Project(self._folder.read, self._folder.paths, lambda: actions_below(root))
         self._before: dict[str, bytes] = {}
-        # What was tried of each file: its bytes and its faults. The faults whose fixes together cause others are given up.
-        self._tried: dict[str, tuple[bytes | None, FileFaults]] = {}
+        # The faults of which no fix was to be taken, by file, message and line, and those whose fixes didn't leave the folder better.
+        self._hopeless: set[tuple[str, str, str]] = set()
         self._given_up: set[Fault] = set()
+        self._tried, self._tried_bytes = 0, 0
         self._takes_guesses = False
 
     def changes(self, paths: Iterable[str]) -> dict[str, Change]:
@@ -63,7 +69,7 @@ class Fixing:
             if self._choice.with_guesses:
                 # What a safe fix repairs is no longer there to be guessed.
                 self._takes_guesses = True
-                self._tried.clear()
+                self._hopeless.clear()
                 self._go_on()
         finally:
             self._folder.close()
@@ -86,7 +92,6 @@ class Fixing:
                 continue
             for path, data in texts.items():
                 self._folder.edit(path, data)
-            self._tried.clear()
             self._given_up |= taken.keys() if len(taken) == 1 else set()
             is_cautious = True
             faults = self._faults()
@@ -101,13 +106,7 @@ class Fixing:
         found: dict[Fault, Repair] = {}
         taken: dict[str, list[Edit]] = {}
         for path, of_file in sorted(faults.items()):
-            state = self._folder.read(path), of_file
-            if self._tried.get(path) == state:
-                continue
-            chosen = self._first_fixes([fault for fault in of_file.faults if self._choice.takes(fault) and fault not in self._given_up])
-            if not chosen:
-                self._tried[path] = state
-            for fault, repair in chosen.items():
+            for fault, repair in self._first_fixes([fault for fault in of_file.faults if self._choice.takes(fault)]).items():
                 if not any(_touch(one, other) for file, edits in repair.edits.items() for one in edits for other in taken.get(file, ())):
                     found[fault] = repair
                     for file, edits in repair.edits.items():
@@ -117,12 +116,29 @@ class Fixing:
     def _first_fixes(self, faults: list[Fault]) -> dict[Fault, Repair]:
         """The first fix of each fault that may be taken. Files aren't made, nor written through links."""
         found: dict[Fault, Repair] = {}
-        for start in range(0, len(faults), MAX_FAULTS):
-            some = faults[start:start + MAX_FAULTS]
+        for some in self._to_try(faults):
             for fault, repair in fixes(self._program.words, self._program.timeout, self._project, some, seconds=SECONDS_OF_A_FILE):
                 if (repair.is_safe or self._takes_guesses) and not repair.new_files and all(map(self._can_change, repair.edits)):
                     found.setdefault(fault, repair)
+            self._hopeless |= {self._key(fault) for fault in some if fault not in found}
         return found
+
+    def _to_try(self, faults: list[Fault]) -> Iterator[list[Fault]]:
+        """The faults that may have a fix to be taken, as many at a time as are tried together, up to a limit."""
+        waiting = [fault for fault in faults if fault not in self._given_up]
+        while waiting := [fault for fault in waiting if self._key(fault) not in self._hopeless]:
+            some, waiting = waiting[:MAX_FAULTS], waiting[MAX_FAULTS:]
+            size = len(self._folder.read(some[0].path) or b"")
+            if self._tried + len(some) > MAX_TRIED or self._tried_bytes + size * len(some) > MAX_TRIED_BYTES:
+                self.is_cut = True
+                return
+            self._tried += len(some)
+            self._tried_bytes += size * len(some)
+            yield some
+
+    def _key(self, fault: Fault) -> tuple[str, str, str]:
+        lines = self._project.lines(fault.path)
+        return fault.path, fault.message, lines[fault.line - 1] if fault.line <= len(lines) else ""
 
     def _can_change(self, path: str) -> bool:
         if is_behind_a_link(self._root, path):
