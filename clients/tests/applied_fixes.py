@@ -316,6 +316,16 @@ def fixes_that_never_end(program: str) -> None:
 
 
 @CASES.case
+def a_limit(program: str) -> None:
+    """Beyond it no fault is tried."""
+    with new_folder({FILE: "on: push\njobs: {}\nkey: 1\n"}) as folder:
+        repairs = {'unexpected key "key"': [replacing(2, 0, 6, "#")]}
+        for most, expected in ((1, {FILE: "on: push\njobs: {}\n#\n"}), (0, {})):
+            with mock.patch.object(fixing, "MAX_TRIED", most):
+                assert changes(program, folder, repairs) == expected, most
+
+
+@CASES.case
 def many_faults_of_a_file(program: str) -> None:
     """More than are tried at once, and the last ones have fixes too."""
     text = "on: push\njobs: {}\n" + "".join(f"zzz{number}: 1\n" for number in range(50)) + "env: {A: '${{ github.reff }}'}\n"
