@@ -320,7 +320,8 @@ def a_limit(program: str) -> None:
     """Beyond it no fault is tried."""
     with new_folder({FILE: "on: push\njobs: {}\nkey: 1\n"}) as folder:
         repairs = {'unexpected key "key"': [replacing(2, 0, 6, "#")]}
-        for most, expected in ((1, {FILE: "on: push\njobs: {}\n#\n"}), (0, {})):
+        # (without a safe fix each fault is tried twice)
+        for most, expected in ((2, {FILE: "on: push\njobs: {}\n#\n"}), (1, {})):
             with mock.patch.object(fixing, "MAX_TRIED", most):
                 assert changes(program, folder, repairs) == expected, most
 
