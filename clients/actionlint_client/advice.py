@@ -17,8 +17,10 @@ if TYPE_CHECKING:
     from .repair import Repair
     from .report import Fault
 
-# Of these many faults, and of the first of each file that `fixes` takes, fixes are tried.
+# Fixes are tried for so many faults of a report, and for the first ones of a file that `fixes` takes, fewer if it has more bytes than a
+# twentieth of these.
 MAX_TRIED = 200
+MAX_TRIED_BYTES = 2_000_000
 SECONDS_OF_A_FILE = 60.0
 SECONDS_OF_AN_ANSWER = 20.0
 # The names before a property, the first of them a context. Only so much before the fault is looked at.
@@ -50,7 +52,8 @@ class FirstFixes:
 
         is_read = False
         for path, of_file in groupby(problems, key=lambda problem: problem.fault.path):
-            first = list(islice(of_file, min(MAX_FAULTS, self._left)))
+            size = len(self._files.read(path) or b"")
+            first = list(islice(of_file, min(MAX_FAULTS, self._left, MAX_TRIED_BYTES // max(size, 1))))
             self._left -= len(first)
             if first and not is_read:
                 is_read = True

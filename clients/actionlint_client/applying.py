@@ -53,6 +53,8 @@ def find_changes(request: Request, say: Callable[[str], None]) -> Applied:
         fixing = Fixing(Program([request.program], SECONDS_OF_AN_ANSWER), os.fsencode(request.root or "."),
                         Choice(takes, request.with_guesses), say)
         found.changes = fixing.changes(sorted(paths))
+        if fixing.is_cut:
+            say("not all faults were tried: another run goes on")
         for path, why in fixing.left.items():
             say(f"{path}: not fixed, since {why}")
     return found

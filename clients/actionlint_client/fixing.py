@@ -4,11 +4,12 @@ from __future__ import annotations
 import os
 from collections import Counter
 from dataclasses import dataclass
-from typing import Callable, Iterable
+from typing import Callable, Iterable, Iterator
 
 from .actions_on_disk import actions_below
+from .entries import entry_of
 from .faults import FileFaults
-from .fixes import MAX_FAULTS, fixes
+from .fixes import MAX_FAULTS, UNREADABLE, fixes
 from .folder import Folder, Program
 from .positions import BYTE_ORDER_MARK
 from .project import Project
@@ -17,6 +18,9 @@ from .report import Fault
 from .text import LINE_BREAK, Places
 
 MAX_ROUNDS = 100
+# Fixes are tried for so many faults, and for so many bytes of the files that have them, in all rounds.
+MAX_TRIED = 1_000
+MAX_TRIED_BYTES = 30_000_000
 SECONDS_OF_A_FILE = 60.0
 BEHIND_A_LINK = "a symbolic link leads to it"
 
@@ -38,17 +42,20 @@ class Choice:
 
 
 class Fixing:
-    """The texts are changed in memory only. `left` are the files that aren't changed, with the reason."""
+    """The texts are changed in memory only. `left` are the files that aren't changed, with the reason. Too many faults aren't all tried; then
+    `is_cut`, and another run goes on."""
 
     def __init__(self, program: Program, root: bytes, choice: Choice, say: Callable[[str], None]):
         self.left: dict[str, str] = {}
+        self.is_cut = False
         self._program, self._root, self._choice = program, root, choice
         self._folder = Folder(root, program, say)
         self._project = Project(self._folder.read, self._folder.paths, lambda: actions_below(root))
         self._before: dict[str, bytes] = {}
-        # What was tried of each file: its bytes and its faults. The faults whose fixes together cause others are given up.
-        self._tried: dict[str, tuple[bytes | None, FileFaults]] = {}
+        # The faults of which no fix was to be taken, by file, message and line, and those whose fixes didn't leave the folder better.
+        self._hopeless: set[tuple[str, str, str]] = set()
         self._given_up: set[Fault] = set()
+        self._tried, self._tried_bytes = 0, 0
         self._takes_guesses = False
 
     def changes(self, paths: Iterable[str]) -> dict[str, Change]:
@@ -62,7 +69,7 @@ class Fixing:
             if self._choice.with_guesses:
                 # What a safe fix repairs is no longer there to be guessed.
                 self._takes_guesses = True
-                self._tried.clear()
+                self._hopeless.clear()
                 self._go_on()
         finally:
             self._folder.close()
@@ -70,7 +77,7 @@ class Fixing:
         return {path: Change(before, after[path]) for path, before in sorted(self._before.items()) if after[path] != before}
 
     def _go_on(self) -> None:
-        """Applies fixes until there are none that leave fewer faults and no other ones. One that doesn't do so alone is given up."""
+        """Applies fixes until there are none that leave the folder better. One that doesn't do so alone is given up."""
         faults = self._faults()
         is_cautious = False
         for _ in range(MAX_ROUNDS):
@@ -80,12 +87,11 @@ class Fixing:
             taken = dict(list(found.items())[:1]) if is_cautious else found
             texts = self._apply(taken.values())
             after = self._faults()
-            if after is not None and _is_better(after, faults):
+            if after is not None and _is_better(after, faults, len(taken) == 1):
                 faults, is_cautious = after, False
                 continue
             for path, data in texts.items():
                 self._folder.edit(path, data)
-            self._tried.clear()
             self._given_up |= taken.keys() if len(taken) == 1 else set()
             is_cautious = True
             faults = self._faults()
@@ -100,13 +106,7 @@ class Fixing:
         found: dict[Fault, Repair] = {}
         taken: dict[str, list[Edit]] = {}
         for path, of_file in sorted(faults.items()):
-            state = self._folder.read(path), of_file
-            if self._tried.get(path) == state:
-                continue
-            chosen = self._first_fixes([fault for fault in of_file.faults if self._choice.takes(fault) and fault not in self._given_up])
-            if not chosen:
-                self._tried[path] = state
-            for fault, repair in chosen.items():
+            for fault, repair in self._first_fixes([fault for fault in of_file.faults if self._choice.takes(fault)]).items():
                 if not any(_touch(one, other) for file, edits in repair.edits.items() for one in edits for other in taken.get(file, ())):
                     found[fault] = repair
                     for file, edits in repair.edits.items():
@@ -116,12 +116,29 @@ class Fixing:
     def _first_fixes(self, faults: list[Fault]) -> dict[Fault, Repair]:
         """The first fix of each fault that may be taken. Files aren't made, nor written through links."""
         found: dict[Fault, Repair] = {}
-        for start in range(0, len(faults), MAX_FAULTS):
-            some = faults[start:start + MAX_FAULTS]
+        for some in self._to_try(faults):
             for fault, repair in fixes(self._program.words, self._program.timeout, self._project, some, seconds=SECONDS_OF_A_FILE):
                 if (repair.is_safe or self._takes_guesses) and not repair.new_files and all(map(self._can_change, repair.edits)):
                     found.setdefault(fault, repair)
+            self._hopeless |= {self._key(fault) for fault in some if fault not in found}
         return found
+
+    def _to_try(self, faults: list[Fault]) -> Iterator[list[Fault]]:
+        """The faults that may have a fix to be taken, as many at a time as are tried together, up to a limit."""
+        waiting = [fault for fault in faults if fault not in self._given_up]
+        while waiting := [fault for fault in waiting if self._key(fault) not in self._hopeless]:
+            some, waiting = waiting[:MAX_FAULTS], waiting[MAX_FAULTS:]
+            size = len(self._folder.read(some[0].path) or b"")
+            if self._tried + len(some) > MAX_TRIED or self._tried_bytes + size * len(some) > MAX_TRIED_BYTES:
+                self.is_cut = True
+                return
+            self._tried += len(some)
+            self._tried_bytes += size * len(some)
+            yield some
+
+    def _key(self, fault: Fault) -> tuple[str, str, str]:
+        lines = self._project.lines(fault.path)
+        return fault.path, fault.message, lines[fault.line - 1] if fault.line <= len(lines) else ""
 
     def _can_change(self, path: str) -> bool:
         if is_behind_a_link(self._root, path):
@@ -165,9 +182,19 @@ def _touch(one: Edit, other: Edit) -> bool:
     return one.span.start <= other.span.end and other.span.start <= one.span.end
 
 
-def _is_better(after: dict[str, FileFaults], before: dict[str, FileFaults]) -> bool:
-    """Whether there are fewer faults, and none that wasn't there. Places aren't compared, since they move."""
-    return _count(after) < _count(before) and not _messages(after) - _messages(before)
+def _is_better(after: dict[str, FileFaults], before: dict[str, FileFaults], may_uncover: bool) -> bool:
+    """Whether there are fewer faults, and none that wasn't there. Places aren't compared, since they move. A fix that was tried alone may
+    also leave fewer of those faults that hide others, whatever they have hidden."""
+    if may_uncover and _count_hiding(after) < _count_hiding(before):
+        return True
+    return (_count_hiding(after) <= _count_hiding(before) and _count(after) < _count(before)
+            and not _messages(after) - _messages(before))
+
+
+def _count_hiding(faults: dict[str, FileFaults]) -> int:
+    """How many faults hide others: what isn't YAML, and expressions that can't be read."""
+    entries = (entry_of(fault.message) for of_file in faults.values() for fault in of_file.faults)
+    return sum(entry is not None and (entry.code.startswith("Y") or entry.code in UNREADABLE) for entry in entries)
 
 
 def _count(faults: dict[str, FileFaults]) -> int:

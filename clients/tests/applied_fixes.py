@@ -297,6 +297,15 @@ def what_a_safe_fix_repairs(program: str) -> None:
 
 
 @CASES.case
+def what_a_fault_hides(program: str) -> None:
+    """A guess that repairs YAML is taken, also beside others; then what it shows is fixed. A safe fix shows nothing new."""
+    text = WRONG.replace("runs-on: ubuntu", "runs-on:ubuntu")
+    with new_folder({FILE: text, CALLED: FILES[CALLED], ACTION: FILES[ACTION]}) as folder:
+        status, _, _ = report(program, folder, "--fix", "--guesses", "--form", "jsonl")
+        assert contents(folder)[FILE].decode() == RIGHT and status == 0, contents(folder)
+
+
+@CASES.case
 def fixes_that_never_end(program: str) -> None:
     """Fixes that leave as many faults as before are given up, and the text is what it was."""
     text = "on: push\njobs: {}\nk0: 1\n"
@@ -304,6 +313,17 @@ def fixes_that_never_end(program: str) -> None:
         # (of 100 rounds, the last one wouldn't lead back to the first text)
         to = {f'unexpected key "k{number}"': [replacing(2, 0, 2, f"k{(number + 1) % 7}")] for number in range(7)}
         assert changes(program, folder, to) == {}
+
+
+@CASES.case
+def a_limit(program: str) -> None:
+    """Beyond it no fault is tried."""
+    with new_folder({FILE: "on: push\njobs: {}\nkey: 1\n"}) as folder:
+        repairs = {'unexpected key "key"': [replacing(2, 0, 6, "#")]}
+        # (without a safe fix each fault is tried twice)
+        for most, expected in ((2, {FILE: "on: push\njobs: {}\n#\n"}), (1, {})):
+            with mock.patch.object(fixing, "MAX_TRIED", most):
+                assert changes(program, folder, repairs) == expected, most
 
 
 @CASES.case
