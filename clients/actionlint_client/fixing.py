@@ -42,8 +42,8 @@ class Choice:
 
 
 class Fixing:
-    """The texts are changed in memory only. `left` are the files that aren't changed, with the reason. Too many faults aren't all tried; then
-    `is_cut`, and another run goes on."""
+    """The texts are changed in memory only. `left` are the files that aren't changed, with the reason. Too many faults aren't all tried;
+    then `is_cut`, and another run goes on."""
 
     def __init__(self, program: Program, root: bytes, choice: Choice, say: Callable[[str], None]):
         self.left: dict[str, str] = {}

@@ -39,8 +39,8 @@ def report_output(file: str | None) -> Iterator[BinaryIO]:
 
 @contextmanager
 def replaced_file(folder: int, name: str, like: os.stat_result | None = None) -> Iterator[BinaryIO]:
-    """A new file in a folder that gets the name at the end, if the block ends without an exception. It has the mode of another file, and its
-    owner if possible."""
+    """A new file in a folder that gets the name at the end, if the block ends without an exception. It has the mode of another file, and
+    its owner if possible."""
     beside = f".actionlint-report.{secrets.token_hex(8)}"
     handle = os.open(beside, NEW_FILE, 0o666, dir_fd=folder)
     try:

@@ -16,8 +16,8 @@ ERROR, WARNING = "error", "warning"
 @dataclass(frozen=True)
 class Problem:
     """A fault of the linter, or a note of another program, which has no entry and a `link` of its own. The snippet is the source line with
-    the fault's characters marked below it, or nothing. The level is one of SARIF's: error, warning or note. If fixes were tried, `fix` is the
-    first one that would be offered."""
+    the fault's characters marked below it, or nothing. The level is one of SARIF's: error, warning or note. If fixes were tried, `fix` is
+    the first one that would be offered."""
 
     fault: Fault
     code: str

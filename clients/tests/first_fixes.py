@@ -33,7 +33,8 @@ OF_ANOTHER_PLACE = {
     STEPS + "      - id: states\n        run: make\n      - run: echo ${{ steps.state.outcome }}\n": ("states", "status"),
     STEPS + "      - run: echo ${{ steps.late }}\n": (None, "state"),
     ON + HEAD + "    strategy: {matrix: {title: [a]}}\n    steps:\n      - run: echo ${{ matrix.name_x }}\n": (None, "name"),
-    ON + HEAD + "    strategy: {matrix: {target: [{os: a}]}}\n    steps:\n      - run: echo ${{ matrix.target.toolchain }}\n": (None, "tool_cache"),
+    ON + HEAD + "    strategy: {matrix: {target: [{os: a}]}}\n    steps:\n      - run: echo ${{ matrix.target.toolchain }}\n":
+        (None, "tool_cache"),
     ON + HEAD + "    strategy: {matrix: {version: [1]}}\n    steps:\n      - run: echo ${{ matrix.versoin }}\n": ("version", "name"),
 }
 # Faults of many kinds, with and without fixes.
@@ -41,14 +42,16 @@ TEXTS = {
     WORKFLOWS + "a.yml": STEPS + "      - run: echo ${{ github.reff }} ${{ matrix.os }} ${{ steps.x.outputs.y }}\n        shel: bash\n",
     WORKFLOWS + "b.yml": "on: [pussh, {x: y}]\npermissions: {content: read}\njobs:\n  a b: {runs_on: x, steps: [], needs: c}\n",
     WORKFLOWS + "c.yml": "on: push\njobs:\n  a:\n    runs-on:x\n    steps: []\n",
-    WORKFLOWS + "d.yml": STEPS + "      - uses: ./act\n        with: {whom: x}\n      - uses: actions/checkout\n      - {run: 'echo ::set-output name=a::b'}\n",
+    WORKFLOWS + "d.yml": STEPS + "      - uses: ./act\n        with: {whom: x}\n      - uses: actions/checkout\n"
+    "      - {run: 'echo ::set-output name=a::b'}\n",
     WORKFLOWS + "e.yml": ON + HEAD + "    if: github.ref = 'a' && always\n    steps: [{name: x}]\n    zzzz: 1\n",
     "act/action.yml": "name: A\ndescription: d\ninputs: {who: {required: true}}\nruns: {using: node2, main: m.js}\n",
 }
 
 
 def report(program: str, folder: str, form: str, *words: str) -> str:
-    done = subprocess.run([sys.executable, REPORT, "--program", program, "--form", form, *words], cwd=folder, stdout=subprocess.PIPE, check=False)
+    done = subprocess.run([sys.executable, REPORT, "--program", program, "--form", form, *words], cwd=folder,
+                          stdout=subprocess.PIPE, check=False)
     assert done.returncode in (0, 1), done
     return done.stdout.decode()
 
@@ -82,7 +85,8 @@ def as_in_the_editor(program: str) -> None:
         assert editor.quit() == 0
         found = {(one["path"], one["line"], one["column"], f"{one['message']} [{one['kind']}]"): (one["fix"], one["fix_is_safe"])
                  for one in faults(program, folder)}
-        assert found == expected, [(key, found.get(key), expected.get(key)) for key in {*found, *expected} if found.get(key) != expected.get(key)]
+        assert found == expected, [(key, found.get(key), expected.get(key)) for key in {*found, *expected}
+                                   if found.get(key) != expected.get(key)]
         titles = [title for title, _ in found.values()]
         assert len(found) > 15 and 3 <= titles.count(None) < len(found) - 8, titles
 
@@ -165,7 +169,8 @@ def a_new_file(program: str) -> None:
 @CASES.case
 def a_repair_that_fails(program: str) -> None:
     """The faults are reported without fixes."""
-    with tempfile.TemporaryDirectory(prefix="actionlint-test-") as folder, mock.patch.object(fixes, "fixes", side_effect=AssertionError("x")):
+    fails = mock.patch.object(fixes, "fixes", side_effect=AssertionError("x"))
+    with tempfile.TemporaryDirectory(prefix="actionlint-test-") as folder, fails:
         write(folder, {FILE: FILES[FILE]})
         problem = problem_of(Fault(FILE, 6, 30, 'property "reff" is not defined', "expression", 4))
         assert list(FirstFixes(program, folder, []).add_to([problem])) == [problem]
