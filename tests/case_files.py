@@ -126,9 +126,12 @@ def read_file(file: pathlib.Path) -> dict[str, Case]:
 
 def files_in(path: pathlib.Path) -> dict[str, pathlib.Path]:
     """The files of cases at a path: the file itself, with no prefix for its cases' names, or those below a folder, each with the path from
-    there as prefix."""
+    there as prefix. There are no other files in the folder."""
     if path.is_file():
         return {"": path}
+    other = next((it for it in path.rglob("*") if it.is_file() and it.suffix != SUFFIX), None)
+    if other:
+        raise WrongCases(f"{other} isn't a file of cases")
     below = [(it.relative_to(path).with_suffix("").as_posix(), it) for it in sorted(path.rglob("*" + SUFFIX))]
     return {f"{name}/": file for name, file in below}
 
