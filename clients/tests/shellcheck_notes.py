@@ -71,7 +71,7 @@ ABOUT_EXPRESSIONS = (
     "echo ${{ a }}", "echo '${{ a }}'", 'printf "${{ a }}"', "rm -rf ${{ a }}/b", "source ${{ a }}", "exit ${{ a }}", "while ${{ a }}; do :; done",
     "if [ ${{ a }} -gt ${{ b }} ]; then :; fi", 'echo "a "${{ a }}" b"', "cat <<< ${{ a }}", "for ${{ a }} in b c; do :; done")
 ABOUT_OTHERS = {"[ a = main ]": ["SC2050"], "[ a -eq 1 ]": ["SC2170", "SC2050"], "[ -n a ]": ["SC2157"], "for i in a; do echo \"$i\"; done": ["SC2043"],
-                "case a in b) echo c ;; esac": ["SC2194", "SC2195"]}
+                "case a in b) echo c ;; esac": ["SC2194"]}
 # In place of shellcheck: ends itself at some scripts, and at others leaves a process that doesn't end and keeps its output open.
 WRAPPER = """#!/bin/sh
 if grep -q 'kill it' words; then kill -9 $$; fi
