@@ -1,9 +1,11 @@
 """Faults as diagnostics of the protocol."""
 from __future__ import annotations
 
+from typing import Iterable
+
 from .faults import FileFaults
 from .positions import Lines
-from .problems import problem_of
+from .problems import NOTE, Problem, problem_of
 from .report import Fault
 
 SOURCE = "actionlint"
@@ -17,8 +19,9 @@ class Diagnostics:
         """`docs` is the address of the pages of faults, for links."""
         self._docs = docs
 
-    def of_file(self, lines: Lines, found: FileFaults, earlier: FileFaults, refused: str | None) -> list[dict]:
-        """The faults of a file, those of its last valid YAML, how many more there are, and why it isn't linted."""
+    def of_file(self, lines: Lines, found: FileFaults, earlier: FileFaults, refused: str | None,
+                notes: Iterable[Problem] = ()) -> list[dict]:
+        """The faults of a file, those of its last valid YAML, how many more there are, why it isn't linted, and shellcheck's notes."""
         told = [self.of_fault(lines, fault) for fault in found.faults] + [self.of_earlier_fault(lines, fault) for fault in earlier.faults]
         if found.more:
             told.append(_at_start(f"{found.more} more faults in this file", INFORMATION))
@@ -26,7 +29,7 @@ class Diagnostics:
             told.append(_at_start(f"{earlier.more} more faults in this file {OF_EARLIER}", INFORMATION))
         if refused:
             told.append(_at_start(refused, WARNING))
-        return told
+        return told + [of_note(lines, note) for note in notes]
 
     def of_fault(self, lines: Lines, fault: Fault) -> dict:
         problem = problem_of(fault)
@@ -39,6 +42,13 @@ class Diagnostics:
     def of_earlier_fault(self, lines: Lines, fault: Fault) -> dict:
         diagnostic = self.of_fault(lines, fault)
         return {**diagnostic, "message": f"{diagnostic['message']} {OF_EARLIER}", "data": {"kind": fault.kind, "earlier": True}}
+
+
+def of_note(lines: Lines, note: Problem) -> dict:
+    """A note of shellcheck, or why it has none on a script."""
+    told = {"range": lines.range_of(note.fault), "severity": INFORMATION if note.level == NOTE else WARNING, "source": note.fault.kind,
+            "message": note.fault.message, "data": {"kind": note.fault.kind}}
+    return {**told, "code": note.code, "codeDescription": {"href": note.link}} if note.code else told
 
 
 def _at_start(message: str, severity: int) -> dict:

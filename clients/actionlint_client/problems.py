@@ -9,7 +9,7 @@ from .names import near_name
 from .report import Fault
 from .wanted import wanted_under
 
-ERROR, WARNING = "error", "warning"
+ERROR, WARNING, NOTE = "error", "warning", "note"
 
 
 @dataclass(frozen=True)

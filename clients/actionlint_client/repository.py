@@ -12,7 +12,9 @@ from .faults import NO_FAULTS, FileFaults
 from .folder import Folder, Result
 from .positions import Lines
 from .project import Project
+from .problems import Problem
 from .report import Fault
+from .script_checks import ScriptChecks
 from .uris import uri_of
 
 NOTHING = Result({}, {}, set())
@@ -76,6 +78,7 @@ class Repository:
     root: bytes
     folder: Folder
     shows_earlier: bool
+    checks: ScriptChecks
     result: Result = NOTHING
     documents: dict[str, Document] = field(default_factory=dict)
     _touched: set[str] = field(default_factory=set)
@@ -104,6 +107,12 @@ class Repository:
         """Sets the bytes of a file's buffer, or None if it is no longer open."""
         self._touched.add(path)
         self.folder.edit(path, data)
+        if data is None:
+            self.checks.forget((self.root, path))
+
+    def show_again(self, path: str) -> None:
+        """Shows a file in the next `refresh`, since notes on it became known."""
+        self._touched.add(path)
 
     def lines(self, path: str) -> Lines:
         document = self.documents.get(path)
@@ -120,6 +129,8 @@ class Repository:
     def close(self, editor: Editor) -> None:
         """Stops the linter, and removes what is shown."""
         self.folder.close()
+        for path in self.documents:
+            self.checks.forget((self.root, path))
         for path in self._shown:
             for uri in self._versions(path):
                 editor.publish(uri, None, [])
@@ -137,10 +148,11 @@ class Repository:
             document.note()
             earlier = document.earlier()
         is_to_show = found is not NO_FAULTS or refused is not None or document is not None
-        state = (versions, found, earlier, refused, self.folder.data_of(path))
+        notes = self._notes(path, found) if document else ()
+        state = (versions, found, earlier, refused, notes, self.folder.data_of(path))
         if self._shown.get(path) == state or not (is_to_show or path in self._shown):
             return
-        told = diagnostics.of_file(self.lines(path), found, earlier, refused)
+        told = diagnostics.of_file(self.lines(path), found, earlier, refused, notes)
         for uri, version in versions.items():
             editor.publish(uri, version, told)
         if refused and refused not in self._told:
@@ -150,6 +162,13 @@ class Repository:
             self._shown[path] = state
         else:
             del self._shown[path]
+
+
+    def _notes(self, path: str, found: FileFaults) -> tuple[Problem, ...]:
+        """The notes of shellcheck on an open file, as far as they are known, none while no linter runs or the file isn't valid YAML."""
+        if self.result is NOTHING or path in self.result.refused or is_no_yaml(found):
+            return ()
+        return self.checks.notes((self.root, path), self.folder.data_of(path))
 
 
 def _key(position: dict) -> tuple[int, int]:

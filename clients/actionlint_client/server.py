@@ -21,9 +21,10 @@ from .diagnostics import Diagnostics
 from .editor import Editor
 from .folder import Folder, Program
 from .hover import Hover
-from .messages import Messages
+from .messages import Messages, Wake
 from .navigation import Navigation
 from .repository import Repository
+from .script_checks import ScriptChecks
 from .symbols import Symbols
 from .uris import path_of
 from .version import version
@@ -48,8 +49,10 @@ class Server:
         program = Program([options.program], options.timeout)
         diagnostics = Diagnostics(docs)
         shows_earlier = not options.no_earlier_faults
+        self._checks = ScriptChecks(self._messages.wake)
+        self._checks.is_on = options.shellcheck
         self._workspace = Workspace(
-            lambda root: Repository(root, Folder(root, program, self._editor.say, keeps_calls=shows_earlier), shows_earlier),
+            lambda root: Repository(root, Folder(root, program, self._editor.say, keeps_calls=shows_earlier), shows_earlier, self._checks),
             self._editor, diagnostics)
         self._features = (
             Completion(self._workspace, self._editor),
@@ -87,9 +90,13 @@ class Server:
                 continue
             if message is None or isinstance(message, dict) and message.get("method") == "exit":
                 break
-            self._take(message)
+            if isinstance(message, Wake):
+                self._workspace.take_notes(self._checks)
+            else:
+                self._take(message)
             if self._workspace.is_stale and self._messages.is_empty():
                 self._workspace.refresh()
+        self._checks.end()
         self._workspace.end()
         return 0 if self._is_shut_down else 1
 
@@ -119,12 +126,13 @@ class Server:
             raise JsonRpcMethodNotFound.of(method)
         return self._handlers[method](**(parameters or {}))
 
-    def _initialize(self, rootUri=None, rootPath=None, workspaceFolders=None, capabilities=None, **_) -> dict:
+    def _initialize(self, rootUri=None, rootPath=None, workspaceFolders=None, capabilities=None, initializationOptions=None, **_) -> dict:
         uris = [folder["uri"] for folder in workspaceFolders or []] or ([rootUri] if rootUri else [])
         self._named = _paths_of(uris)
         if not uris and rootPath:
             self._named = [os.path.abspath(os.fsencode(rootPath))]
         self._editor.take_capabilities(capabilities)
+        self._take_options(initializationOptions)
         told = {
             "textDocumentSync": {"openClose": True, "change": FULL_TEXT, "save": {"includeText": False}},
             "workspace": {"workspaceFolders": {"supported": True, "changeNotifications": True}},
@@ -133,6 +141,12 @@ class Server:
             told.update(feature.capabilities)
         self._is_initialized = True
         return {"capabilities": told, "serverInfo": {"name": "actionlint-lsp", "version": version() or "unknown"}}
+
+    def _take_options(self, options: object) -> None:
+        """Takes what the editor's settings say; the command line's options stay where these say nothing."""
+        given = options.get("shellcheck") if isinstance(options, dict) else None
+        if isinstance(given, bool):
+            self._checks.is_on = given
 
     def _start(self, **_) -> None:
         if self._editor.watches():

@@ -17,7 +17,7 @@ from .text import LINE_BREAK, Places
 if TYPE_CHECKING:
     from .scripts import Script
 
-__all__ = ["ShellcheckFailed", "notes", "notes_of_text"]
+__all__ = ["ShellcheckFailed", "notes", "notes_of_text", "problem_of_note"]
 SIDE_BY_SIDE = os.cpu_count() or 1
 # Scripts that are being checked, or whose notes wait for those of earlier ones.
 MAX_WAITING = 4 * SIDE_BY_SIDE
@@ -54,9 +54,10 @@ class Found(NamedTuple):
     source: SourceFile
     script: Script
 
-    def line(self) -> int:
-        """The line, from 1, on which it begins."""
-        return self.source.fault(self.script.offset_of(1, 1), 0, "").line
+    def start(self, message: str) -> Fault:
+        """A fault at its first character."""
+        offset = self.script.offset_of(1, 1)
+        return self.source.fault(offset, offset + 1, message)
 
 
 def notes(root: str, files: list[str], refused: set[str], say: Callable[[str], None]) -> Iterator[Problem]:
@@ -64,24 +65,25 @@ def notes(root: str, files: list[str], refused: set[str], say: Callable[[str], N
     valid YAML for the linter are skipped, and `say` is told about files that can't be read here and scripts that can't be checked."""
     # (the linter has already said which links it skipped)
     disk = Disk(os.fsencode(root), lambda _: None)
-    return _problems(_scripts(disk, files, refused, say), say)
+    return _problems(_scripts(disk, files, refused, say), lambda fault: say(f"{fault.path}:{fault.line}: {fault.message}"))
 
 
-def notes_of_text(path: str, data: bytes, say: Callable[[str], None]) -> Iterator[Problem]:
-    """The notes on the scripts of one file with this text."""
-    return _problems(_read(path, data, say)[0], say)
+def notes_of_text(path: str, data: bytes, tell: Callable[[Fault], None]) -> Iterator[Problem]:
+    """The notes on the scripts of one file with this text, none if it can't be read here. `tell` is told about scripts that can't be
+    checked."""
+    return _problems(_read(path, data, lambda _: None)[0], tell)
 
 
-def _problems(found: Iterable[Found], say: Callable[[str], None]) -> Iterator[Problem]:
+def _problems(found: Iterable[Found], tell: Callable[[Fault], None]) -> Iterator[Problem]:
     unchecked = 0
     for one, result in _checked(found):
         try:
             yield from (_problem(note, one) for note in result())
         except NotChecked as error:
             unchecked += 1
-            say(f"{one.source.path}:{one.line()}: no shellcheck of this script, since {error}")
+            tell(one.start(f"no shellcheck of this script, since {error}"))
         if unchecked == MAX_UNCHECKED:
-            say(f"no shellcheck of the scripts below {one.source.path}:{one.line()}, since it didn't end on {MAX_UNCHECKED} others")
+            tell(one.start(f"no shellcheck of later scripts, since there was none of {MAX_UNCHECKED}"))
             break
 
 

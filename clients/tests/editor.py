@@ -20,9 +20,9 @@ EXIT_SECONDS = 10
 class Editor:
     def __init__(self, program: str | None, root: bytes | None, watches: bool = True, words: tuple[str, ...] = (), capabilities: dict = {},
                  server: Path = SERVER, environment: dict[str, str] | None = None, inherited: tuple[int, ...] = (),
-                 folder: str | None = None, root_path: str | None = None):
+                 folder: str | None = None, root_path: str | None = None, options: object = None):
         """`inherited` are open files with which the server is started, and `folder` is its current one. With `root_path`, the server is
-        given the root as such a path, with `{}` in its place, and not as a URI."""
+        given the root as such a path, with `{}` in its place, and not as a URI. `options` are the initialization options."""
         self.root = root
         self.shown: dict[str, dict] = {}
         self.messages: list[str] = []
@@ -42,7 +42,8 @@ class Editor:
         watching = {"workspace": {"didChangeWatchedFiles": {"dynamicRegistration": watches}}}
         self.hello = self.request("initialize", {
             "processId": os.getpid(), "rootUri": uri, "rootPath": path, "capabilities": {**watching, **capabilities},
-            "workspaceFolders": [{"uri": uri, "name": "w"}] if uri else None})
+            "workspaceFolders": [{"uri": uri, "name": "w"}] if uri else None,
+            **({} if options is None else {"initializationOptions": options})})
         self.notify("initialized", {})
 
     def uri(self, path: str) -> str:

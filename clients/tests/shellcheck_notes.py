@@ -19,6 +19,7 @@ from cases import Cases
 from repositories import CLIENTS, FILE, TOP, WORKFLOWS, write
 
 from actionlint_client.problems import Problem
+from actionlint_client.report import Fault
 from actionlint_client.scripts import NotRead, Script, scripts_and_calls, variable_of, without_expressions, word_of
 from actionlint_client.shellcheck import notes_of_text
 
@@ -91,7 +92,7 @@ def run(program: str, folder: str, *words: str, path: str = "") -> tuple[int, li
 def notes_on(script: str, shell: str | None = None) -> list[Problem]:
     """The notes on a script in a block, whose later lines are indented by ten."""
     text = f"{STEPS}      - run: |\n          {script}\n" + (f"        shell: {shell}\n" if shell else "")
-    said: list[str] = []
+    said: list[Fault] = []
     found = list(notes_of_text(FILE, text.encode(), said.append))
     assert not said, (script, said)
     return found
@@ -231,7 +232,7 @@ def many_scripts_without_end(program: str) -> None:
         status, found, errors = run(program, folder, path=folder + "/bin:")
         *named, last = errors.splitlines()
         assert (status, found) == (0, []) and len(named) == 12, (status, found, errors)
-        assert last == f"actionlint-report: no shellcheck of the scripts below {FILE}:17, since it didn't end on 12 others", last
+        assert last == f"actionlint-report: {FILE}:17: no shellcheck of later scripts, since there was none of 12", last
 
 
 @CASES.case
