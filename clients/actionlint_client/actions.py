@@ -2,6 +2,7 @@
 from __future__ import annotations
 
 from . import fixes
+from .characters import shown
 from .diagnostics import Diagnostics
 from .editor import Editor
 from .folder import Program
@@ -31,7 +32,7 @@ class CodeActions:
         return [self._action(document, fix) for fix in found if not fix.repair.new_files or self._editor.makes_files()]
 
     def _action(self, document: Document, fix: fixes.Fix) -> dict:
-        return {"title": fix.repair.title, "kind": "quickfix",
+        return {"title": shown(fix.repair.title), "kind": "quickfix",
                 "diagnostics": [self._diagnostics.of_fault(document.lines(), fix.fault)],
                 "edit": workspace_edit(document.repository, fix.repair.edits, fix.repair.new_files)}
 

@@ -4,8 +4,10 @@ from __future__ import annotations
 import re
 
 from .asked import asked
+from .characters import shown
 from .completion import Offer, offers
 from .editor import Editor
+from .markdown import content
 from .workspace import Workspace
 
 # CompletionItemKind of the protocol.
@@ -33,10 +35,10 @@ class Completion:
 
     def _item(self, where: dict, number: int, offer: Offer) -> dict:
         item: dict[str, object] = {
-            "label": offer.label, "kind": KINDS[offer.kind], "detail": offer.detail, "filterText": offer.label,
+            "label": shown(offer.label), "kind": KINDS[offer.kind], "detail": shown(offer.detail), "filterText": offer.label,
             "sortText": f"{offer.rank}{number:04}", "textEdit": {"range": where, "newText": offer.text}}
         if offer.documentation:
-            item["documentation"] = {"kind": self._editor.documentation_format(), "value": offer.documentation}
+            item["documentation"] = content(self._editor.documentation_format(), offer.documentation)
         if offer.arguments and self._editor.takes_snippets():
             item |= {"insertTextFormat": SNIPPET, "textEdit": {"range": where, "newText": snippet(offer.text)}}
         return item

@@ -7,6 +7,7 @@ from typing import Callable, Iterable
 
 from . import project as files
 from .expressions import Before, Property, Scope, chain_before, expression_before
+from .markdown import Markdown, escaped_or_none
 from .names import names
 from .paths import is_workflow
 from .place import Place, Role, outline_of
@@ -32,7 +33,7 @@ class Offer:
     kind: str
     text: str
     detail: str = ""
-    documentation: str | None = None
+    documentation: Markdown | None = None
     rank: int = 1
     arguments: int | None = None
 
@@ -188,8 +189,8 @@ def _declared_key(place: Place, one: files.Declaration) -> Offer:
     kind = one.value.text("type") or ""
     value = {"boolean": "true", "number": "0"}.get(kind, "")
     text = one.name if place.has_colon else f"{one.name}: {value}"
-    return Offer(one.name, "key", text, (kind or "text") + (", required" if one.is_required else ""), one.value.text("description"),
-                 0 if one.is_required else 1)
+    return Offer(one.name, "key", text, (kind or "text") + (", required" if one.is_required else ""),
+                 escaped_or_none(one.value.text("description")), 0 if one.is_required else 1)
 
 
 def _key_text(place: Place, section: str, key: str) -> str:
@@ -272,7 +273,7 @@ def _actions(cursor: Cursor) -> list[Offer]:
     for file in sorted(set(cursor.project.actions()) - {cursor.file}):
         tree = cursor.project.good_tree(file)
         path = "./" + file.rpartition("/")[0]
-        found.append(Offer(path, "file", path, "action", tree.text("description") if tree else None))
+        found.append(Offer(path, "file", path, "action", escaped_or_none(tree.text("description") if tree else None)))
     return found
 
 

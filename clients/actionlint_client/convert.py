@@ -155,5 +155,5 @@ def _options(words: list[str]) -> argparse.Namespace:
 
 
 def _fail(why: str, status: int = CANNOT_GO_ON) -> int:
-    print(f"actionlint-report: {why}", file=sys.stderr)
+    print(f"actionlint-report: {terminal_text(why)}", file=sys.stderr)
     return status

@@ -3,6 +3,7 @@ from __future__ import annotations
 
 from typing import Iterable
 
+from .characters import shown
 from .faults import FileFaults
 from .positions import Lines
 from .problems import NOTE, Problem, problem_of
@@ -34,7 +35,7 @@ class Diagnostics:
     def of_fault(self, lines: Lines, fault: Fault) -> dict:
         problem = problem_of(fault)
         diagnostic = {"range": lines.range_of(fault), "severity": SEVERITIES[problem.level], "source": SOURCE, "code": problem.code,
-                      "message": f"{fault.message} [{fault.kind}]", "data": {"kind": fault.kind}}
+                      "message": f"{shown(fault.message)} [{fault.kind}]", "data": {"kind": fault.kind}}
         if link := problem.link_in(self._docs):
             diagnostic["codeDescription"] = {"href": link}
         return diagnostic
@@ -47,7 +48,7 @@ class Diagnostics:
 def of_note(lines: Lines, note: Problem) -> dict:
     """A note of shellcheck, or why it has none on a script."""
     told = {"range": lines.range_of(note.fault), "severity": INFORMATION if note.level == NOTE else WARNING, "source": note.fault.kind,
-            "message": note.fault.message, "data": {"kind": note.fault.kind}}
+            "message": shown(note.fault.message), "data": {"kind": note.fault.kind}}
     return {**told, "code": note.code, "codeDescription": {"href": note.link}} if note.code else told
 
 

@@ -6,7 +6,7 @@ from collections import Counter
 from dataclasses import dataclass, field
 from typing import BinaryIO
 
-from .characters import json_text
+from .characters import json_text, log_text, shown, terminal_text
 from .problems import Problem
 
 
@@ -81,7 +81,7 @@ class JsonLines(Form):
         self.write(json_text({
             "path": fault.path, "line": fault.line, "column": fault.column,
             "end_column": fault.column + fault.width if fault.width else None, "code": problem.code if problem.has_code() else None,
-            "kind": fault.kind, "level": problem.level, "message": fault.message, "link": problem.link_in(self.docs)}) + "\n")
+            "kind": fault.kind, "level": problem.level, "message": shown(fault.message), "link": problem.link_in(self.docs)}) + "\n")
 
 
 class CodeQuality(Form):
@@ -102,7 +102,7 @@ class CodeQuality(Form):
         separator = "," if self._seen else ""
         self._seen[same] += 1
         self.write(separator + "\n" + json_text({
-            "description": fault.message, "check_name": problem.code, "fingerprint": _digest(same, str(self._seen[same])),
+            "description": shown(fault.message), "check_name": problem.code, "fingerprint": _digest(same, str(self._seen[same])),
             "severity": self.SEVERITIES[problem.level], "location": {"path": fault.path, "lines": {"begin": fault.line}}}))
 
     def end(self, outcome: Outcome) -> None:
@@ -131,8 +131,8 @@ class Annotations(Form):
         self.write(outcome.count_line() + "\n")
 
     def _command(self, name: str, properties: dict[str, object], text: str) -> None:
-        listed = ",".join(f"{key}={_property(str(value))}" for key, value in properties.items())
-        self.write(f"::{name} {listed}::{_data(text)}\n")
+        listed = ",".join(terminal_text(f"{key}={_property(str(value))}") for key, value in properties.items())
+        self.write(f"::{name} {listed}::{_data(log_text(text))}\n")
 
 
 def _data(text: str) -> str:

@@ -5,6 +5,7 @@ from . import entries
 from .asked import asked
 from .editor import Editor
 from .explanations import explanation
+from .markdown import content
 from .workspace import Workspace
 
 
@@ -22,10 +23,9 @@ class Hover:
         found = document.faults_in({"start": position, "end": position}, with_earlier=True) if document else []
         text = entries.markdown_of_faults((fault.message for fault, _ in found), self._docs)
         if text is not None:
-            return self._answer(text, found[0][1])
+            return {"contents": {"kind": self._editor.hover_format(), "value": text}, "range": found[0][1]}
         place = asked(self._workspace, textDocument, position)
         explained = explanation(place.project, place.file, place.point) if place else None
-        return self._answer(explained[1], place.range(explained[0])) if place and explained else None
-
-    def _answer(self, text: str, where: dict) -> dict:
-        return {"contents": {"kind": self._editor.hover_format(), "value": text}, "range": where}
+        if place is None or explained is None:
+            return None
+        return {"contents": content(self._editor.hover_format(), explained[1]), "range": place.range(explained[0])}

@@ -5,6 +5,7 @@ from pylsp_jsonrpc.exceptions import JsonRpcException
 
 from .actions import workspace_edit
 from .asked import Asked, asked
+from .characters import shown
 from .folder import Program
 from .references import Occurrence, all_of, occurrence_at, occurrences
 from .renaming import Refusal, renamable_at, rename
@@ -75,4 +76,4 @@ class Navigation:
         try:
             return workspace_edit(place.repository, rename(self._program, place.project, place.file, place.point, newName))
         except Refusal as refusal:
-            raise JsonRpcException(f"actionlint: {refusal}", REQUEST_FAILED) from refusal
+            raise JsonRpcException(f"actionlint: {shown(str(refusal))}", REQUEST_FAILED) from refusal

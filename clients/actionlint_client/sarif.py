@@ -5,7 +5,7 @@ import re
 from typing import BinaryIO
 from urllib.parse import quote
 
-from .characters import json_text
+from .characters import json_text, shown
 from .entries import explained, markdown_of, plain_text, title_of
 from .forms import Form, Outcome
 from .problems import ERROR, Problem
@@ -85,4 +85,4 @@ def _rule(problem: Problem, docs: str | None) -> dict:
 
 def _message(text: str) -> dict:
     """A message's text, in which brackets are escaped, since they would be links (3.11.6)."""
-    return {"text": SPECIAL.sub(r"\\\g<0>", text)}
+    return {"text": SPECIAL.sub(r"\\\g<0>", "\n".join(map(shown, text.split("\n"))))}

@@ -2,6 +2,7 @@
 from __future__ import annotations
 
 from .asked import Asked, asked
+from .characters import shown
 from .structure import Part, folds, links, part_of
 from .text import Point
 from .workspace import Workspace
@@ -38,7 +39,7 @@ class Symbols:
         for repository in self._workspace.repositories():
             for path in sorted(repository.folder.paths()):
                 place = Asked(repository, path, START)
-                found += [{"name": part.name, "kind": KINDS[part.kind], "containerName": around,
+                found += [{"name": shown(part.name), "kind": KINDS[part.kind], "containerName": shown(around),
                            "location": place.location(part.naming, path)}
                           for part, around in _all(part_of(place.project, path), path) if query.lower() in part.name.lower()]
                 if len(found) >= MAX_SYMBOLS:
@@ -56,7 +57,7 @@ class Symbols:
 
 
 def _symbol(place: Asked, part: Part) -> dict:
-    return {"name": part.name, "detail": part.kind, "kind": KINDS[part.kind], "range": place.range(part.span),
+    return {"name": shown(part.name), "detail": part.kind, "kind": KINDS[part.kind], "range": place.range(part.span),
             "selectionRange": place.range(part.naming), "children": [_symbol(place, inner) for inner in part.parts]}
 
 

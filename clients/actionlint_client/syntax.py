@@ -6,6 +6,7 @@ from functools import lru_cache
 from pathlib import Path as File
 from typing import TYPE_CHECKING
 
+from .markdown import Markdown
 from .names import names
 from .paths import is_workflow
 
@@ -26,9 +27,10 @@ def table() -> dict[str, dict]:
     return json.loads(TABLE.read_text(encoding="utf-8"))
 
 
-def meaning(heading: str, name: str) -> str | None:
+def meaning(heading: str, name: str) -> Markdown | None:
     """What docs/MEANINGS.md says about a name below a heading."""
-    return table()["meanings"].get(heading, {}).get(name)
+    found: Markdown | None = table()["meanings"].get(heading, {}).get(name)
+    return found
 
 
 def shape_at(file: str, path: Path, levels: tuple[dict[str, str], ...]) -> dict | None:
