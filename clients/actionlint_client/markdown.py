@@ -11,7 +11,9 @@ from .protocol import MarkupContent
 Markdown = NewType("Markdown", str)
 
 MAX_SHOWN_CHARACTERS = 2_000
-PUNCTUATION = re.compile(r"[!-/:-@\[-`{-~]")
+# What means something anywhere, and what does at the beginning of a line: a list, or a line below a heading.
+SIGNS = re.compile(r"[\\`*_\[\]<>(){}&!~|$#@]")
+FIRST_SIGN = re.compile(r"^(\d{0,9})([-+=:.)])")
 # What becomes a link without brackets. A backslash inside doesn't keep every reader from that, but code does.
 ADDRESS = re.compile(r"""(?:[a-z][a-z0-9+.-]{0,30}://|www\.)[^\s<>()\[\]{}"'`\\|]+|[\w.+-]{1,64}@[\w.-]+""", re.I)
 BACKQUOTES = re.compile("`+")
@@ -53,8 +55,8 @@ def _escaped_line(line: str) -> str:
     for found in ADDRESS.finditer(line):
         parts += [_escaped_words(line[at:found.start()]), code(found[0])]
         at = found.end()
-    return "".join([*parts, _escaped_words(line[at:])])
+    return FIRST_SIGN.sub(r"\1\\\2", "".join([*parts, _escaped_words(line[at:])]))
 
 
 def _escaped_words(text: str) -> str:
-    return PUNCTUATION.sub(r"\\\g<0>", shown(text))
+    return SIGNS.sub(r"\\\g<0>", shown(text))

@@ -114,8 +114,13 @@ def commands_to_runners(program: str) -> None:
         assert 'unexpected key "##[add-mask]q"' in said, "who reads the JSON gets what was written"
 
 
+# The other signs mean something only at the beginning of a line, or after one of these.
+MEANT_FIRST = "-+=:."
+MEANT_ANYWHERE = "\\`*_[]<>(){}&!~|$#@"
+
+
 def unescaped(markdown: str) -> str:
-    """The punctuation of Markdown that is neither behind a backslash nor in code."""
+    """The punctuation of Markdown that is neither behind a backslash nor in code, and means something: some only where a line begins."""
     found, at = "", 0
     while at < len(markdown):
         if markdown[at] == "\\" and markdown[at + 1:at + 2] in tuple(string.punctuation):
@@ -128,14 +133,16 @@ def unescaped(markdown: str) -> str:
             assert "\n\n" not in markdown[at:at + len(fence[0]) + closing.start()], markdown
             at += len(fence[0]) + closing.end()
         else:
-            found += markdown[at] if markdown[at] in string.punctuation else ""
+            begins_line = re.fullmatch(r"(?:.*\n)?\d*", markdown[:at], re.S) is not None
+            found += markdown[at] if markdown[at] in (MEANT_FIRST if begins_line else "") + MEANT_ANYWHERE else ""
             at += 1
     return found
 
 
 @CASES.case
 def markdown_of_strangers(program: str) -> None:
-    """All punctuation is behind a backslash, addresses are code, and no line begins or ends with blanks. What is shown is what was written."""
+    """Signs that mean something are behind a backslash, addresses are code, and no line begins or ends with blanks. What is shown is what was
+    written."""
     for text in MARKDOWN:
         found = escaped(text)
         assert unescaped(found) == "", (text, found)
@@ -144,7 +151,7 @@ def markdown_of_strangers(program: str) -> None:
         assert not re.search(r"^[ \t]|[ \t\\]$", found.replace("\\\\", "~"), re.M), (text, found)
         written = "\n".join(line.strip() for line in text.split("\n")).strip()
         assert plain(found) == written, (text, found, plain(found))
-    assert escaped("a\n\n\n\nb\nc\n") == "a\n\nb\nc" and escaped("a\u202eb\x1b[1m") == "a\\<U\\+202E\\>b\\<U\\+001B\\>\\[1m"
+    assert escaped("a\n\n\n\nb\nc\n") == "a\n\nb\nc" and escaped("a\u202eb\x1b[1m") == "a\\<U+202E\\>b\\<U+001B\\>\\[1m"
     long = escaped("*" * (MAX_SHOWN_CHARACTERS + 1))
     assert long == "\\*" * MAX_SHOWN_CHARACTERS + " ..", long
     assert code("a`b``c") == "``` a`b``c ```" and code("a\x1bb\nc") == "`a<U+001B>b<U+000A>c`"
