@@ -7,6 +7,7 @@ from .diagnostics import Diagnostics
 from .editor import Editor
 from .folder import Program
 from .positions import range_of_span
+from .protocol import Capabilities, CodeAction, CodeActionContext, CreateFile, Handler, Range, TextDocumentEdit, TextDocumentIdentifier, WorkspaceEdit
 from .repair import Edit
 from .repository import Document, Repository
 from .text import Point, Span
@@ -14,37 +15,38 @@ from .workspace import Workspace
 
 
 class CodeActions:
-    capabilities = {"codeActionProvider": {"codeActionKinds": ["quickfix"]}}
+    capabilities: Capabilities = {"codeActionProvider": {"codeActionKinds": ["quickfix"]}}
 
     def __init__(self, workspace: Workspace, diagnostics: Diagnostics, editor: Editor, program: Program):
         self._workspace, self._diagnostics, self._editor, self._program = workspace, diagnostics, editor, program
 
-    def handlers(self) -> dict:
+    def handlers(self) -> dict[str, Handler]:
         return {"textDocument/codeAction": self.code_actions}
 
-    def code_actions(self, textDocument, range, context=None, **_) -> list[dict]:
+    def code_actions(self, textDocument: TextDocumentIdentifier, range: Range, context: CodeActionContext | None = None,
+                     **_: object) -> list[CodeAction]:
         document = self._workspace.document(textDocument["uri"])
-        kinds = (context or {}).get("only")
+        kinds = context.get("only") if context else None
         if document is None or kinds and not any(kind in ("", "quickfix") for kind in kinds):
             return []
         faults = [fault for fault, _ in document.faults_in(range)]
         found = fixes.fixes(self._program.words, self._program.timeout, document.repository.project, faults, document.earlier().faults)
         return [self._action(document, fix) for fix in found if not fix.repair.new_files or self._editor.makes_files()]
 
-    def _action(self, document: Document, fix: fixes.Fix) -> dict:
+    def _action(self, document: Document, fix: fixes.Fix) -> CodeAction:
         return {"title": shown(fix.repair.title), "kind": "quickfix",
                 "diagnostics": [self._diagnostics.of_fault(document.lines(), fix.fault)],
                 "edit": workspace_edit(document.repository, fix.repair.edits, fix.repair.new_files)}
 
 
-def workspace_edit(repository: Repository, edits: dict[str, tuple[Edit, ...]], new_files: dict[str, str] = {}) -> dict:
+def workspace_edit(repository: Repository, edits: dict[str, tuple[Edit, ...]], new_files: dict[str, str] = {}) -> WorkspaceEdit:
     """Edits and new files as a WorkspaceEdit."""
     changes = {repository.uri(path): [{"range": range_of_span(repository.project.lines(path), edit.span), "newText": edit.text}
                                       for edit in some] for path, some in edits.items()}
     if not new_files:
         return {"changes": changes}
     start = range_of_span([""], Span.at(Point(0, 0)))
-    made: list[dict] = []
+    made: list[CreateFile | TextDocumentEdit] = []
     for path, text in new_files.items():
         uri = repository.uri(path)
         made += [{"kind": "create", "uri": uri, "options": {"ignoreIfExists": True}},

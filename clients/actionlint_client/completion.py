@@ -13,8 +13,8 @@ from .paths import is_workflow
 from .place import Place, Role, outline_of
 from .project import Project
 from .stricter import takes_access, takes_filter
-from .syntax import available, is_condition, key_of, meaning, section_at, shape_at, table, value_words
-from .text import Point, Span
+from .syntax import Shape, available, is_condition, key_of, meaning, section_at, shape_at, table, value_words
+from .text import Point, Span, end_of
 from .tree import Node, Path
 
 IDENTIFIER = re.compile(r"[\w-]*")
@@ -81,7 +81,7 @@ def offers(project: Project, file: str, point: Point, is_strict: bool = True) ->
     if expression is not None:
         before = chain_before(expression)
         line = project.lines(file)[point.line]
-        end = IDENTIFIER.match(line, point.column).end()
+        end = end_of(IDENTIFIER, line, point.column)
         typed = len(before.typed) if before else 0
         span = Span.on_line(point.line, point.column - typed, end)
         return span, names_in_expression(cursor, before) if before else []
@@ -95,7 +95,7 @@ def offers(project: Project, file: str, point: Point, is_strict: bool = True) ->
         found = [replace(offer, text=" " + offer.text) for offer in found]
     if key_of(place.path)[1] == "cron" and place.before[:1] not in ("'", '"'):
         line = project.lines(file)[point.line]
-        return Span(place.span.start, Point(point.line, REST.match(line, point.column).end())), found
+        return Span(place.span.start, Point(point.line, end_of(REST, line, point.column))), found
     return place.span, found
 
 
@@ -151,7 +151,7 @@ def keys(cursor: Cursor) -> Iterable[Offer]:
                     for event in names()["events"] if event not in place.siblings and event not in fields)
 
 
-def _first_keys(place: Place, shape: dict) -> Iterable[Offer]:
+def _first_keys(place: Place, shape: Shape) -> Iterable[Offer]:
     """The keys with which an entry of a list begins, each after a dash."""
     section = shape.get("section", "")
     for key, row in (shape["keys"] if section else {}).items():
@@ -257,13 +257,13 @@ def _jobs(cursor: Cursor) -> list[Offer]:
     if tree is None:
         return []
     barred = files.dependents(tree, job) | (set(tree.texts("jobs", job, "needs")) - {cursor.place.word})
-    return [Offer(name, "value", name, "job", tree.text("jobs", name, "name")) for name in tree.names("jobs") if name not in barred]
+    return [Offer(name, "value", name, "job", escaped_or_none(tree.text("jobs", name, "name"))) for name in tree.names("jobs") if name not in barred]
 
 
 def _workflows(cursor: Cursor) -> list[Offer]:
     """The workflows of the folder that jobs can call."""
     trees = {file: cursor.project.good_tree(file) for file in cursor.project.paths() if is_workflow(file) and file != cursor.file}
-    return [Offer("./" + file, "file", "./" + file, "workflow", tree.text("name") if tree else None)
+    return [Offer("./" + file, "file", "./" + file, "workflow", escaped_or_none(tree.text("name") if tree else None))
             for file, tree in sorted(trees.items()) if files.is_callable(tree)]
 
 

@@ -141,7 +141,7 @@ class Scope:
         return [property_of(one, what.removesuffix("s")) for one in found]
 
     def _steps(self, names: tuple[str, ...]) -> list[Property]:
-        steps = {step.text("id"): step for step in self.visible_steps() if step.text("id")}
+        steps = {name: step for step in self.visible_steps() if (name := step.text("id"))}
         if not names:
             return [Property(name, "step", escaped_or_none(step.text("name"))) for name, step in steps.items()]
         name = _same(list(steps), names[0])

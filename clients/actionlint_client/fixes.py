@@ -5,7 +5,7 @@ import re
 import time
 from collections import Counter
 from itertools import islice
-from typing import Callable, Iterable, NamedTuple
+from typing import Callable, Iterable, NamedTuple, Tuple
 
 from . import repairs_calls, repairs_expressions, repairs_keys, repairs_names, repairs_rules, repairs_yaml
 from .disk import MAX_FILE_BYTES
@@ -27,6 +27,10 @@ LOCAL_CALL = re.compile(r"\./[^\s'\"#,}\]]*")
 MODULES = (repairs_yaml, repairs_keys, repairs_rules, repairs_expressions, repairs_names, repairs_calls)
 REPAIRS: dict[str, tuple[Callable[[Case], Iterable[Repair]], ...]] = {
     code: tuple(each for module in MODULES for each in module.REPAIRS.get(code, ())) for found in MODULES for code in found.REPAIRS}
+
+
+# How often each file has each message.
+Counted = Counter[Tuple[str, str]]
 
 
 class Fix(NamedTuple):
@@ -91,7 +95,7 @@ class Trial:
     def __init__(self, words: list[str], timeout: float, project: Project, file: str, max_files: int = MAX_FILES):
         self.session = Session(words, True, timeout)
         self._max_files = max_files
-        self.earlier: Counter = Counter()
+        self.earlier: Counted = Counter()
         self.project = project
         self.texts: dict[str, str] = {}
         callers = [path for path in project.paths() if path != file and _calls(project, path, file)]
@@ -104,7 +108,7 @@ class Trial:
         key = fault.path, fault.message
         return after[key] < self.before[key] and not after - self.before - self.earlier
 
-    def faults_after(self, texts: dict[str, str]) -> Counter:
+    def faults_after(self, texts: dict[str, str]) -> Counted:
         """The faults if some files had other texts. The session is unchanged afterwards."""
         called = [path for text in texts.values() for path in self._called(text)]
         self._include([*(path for path in texts if self.project.has(path)), *called])
@@ -118,7 +122,7 @@ class Trial:
                 self.session.delete(path)
         return after
 
-    def faults(self) -> Counter:
+    def faults(self) -> Counted:
         return _counted(parse_report(self.session.report(MAX_REPORT_BYTES), False))
 
     def _include(self, paths: list[str]) -> None:
@@ -143,7 +147,7 @@ class Trial:
         self.session.put(path, text.encode("utf-8", "surrogatepass"))
 
 
-def _counted(faults: Iterable[Fault]) -> Counter:
+def _counted(faults: Iterable[Fault]) -> Counted:
     """How often each file has each message. Places aren't compared, since they may move."""
     return Counter((fault.path, fault.message) for fault in faults)
 

@@ -91,7 +91,7 @@ class CodeQuality(Form):
 
     def __init__(self, out: BinaryIO, docs: str | None):
         super().__init__(out, docs)
-        self._seen: Counter = Counter()
+        self._seen: Counter[str] = Counter()
 
     def begin(self) -> None:
         self.write("[")

@@ -1,24 +1,25 @@
 """Hovering: the entries of the faults at a place, or else the meaning of the name there."""
 from __future__ import annotations
 
-from . import entries
+from . import entries, protocol
 from .asked import asked
 from .editor import Editor
 from .explanations import explanation
 from .markdown import content
+from .protocol import Capabilities, Handler, Position, TextDocumentIdentifier
 from .workspace import Workspace
 
 
 class Hover:
-    capabilities = {"hoverProvider": True}
+    capabilities: Capabilities = {"hoverProvider": True}
 
     def __init__(self, workspace: Workspace, editor: Editor, docs: str | None):
         self._workspace, self._editor, self._docs = workspace, editor, docs
 
-    def handlers(self) -> dict:
+    def handlers(self) -> dict[str, Handler]:
         return {"textDocument/hover": self.hover}
 
-    def hover(self, textDocument, position, **_) -> dict | None:
+    def hover(self, textDocument: TextDocumentIdentifier, position: Position, **_: object) -> protocol.Hover | None:
         document = self._workspace.document(textDocument["uri"])
         found = document.faults_in({"start": position, "end": position}, with_earlier=True) if document else []
         text = entries.markdown_of_faults((fault.message for fault, _ in found), self._docs)

@@ -15,7 +15,7 @@ MAX_SHOWN_CHARACTERS = 2_000
 SIGNS = re.compile(r"[\\`*_\[\]<>(){}&!~|$#@]")
 FIRST_SIGN = re.compile(r"^(\d{0,9})([-+=:.)])")
 # What becomes a link without brackets. A backslash inside doesn't keep every reader from that, but code does.
-ADDRESS = re.compile(r"""(?:[a-z][a-z0-9+.-]{0,30}://|www\.)[^\s<>()\[\]{}"'`\\|]+|[\w.+-]{1,64}@[\w.-]+""", re.I)
+ADDRESS = re.compile(r"""(?:[a-z][a-z0-9+.-]{0,30}://|www\.)[^\s<>()\[\]{}"'`\\|]*|[\w.+-]{1,64}@[\w.-]+""", re.I)
 BACKQUOTES = re.compile("`+")
 MARKS = re.compile(r"\\([!-/:-@\[-`{-~])|(`+)([^`]+)\2(?!`)|\[([^\]\[]*)\]\([^()]*\)|\*\*")
 

@@ -20,7 +20,7 @@ class Wake:
 Taken = Union[Message, JsonRpcException, Wake, None]
 
 
-class Reader(JsonRpcStreamReader):
+class Reader(JsonRpcStreamReader):  # type: ignore[misc]
     """The library's reader takes the length from the first header field alone, and only logs what isn't JSON."""
 
     def listen(self, message_consumer: Callable[[Taken], None]) -> None:

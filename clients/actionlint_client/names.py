@@ -21,7 +21,8 @@ LISTS = {"G1": "events", "G2": "activity types", "G12": "shells", "G13": "permis
 
 @lru_cache(maxsize=None)
 def names() -> dict[str, list[str]]:
-    return json.loads(TABLE.read_text(encoding="utf-8"))
+    found: dict[str, list[str]] = json.loads(TABLE.read_text(encoding="utf-8"))
+    return found
 
 
 def near(wrong: str, known: Iterable[str], count: int = 3, likeness: float = LEAST_LIKENESS) -> list[str]:

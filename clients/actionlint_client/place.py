@@ -8,7 +8,7 @@ from enum import Enum
 from functools import lru_cache
 from typing import NamedTuple, Sequence
 
-from .text import Point, Span
+from .text import Point, Span, end_of
 from .tree import Path
 
 DASH = re.compile(r"-(?= |$)")
@@ -146,7 +146,7 @@ class Outline:
             closing = text.find(text[start - 1], point.column)
             end = closing if closing >= 0 else len(text)
         else:
-            end = WORD.match(text, point.column).end()
+            end = end_of(WORD, text, point.column)
         return Span.on_line(point.line, start, end), text[start:end], text[start:point.column]
 
     def _place_in_flow(self, point: Point) -> Place | None:
@@ -178,7 +178,7 @@ class Outline:
         full = (*path, *below) if role is Role.VALUE else (*path, *below[:-1])
         last = frames[-1]
         closing = self.texts[point.line].find(flow.value_before[:1], point.column) if flow.value_before[:1] in ("'", '"') else -1
-        end = closing if closing >= 0 else WORD.match(self.texts[point.line], point.column).end()
+        end = closing if closing >= 0 else end_of(WORD, self.texts[point.line], point.column)
         word = self.texts[point.line][column:end]
         has_colon = role is Role.KEY and COLON.match(self.texts[point.line], end) is not None
         siblings = {name: value for name, value in (last.keys or {}).items() if role is Role.KEY and name != word}

@@ -7,7 +7,7 @@ from typing import Callable, Iterable, NamedTuple
 
 from .paths import ACTION_NAMES, is_action, is_path, is_workflow
 from .text import LINE_BREAK
-from .tree import Node, read_tree
+from .tree import Node, Path, read_tree
 
 OUTPUT_NAME = re.compile(r"""(?:^|[\s"'{(;&|])([A-Za-z_][\w-]*)(?:=|<<)""")
 
@@ -108,7 +108,7 @@ def declarations(file: str, tree: Node | None, what: str, of_call: bool = False)
     """The inputs, secrets or outputs that a file declares. Inputs are those of calls and of manual starts, or of calls only."""
     if tree is None:
         return []
-    ways = [("on", "workflow_call", what)] if is_workflow(file) else [(what,)]
+    ways: list[Path] = [("on", "workflow_call", what)] if is_workflow(file) else [(what,)]
     if is_workflow(file) and what == "inputs" and not of_call:
         ways.append(("on", "workflow_dispatch", what))
     found: dict[str, Declaration] = {}

@@ -9,7 +9,7 @@ from .expressions import CHAIN, LINK, expressions_in
 from .paths import is_workflow
 from .project import Project
 from .syntax import CONDITIONS
-from .text import Places, Point, Span
+from .text import Places, Point, Span, end_of
 from .tree import Node, Path, walk
 
 # Strings in expressions. Those in square brackets are names.
@@ -116,13 +116,13 @@ class _Finder:
             if len(path) == 2 and path[0] == "jobs":
                 return Symbol("job", self.file, "", name)
             if len(path) == 4 and path[0] == "on" and path[2] in ("inputs", "outputs", "secrets"):
-                return Symbol(path[2].removesuffix("s"), self.file, "", name)
+                return Symbol(str(path[2]).removesuffix("s"), self.file, "", name)
             if len(path) == 4 and path[0] == "jobs" and path[2] == "outputs":
                 return Symbol("output", self.file, str(path[1]).lower(), name)
             if path[:1] == ("jobs",) and path[2:4] == ("strategy", "matrix") and self._is_row(path[4:]):
                 return Symbol("row", self.file, str(path[1]).lower(), name)
         elif len(path) == 2 and path[0] in ("inputs", "outputs"):
-            return Symbol(path[0].removesuffix("s"), self.file, "", name)
+            return Symbol(str(path[0]).removesuffix("s"), self.file, "", name)
         return None
 
     @staticmethod
@@ -223,5 +223,5 @@ class _Finder:
     def _inner(self, node: Node) -> Span:
         """The place of a scalar without its anchor and its quotes."""
         start, end = self._places.offset(node.span.start), self._places.offset(node.span.end)
-        start = PROPERTY.match(self.text, start, end).end() if node.anchor else start
+        start = end_of(PROPERTY, self.text, start, end) if node.anchor else start
         return self._places.span(start + 1, end - 1) if node.style in ("'", '"') else self._places.span(start, end)

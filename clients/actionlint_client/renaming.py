@@ -4,7 +4,7 @@ from __future__ import annotations
 import re
 from collections import Counter
 
-from .fixes import Trial
+from .fixes import Counted, Trial
 from .folder import Program
 from .project import Project
 from .references import Occurrence, Symbol, all_of, occurrence_at
@@ -57,7 +57,7 @@ def _refuse_faults(program: Program, project: Project, symbol: Symbol, edits: di
     except (LinterEnded, ReportTooLong) as error:
         raise Refusal("the linter can't be asked whether the name makes a fault") from error
     named = re.compile(rf"(?<=[\"./]){re.escape(symbol.name)}(?=[\"./])", re.I)
-    renamed = before | Counter({(path, named.sub(lambda _: name, message)): count for (path, message), count in before.items()})
+    renamed: Counted = before | Counter({(path, named.sub(lambda _: name, message)): count for (path, message), count in before.items()})
     gained = sorted(after - renamed)
     if gained:
         path, message = gained[0]

@@ -59,7 +59,7 @@ class Nodes:
         if tree is None:
             return
         self.values[tree.span.start] = Found((), None, tree, tree)
-        parents = {(): tree}
+        parents: dict[Path, Node] = {(): tree}
         for path, key, value in walk(tree):
             parents[path] = value
             found = Found(path, key, value, parents[path[:-1]])

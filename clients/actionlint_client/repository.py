@@ -13,6 +13,7 @@ from .folder import Folder, Result
 from .positions import Lines
 from .project import Project
 from .problems import Problem
+from .protocol import Position, Range
 from .report import Fault
 from .script_checks import ScriptChecks
 from .uris import uri_of
@@ -63,7 +64,7 @@ class Document:
         elif self._earlier is not None and self._earlier.data != data:
             self._earlier = self._earlier.in_text(data)
 
-    def faults_in(self, wanted: dict, with_earlier: bool = False) -> list[tuple[Fault, dict]]:
+    def faults_in(self, wanted: Range, with_earlier: bool = False) -> list[tuple[Fault, Range]]:
         """The faults that touch a range, each with its own range."""
         lines = self.lines()
         faults = self.faults() + (self.earlier().faults if with_earlier else ())
@@ -82,7 +83,7 @@ class Repository:
     result: Result = NOTHING
     documents: dict[str, Document] = field(default_factory=dict)
     _touched: set[str] = field(default_factory=set)
-    _shown: dict[str, tuple] = field(default_factory=dict)
+    _shown: dict[str, tuple[object, ...]] = field(default_factory=dict)
     _told: set[str] = field(default_factory=set)
 
     @cached_property
@@ -171,5 +172,5 @@ class Repository:
         return self.checks.notes((self.root, path), self.folder.data_of(path))
 
 
-def _key(position: dict) -> tuple[int, int]:
+def _key(position: Position) -> tuple[int, int]:
     return position["line"], position["character"]

@@ -22,7 +22,7 @@ class Sarif(Form):
 
     def __init__(self, out: BinaryIO, docs: str | None):
         super().__init__(out, docs)
-        self._rules: dict[str, dict] = {}
+        self._rules: dict[str, dict[str, object]] = {}
         self._results = 0
 
     tells_failure = True
@@ -51,7 +51,7 @@ class Sarif(Form):
             driver["informationUri"] = self.docs
         self.write(f'],\n"tool": {json_text({"driver": driver}, indent=1)},\n"invocations": {json_text([invocation])}\n}}]}}\n')
 
-    def _result(self, problem: Problem) -> dict:
+    def _result(self, problem: Problem) -> dict[str, object]:
         """A result. Adds its rule if it is new."""
         fault = problem.fault
         if problem.code not in self._rules:
@@ -67,7 +67,7 @@ def left_out_line(count: int) -> str:
     return f"{count} more were left out: GitHub takes {MAX_RESULTS} results of a run"
 
 
-def _rule(problem: Problem, docs: str | None) -> dict:
+def _rule(problem: Problem, docs: str | None) -> dict[str, object]:
     """The reporting descriptor of a code."""
     entry = problem.entry
     level = problem.level if problem.is_note() else ERROR
@@ -83,6 +83,6 @@ def _rule(problem: Problem, docs: str | None) -> dict:
     return rule
 
 
-def _message(text: str) -> dict:
+def _message(text: str) -> dict[str, str]:
     """A message's text, in which brackets are escaped, since they would be links (3.11.6)."""
     return {"text": SPECIAL.sub(r"\\\g<0>", "\n".join(map(shown, text.split("\n"))))}

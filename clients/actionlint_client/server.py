@@ -9,7 +9,7 @@ import resource
 import sys
 from functools import partial
 from pathlib import Path
-from typing import BinaryIO, Callable
+from typing import Any, BinaryIO, Callable
 
 from pylsp_jsonrpc.endpoint import Endpoint
 from pylsp_jsonrpc.exceptions import JsonRpcException, JsonRpcInvalidRequest, JsonRpcMethodNotFound, JsonRpcServerError
@@ -23,6 +23,9 @@ from .folder import Folder, Program
 from .hover import Hover
 from .messages import Messages, Wake
 from .navigation import Navigation
+from .protocol import (Capabilities, Feature, FileEvent, Handler, InitializeResult, Message, TextDocumentContentChangeEvent,
+                       TextDocumentIdentifier, TextDocumentItem, VersionedTextDocumentIdentifier, WorkspaceFolder,
+                       WorkspaceFoldersChangeEvent)
 from .repository import Repository
 from .script_checks import ScriptChecks
 from .symbols import Symbols
@@ -54,7 +57,7 @@ class Server:
         self._workspace = Workspace(
             lambda root: Repository(root, Folder(root, program, self._editor.say, keeps_calls=shows_earlier), shows_earlier, self._checks),
             self._editor, diagnostics)
-        self._features = (
+        self._features: tuple[Feature, ...] = (
             Completion(self._workspace, self._editor),
             Hover(self._workspace, self._editor, docs),
             CodeActions(self._workspace, diagnostics, self._editor, program),
@@ -63,7 +66,7 @@ class Server:
         )
         self._named: list[bytes] = []
         self._is_initialized = self._is_shut_down = False
-        self._handlers: dict[str, Callable] = {
+        self._handlers: dict[str, Handler] = {
             "initialize": self._initialize,
             "initialized": self._start,
             "shutdown": self._shut_down,
@@ -100,7 +103,7 @@ class Server:
         self._workspace.end()
         return 0 if self._is_shut_down else 1
 
-    def _take(self, message: dict | JsonRpcException) -> None:
+    def _take(self, message: Message | JsonRpcException) -> None:
         """Lets the endpoint take a message, or answers what is none."""
         if isinstance(message, JsonRpcException):
             self._send({"jsonrpc": "2.0", "id": None, "error": message.to_dict()})
@@ -112,11 +115,11 @@ class Server:
         except Exception:
             logging.exception("a message could not be taken")
 
-    def __getitem__(self, method: str) -> Callable[[dict | None], object]:
+    def __getitem__(self, method: str) -> Callable[[dict[str, Any] | None], object]:
         """What the endpoint calls with the parameters of a message."""
         return partial(self._handle, method)
 
-    def _handle(self, method: str, parameters: dict | None) -> object:
+    def _handle(self, method: str, parameters: dict[str, Any] | None) -> object:
         """Answers a request, or handles a notification. Raises JsonRpcException if the method is unknown, or may not be called now."""
         if not self._is_initialized and method != "initialize":
             raise JsonRpcServerError(f"{method} comes before initialize", SERVER_NOT_INITIALIZED)
@@ -126,14 +129,15 @@ class Server:
             raise JsonRpcMethodNotFound.of(method)
         return self._handlers[method](**(parameters or {}))
 
-    def _initialize(self, rootUri=None, rootPath=None, workspaceFolders=None, capabilities=None, initializationOptions=None, **_) -> dict:
+    def _initialize(self, rootUri: str | None = None, rootPath: str | None = None, workspaceFolders: list[WorkspaceFolder] | None = None,
+                    capabilities: Capabilities | None = None, initializationOptions: object = None, **_: object) -> InitializeResult:
         uris = [folder["uri"] for folder in workspaceFolders or []] or ([rootUri] if rootUri else [])
         self._named = _paths_of(uris)
         if not uris and rootPath:
             self._named = [os.path.abspath(os.fsencode(rootPath))]
         self._editor.take_capabilities(capabilities)
         self._take_options(initializationOptions)
-        told = {
+        told: Capabilities = {
             "textDocumentSync": {"openClose": True, "change": FULL_TEXT, "save": {"includeText": False}},
             "workspace": {"workspaceFolders": {"supported": True, "changeNotifications": True}},
         }
@@ -148,31 +152,32 @@ class Server:
         if isinstance(given, bool):
             self._checks.is_on = given
 
-    def _start(self, **_) -> None:
+    def _start(self, **_: object) -> None:
         if self._editor.watches():
             self._editor.ask_to_watch()
         self._workspace.add_folders(self._named)
 
-    def _shut_down(self, **_) -> None:
+    def _shut_down(self, **_: object) -> None:
         self._is_shut_down = True
 
-    def _open(self, textDocument, **_) -> None:
+    def _open(self, textDocument: TextDocumentItem, **_: object) -> None:
         self._workspace.open(textDocument["uri"], textDocument.get("version"), _bytes_of(textDocument["text"]))
 
-    def _change(self, textDocument, contentChanges, **_) -> None:
+    def _change(self, textDocument: VersionedTextDocumentIdentifier, contentChanges: list[TextDocumentContentChangeEvent],
+                **_: object) -> None:
         if contentChanges:
             self._workspace.change(textDocument["uri"], textDocument.get("version"), _bytes_of(contentChanges[-1]["text"]))
 
-    def _save(self, **_) -> None:
+    def _save(self, **_: object) -> None:
         self._workspace.rescan()
 
-    def _close(self, textDocument, **_) -> None:
+    def _close(self, textDocument: TextDocumentIdentifier, **_: object) -> None:
         self._workspace.close(textDocument["uri"])
 
-    def _take_changed_files(self, changes, **_) -> None:
+    def _take_changed_files(self, changes: list[FileEvent], **_: object) -> None:
         self._workspace.take_changed_files([change["uri"] for change in changes])
 
-    def _take_changed_folders(self, event, **_) -> None:
+    def _take_changed_folders(self, event: WorkspaceFoldersChangeEvent, **_: object) -> None:
         self._workspace.add_folders(_paths_of([folder["uri"] for folder in event.get("added") or []]))
         self._workspace.remove_folders(set(_paths_of([folder["uri"] for folder in event.get("removed") or []])))
 

@@ -3,9 +3,9 @@ from __future__ import annotations
 
 from dataclasses import dataclass, field
 from functools import cached_property
-from typing import Iterator, Union
+from typing import Any, Iterator, Union
 
-import yaml
+import yaml  # type: ignore[import]
 
 from .text import Point, Span
 
@@ -16,7 +16,7 @@ NO_BREAKS = str.maketrans("\x85\u2028\u2029", "???")
 STARTS = {yaml.MappingStartEvent: "mapping", yaml.SequenceStartEvent: "sequence"}
 ENDS = (yaml.MappingEndEvent, yaml.SequenceEndEvent)
 # The entries and the items of scalars.
-NOTHING: list = []
+NOTHING: list[Any] = []
 
 Path = tuple[Union[str, int], ...]
 
