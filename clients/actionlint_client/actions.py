@@ -7,7 +7,7 @@ from .diagnostics import Diagnostics
 from .editor import Editor
 from .folder import Program
 from .positions import range_of_span
-from .protocol import Capabilities, CodeAction, CodeActionContext, CreateFile, Handler, Range, TextDocumentEdit, TextDocumentIdentifier, WorkspaceEdit
+from .protocol import Capabilities, CodeAction, CodeActionContext, CreateFile, Handler, Range, TextDocumentEdit, TextDocumentIdentifier, TextEdit, WorkspaceEdit
 from .repair import Edit
 from .repository import Document, Repository
 from .text import Point, Span
@@ -39,10 +39,13 @@ class CodeActions:
                 "edit": workspace_edit(document.repository, fix.repair.edits, fix.repair.new_files)}
 
 
+def text_edit(repository: Repository, path: str, edit: Edit) -> TextEdit:
+    return {"range": range_of_span(repository.project.lines(path), edit.span), "newText": edit.text}
+
+
 def workspace_edit(repository: Repository, edits: dict[str, tuple[Edit, ...]], new_files: dict[str, str] = {}) -> WorkspaceEdit:
     """Edits and new files as a WorkspaceEdit."""
-    changes = {repository.uri(path): [{"range": range_of_span(repository.project.lines(path), edit.span), "newText": edit.text}
-                                      for edit in some] for path, some in edits.items()}
+    changes = {repository.uri(path): [text_edit(repository, path, edit) for edit in some] for path, some in edits.items()}
     if not new_files:
         return {"changes": changes}
     start = range_of_span([""], Span.at(Point(0, 0)))
@@ -51,4 +54,5 @@ def workspace_edit(repository: Repository, edits: dict[str, tuple[Edit, ...]], n
         uri = repository.uri(path)
         made += [{"kind": "create", "uri": uri, "options": {"ignoreIfExists": True}},
                  {"textDocument": {"uri": uri, "version": None}, "edits": [{"range": start, "newText": text}]}]
-    return {"documentChanges": made + [{"textDocument": {"uri": uri, "version": None}, "edits": some} for uri, some in changes.items()]}
+    made += [{"textDocument": {"uri": uri, "version": None}, "edits": some} for uri, some in changes.items()]
+    return {"documentChanges": made}

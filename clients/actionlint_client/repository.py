@@ -79,7 +79,8 @@ class Repository:
     root: bytes
     folder: Folder
     shows_earlier: bool
-    checks: ScriptChecks
+    # (off, unless others are given)
+    checks: ScriptChecks = field(default_factory=lambda: ScriptChecks(lambda: None))
     result: Result = NOTHING
     documents: dict[str, Document] = field(default_factory=dict)
     _touched: set[str] = field(default_factory=set)

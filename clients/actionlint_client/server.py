@@ -57,13 +57,13 @@ class Server:
         self._workspace = Workspace(
             lambda root: Repository(root, Folder(root, program, self._editor.say, keeps_calls=shows_earlier), shows_earlier, self._checks),
             self._editor, diagnostics)
-        self._features: tuple[Feature, ...] = (
+        self._features: list[Feature] = [
             Completion(self._workspace, self._editor),
             Hover(self._workspace, self._editor, docs),
             CodeActions(self._workspace, diagnostics, self._editor, program),
             Navigation(self._workspace, program),
             Symbols(self._workspace),
-        )
+        ]
         self._named: list[bytes] = []
         self._is_initialized = self._is_shut_down = False
         self._handlers: dict[str, Handler] = {

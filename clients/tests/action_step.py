@@ -95,7 +95,7 @@ def nothing_to_write_sarif_with(program: str) -> None:
     runner = Runner(program, FILES)
     os.mkdir(runner.root + "/bin")
     for command in ("bash", "sh", "env", "head", "od", "tr"):
-        os.symlink(shutil.which(command), f"{runner.root}/bin/{command}")
+        os.symlink(str(shutil.which(command)), f"{runner.root}/bin/{command}")
     status, lines = runner.step(sarif="faults.sarif", path=runner.root + "/bin")
     assert status == 3 and "python3" in lines[2] and any(UNDEFINED in line for line in lines[3:-2]), lines
     assert runner.step(path=runner.root + "/bin")[0] == 1

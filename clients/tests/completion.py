@@ -166,7 +166,7 @@ STILL_LACKING = (" is missing", " is required here")
 TOKEN = re.compile(r"[\w./-]+")
 # Places with what must be offered there, the first offer first, and what must not be.
 JOB = "on: push\njobs:\n  a:\n    runs-on: u\n    steps:\n      - {id: one, run: make}\n      - {id: two, run: make}\n  b:\n    needs: a\n"
-PLACES = {
+PLACES: dict[str, tuple[str, set[str], set[str]]] = {
     "keys of a workflow, needed ones first": ("|", {"on", "jobs", "name", "permissions"}, {"runs-on", "steps"}),
     "those that aren't there yet": ("on: push\n|\njobs: {}\n", {"env", "defaults"}, {"on", "jobs"}),
     "keys of a job": (JOB + "    |", {"runs-on", "uses", "strategy"}, {"needs", "on", "run"}),

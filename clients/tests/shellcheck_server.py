@@ -116,7 +116,7 @@ def off_unless_asked_for(program: str) -> None:
         with tempfile.TemporaryDirectory(prefix="actionlint-test-") as folder:
             write(folder, {"bin/shellcheck": WRAPPER.format(folder=folder), "log": ""})
             os.chmod(folder + "/bin/shellcheck", 0o755)
-            editor = start(program, {FILE: RIGHT}, words=words, options=options,
+            editor = start(program, {FILE: RIGHT}, words=words, settings=options,
                            environment={**os.environ, "PATH": f"{folder}/bin:{os.environ['PATH']}"})
             editor.open(FILE, NOTED)
             editor.settle()
@@ -127,7 +127,7 @@ def off_unless_asked_for(program: str) -> None:
                 time.sleep(1)
             assert editor.quit() == 0
             assert (starts(folder) > 0) == is_on, (words, options)
-            shutil.rmtree(os.fsdecode(editor.root or b""))
+            shutil.rmtree(editor.root)
 
 
 @CASES.case
@@ -176,11 +176,10 @@ def the_end_of_the_server(program: str) -> None:
             if is_polite:
                 assert editor.quit() == 0
             else:
-                assert editor.child.stdin
                 editor.child.stdin.close()
                 editor.child.wait(HANG_SECONDS)
             wait_until(lambda: are_gone(processes), "something still runs")
-            shutil.rmtree(os.fsdecode(editor.root or b""))
+            shutil.rmtree(editor.root)
 
 
 @CASES.case
