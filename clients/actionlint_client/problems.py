@@ -85,7 +85,7 @@ def first_sentence(text: str) -> str:
 def _follows(problem: Problem, context: str) -> bool:
     """Whether the fault comes after a context's name and a dot or a bracket."""
     before = problem.line()[:problem.fault.column - 1].rstrip(" '[.").rstrip()
-    return before.lower().endswith(context)
+    return bool(before.lower().endswith(context))
 
 
 def _lacks_ref(problem: Problem, uses: str) -> bool:
@@ -97,7 +97,7 @@ def _wants(wanted: str) -> Callable[..., bool]:
     bracket or a comma."""
     def fits(problem: Problem, key: str) -> bool:
         before = problem.line()[:problem.fault.column - 1].rstrip()
-        return bool(problem.line()) and wanted_under(key) == wanted and (not before or before.endswith(":"))
+        return bool(problem.line()) and wanted_under(key) == wanted and before[-1:] in ("", ":")
     return fits
 
 
@@ -105,10 +105,10 @@ SLIPS = (
     Slip("K2", lambda problem, key: key in ("run", "uses"), "A step needs `run` or `uses`."),
     Slip("K4", _wants("list"), "A list is expected, with each entry on its own line after a dash."),
     Slip("K4", _wants("mapping"), "A mapping is expected, as lines of the form `KEY: VALUE`."),
-    Slip("K5", lambda problem, key: key == "on", "`on` needs an event."),
+    Slip("K5", lambda problem, key: bool(key == "on"), "`on` needs an event."),
     Slip("K5", _wants("number"), "A number is expected, without quotes."),
     Slip("K5", _wants("flag"), "`true` or `false` is expected, without quotes."),
-    Slip("G3", lambda problem, pattern: pattern.removeprefix("!").startswith("./"),
+    Slip("G3", lambda problem, pattern: bool(pattern.removeprefix("!").startswith("./")),
          "Paths begin at the repository's root, without `./` in front."),
     Slip("X13", lambda problem, name: _follows(problem, "needs"), "A job must list in its own `needs` each job whose results it reads."),
     Slip("C7", _lacks_ref, "An action or a workflow in another repository needs `@REF` at its end: a branch, a tag or a commit."),

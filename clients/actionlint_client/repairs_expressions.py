@@ -7,7 +7,7 @@ from typing import Callable, Iterable, NamedTuple
 
 from .expressions import CHAIN, NAME, STRING, links
 from .repair import NEEDS_QUOTES, Case, Repair, as_scalar, is_within_flow
-from .text import Point, Span
+from .text import Point, Span, end_of
 
 BRACES = re.compile(r"\$\{\{(.*?)\}\}", re.S)
 DOUBLE_QUOTED = re.compile(r'\\?"([^"\\]*)\\?"')
@@ -19,6 +19,9 @@ METHOD = re.compile(rf"(?<![\w.-])({NAME}(?:\.{NAME})*?)\.(contains|startsWith|e
 AMONG = re.compile(rf"(?<![\w.-])({NAME}(?:\.{NAME})*)\s+in\s+[\[(]([^\])]*)[\])]")
 LIST_ARGUMENT = re.compile(r"\(\s*\[([^\]]*)\]\s*,")
 CALL_OF_CHOICE = re.compile(r"\b(?:case|iif|if|ternary|choose)\s*\(")
+# What a word consists of, before a fault and after it.
+AROUND = re.compile(r"[^\s'\"()=!,]*")
+AROUND_OR_BRACE = re.compile(r"[^\s'\"()=!,}]*")
 ARGUMENTS = re.compile(r"(?:'(?:[^']|'')*'|[^()']|\((?:[^()']|'[^']*')*\))*")
 ARGUMENT = re.compile(r"(?:'(?:[^']|'')*'|\((?:[^()']|'[^']*')*\)|[^,()'])+")
 MAX_CONDITION_CHARACTERS = 5_000
@@ -149,8 +152,8 @@ def _chosen_by_call(text: str) -> str | None:
 
 def _arguments(text: str, start: int) -> tuple[list[str], int]:
     """The arguments of a call that begin at an offset, and the offset after them."""
-    match = ARGUMENTS.match(text, start)
-    return [part.strip() for part in ARGUMENT.findall(match[0])], match.end()
+    end = end_of(ARGUMENTS, text, start)
+    return [part.strip() for part in ARGUMENT.findall(text[start:end])], end
 
 
 chosen_by_call = rewritten('write "&&" and "||"', _chosen_by_call)
@@ -158,10 +161,10 @@ chosen_by_call = rewritten('write "&&" and "||"', _chosen_by_call)
 
 def _formatted(text: str) -> str | None:
     """`a + 'b'` as a call of format. Without a string it may be a sum, which expressions don't have."""
-    def call(match: re.Match) -> str:
+    def call(match: re.Match[str]) -> str:
         parts = [part.strip() for part in re.split(r"\s*\+\s*", match[0])]
         if not any(part.startswith("'") for part in parts):
-            return match[0]
+            return str(match[0])
         return f"format('{''.join('{%d}' % number for number in range(len(parts)))}', {', '.join(parts)})"
     return SUM.sub(call, text)
 
@@ -230,8 +233,8 @@ def word_as_text(case: Case) -> Iterable[Repair]:
     """The text around the fault, up to the nearest spaces, in quotes."""
     expression = expression_of(case)
     line, column = case.line, case.span.start.column
-    start = column - len(re.search(r"[^\s'\"()=!,]*$", line[:column])[0])
-    end = column + len(re.match(r"[^\s'\"()=!,}]*", line[column:])[0])
+    start = column - end_of(AROUND, line[:column][::-1], 0)
+    end = end_of(AROUND_OR_BRACE, line, column)
     if expression and start < end:
         span = Span.on_line(case.span.start.line, start, end)
         yield case.replace("put it in quotes", in_yaml(f"'{line[start:end]}'", expression), span)
@@ -289,7 +292,8 @@ def fewer_arguments(case: Case) -> Iterable[Repair]:
     span = Span.on_line(case.span.start.line, start, end)
     if end < 0:
         return
-    for changed in (parts[:-1], parts[:-2], [], [*parts, empty], [*parts, empty, empty]):
+    changes: tuple[list[str], ...] = (parts[:-1], parts[:-2], [], [*parts, empty], [*parts, empty, empty])
+    for changed in changes:
         yield case.replace("give it as many arguments as it takes", ", ".join(changed), span)
 
 

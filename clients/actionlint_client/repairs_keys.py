@@ -12,7 +12,7 @@ from .repairs_yaml import DASH_WITHOUT_SPACE
 from .stricter import takes_filter
 from .syntax import table
 from .text import Point, Span
-from .tree import Node, last_line, walk
+from .tree import Node, Path, last_line, walk
 
 JOB = "build:\n  runs-on: ubuntu-latest\n  steps:\n    - run: make"
 # The values of missing keys.
@@ -321,7 +321,8 @@ def _without_merge(case: Case) -> Iterable[Repair]:
     """The alias alone if a mapping has nothing but `<<`, otherwise what the alias stands for in its place."""
     if case.tree is None:
         return
-    parents = {(): case.tree, **{path: value for path, _, value in walk(case.tree)}}
+    parents: dict[Path, Node] = {(): case.tree}
+    parents.update((path, value) for path, _, value in walk(case.tree))
     edits = []
     for path, key, value in walk(case.tree):
         parent = parents[path[:-1]]

@@ -96,7 +96,7 @@ def other_property(case: Case) -> Iterable[Repair]:
         yield case.replace(f'change to "{meant}"', meant)
 
 
-def _braces(case: Case) -> tuple[re.Match, Span] | None:
+def _braces(case: Case) -> tuple[re.Match[str], Span] | None:
     """The braces around the fault with their contents, and their place."""
     match = next((match for match in BRACES.finditer(case.line) if match.start() <= case.span.start.column < match.end()), None)
     return (match, Span.on_line(case.span.start.line, match.start(), match.end())) if match else None
@@ -206,7 +206,7 @@ def declared_input(case: Case) -> Iterable[Repair]:
     if not chain or chain[0].lower() != "inputs" or case.tree is None:
         return
     name = case.arguments[0]
-    ways = [("on", "workflow_dispatch"), ("on", "workflow_call")] if is_workflow(case.file) else [()]
+    ways: list[Path] = [("on", "workflow_dispatch"), ("on", "workflow_call")] if is_workflow(case.file) else [()]
     for way in ways:
         yield from _declaring(case, way, name, f'declare the input "{name}"')
     on = case.tree.get("on")
@@ -292,16 +292,16 @@ def _secret_variable(chain: tuple[str, ...]) -> tuple[str, str]:
 def _moved_to_steps(case: Case, chain: tuple[str, ...], span: Span) -> Iterable[Repair]:
     """The condition of a job, moved to each of its steps, with a variable of the job in place of a secret."""
     job = case.at("jobs", case.job or "")
-    condition, steps = (job.key("if"), job.get("steps")) if job else (None, None)
-    if not job or condition is None or steps is None or any(step.get("if") for step in steps.items):
+    key, condition, steps = (job.key("if"), job.get("if"), job.get("steps")) if job else (None, None, None)
+    if not job or key is None or condition is None or steps is None or any(step.get("if") for step in steps.items):
         return
-    text, variable = case.slice(job.get("if").span), []
+    text, variable = case.slice(condition.span), []
     if chain[0].lower() == "secrets" and job.get("runs-on") and job.get("env") is None:
         name, entry = _secret_variable(chain)
         text = text.replace(case.slice(span), f"env.{name}")
         variable = [next_entry(case, job, "runs-on", f"env: {{{entry}}}" if job.is_flow else f"env:\n  {entry}")]
     edits = [first_entry(case, step, f"if: {text}") for step in steps.items if step.kind == "mapping"]
-    yield case.of("put the condition on the steps", without_entry(case, job, condition), *variable, *edits)
+    yield case.of("put the condition on the steps", without_entry(case, job, key), *variable, *edits)
 
 
 def moved_variable(case: Case) -> Iterable[Repair]:
@@ -319,9 +319,10 @@ def moved_variable(case: Case) -> Iterable[Repair]:
             edits.append(first_entry(case, env, flow_entry if env.is_flow else entry))
         elif env is None:
             edits.append(first_entry(case, step, f"env: {{{flow_entry}}}" if step.is_flow else f"env:\n  {entry}"))
-    if not edits:
+    whole = job.key("env")
+    if not edits or whole is None:
         return
-    removed = without_entry(case, here.parent, here.key) if len(here.parent.entries) > 1 else without_entry(case, job, job.key("env"))
+    removed = without_entry(case, here.parent, here.key) if len(here.parent.entries) > 1 else without_entry(case, job, whole)
     yield case.of("move it to the steps", removed, *edits)
 
 
@@ -346,7 +347,7 @@ def by_variable(case: Case) -> Iterable[Repair]:
         yield case.of(f'pass it in the variable "{name}"', next_entry(case, here.parent, "run", text), edit)
 
 
-def _shell_variable(case: Case, match: re.Match, name: str, shell: str) -> str | None:
+def _shell_variable(case: Case, match: re.Match[str], name: str, shell: str) -> str | None:
     before = case.line[:match.start()]
     if shell in POWERSHELLS:
         return f"$env:{name}"

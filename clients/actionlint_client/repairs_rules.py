@@ -103,11 +103,11 @@ def _bounded(field: str, most: int) -> str:
     """A field in which values above the greatest one wrap around to the least."""
     least = 1 if most in (31, 12) else 0
 
-    def bounded(match: re.Match) -> str:
+    def bounded(match: re.Match[str]) -> str:
         value = int(match[0])
         if match.start() and field[match.start() - 1] == "/":
             return str(min(max(value, 1), most))
-        return match[0] if least <= value <= most else str(max(value % (most + 1), least))
+        return str(match[0]) if least <= value <= most else str(max(value % (most + 1), least))
     return re.sub(r"\d+", bounded, field)
 
 
@@ -169,11 +169,13 @@ def without_need(case: Case) -> Iterable[Repair]:
         return
     title = f'take "{here.value.value}" out of "needs"'
     job = case.at("jobs", case.job)
-    needs = job.get("needs") if job else None
-    if needs and needs.kind == "scalar" or needs and len(needs.items) == 1:
+    key, needs = (job.key("needs"), job.get("needs")) if job else (None, None)
+    if job is None or key is None or needs is None:
+        return
+    if needs.kind == "scalar" or len(needs.items) == 1:
         if len(job.entries) > 1:
-            yield case.of(title, without_entry(case, job, job.key("needs")))
-    elif needs:
+            yield case.of(title, without_entry(case, job, key))
+    else:
         yield case.of(title, _without_item(case, needs, here.value))
 
 
@@ -245,7 +247,7 @@ def written_to_file(case: Case) -> Iterable[Repair]:
                 yield case.replace(f"append to {FILES[command]}", text, span)
 
 
-def _appended(match: re.Match, command: str, shell: str) -> str | None:
+def _appended(match: re.Match[str], command: str, shell: str) -> str | None:
     file = FILES[command]
     named = f"{match['name']}=" if command != "add-path" else ""
     quote = match["quote"] or '"'

@@ -7,7 +7,7 @@ from typing import Callable, Iterable
 from .expressions import expressions_in
 from .repair import Case, Edit, Repair, quoted
 from .repairs_expressions import chosen
-from .text import Point, Span
+from .text import Point, Span, end_of
 
 FLOW_ITEM = re.compile(r"[^,\[\]{}]*")
 COLON_WITHOUT_SPACE = re.compile(r"^ *(?:- +)?[A-Za-z_][\w-]*:(?=[^\s/:])")
@@ -43,7 +43,7 @@ def _quoted_item(case: Case) -> Iterable[Repair]:
     start = max(line.rfind(sign, 0, text_start) for sign in "[{,") + 1
     key = KEY_IN_BRACKETS.match(line, start)
     start = key.end() if key and key.end() <= text_start else start + len(line[start:]) - len(line[start:].lstrip())
-    ends = [FLOW_ITEM.match(line, max(column + 1, start)).end(), *(match.end() for match in re.finditer(r"\}\}", line)),
+    ends = [end_of(FLOW_ITEM, line, max(column + 1, start)), *(match.end() for match in re.finditer(r"\}\}", line)),
             line.find(", ", column), line.rfind("]")]
     for end in dict.fromkeys(end for end in ends if end > column):
         text = line[start:end].rstrip()
@@ -136,9 +136,9 @@ def spaces_for_tabs(case: Case) -> Iterable[Repair]:
         if edits:
             yield case.of("replace tabs by spaces", *edits)
     indent = next((len(line) - len(line.lstrip(" ")) for line in reversed(case.lines[:case.span.start.line]) if line.strip()), 0)
-    head = Span.on_line(case.span.start.line, 0, len(case.line) - len(case.line.lstrip(" \t")))
+    span = Span.on_line(case.span.start.line, 0, len(case.line) - len(case.line.lstrip(" \t")))
     for spaces in (indent, indent + 2):
-        yield case.replace("replace tabs by spaces", " " * spaces, head)
+        yield case.replace("replace tabs by spaces", " " * spaces, span)
 
 
 def script_in_lines(case: Case) -> Iterable[Repair]:
