@@ -85,4 +85,5 @@ def _rule(problem: Problem, docs: str | None) -> dict[str, object]:
 
 def _message(text: str) -> dict[str, str]:
     """A message's text, in which brackets are escaped, since they would be links (3.11.6)."""
-    return {"text": SPECIAL.sub(r"\\\g<0>", "\n".join(map(shown, text.split("\n"))))}
+    text = "\n".join(map(shown, text.split("\n")))
+    return {"text": SPECIAL.sub(r"\\\g<0>", text)}

@@ -76,7 +76,7 @@ ABOUT_OTHERS = {"[ a = main ]": ["SC2050"], "[ a -eq 1 ]": ["SC2170", "SC2050"],
 # In place of shellcheck: ends itself at some scripts, and at others leaves a process that doesn't end and keeps its output open.
 WRAPPER = """#!/bin/sh
 if grep -q 'kill it' words; then kill -9 $$; fi
-if grep -q 'leave it' words; then cd '{folder}'; sleep 600 & sleep 600; fi
+if grep -q 'leave it' words; then cd '{folder}'; sleep 120 & sleep 120; fi
 exec /usr/bin/shellcheck "$@"
 """
 HANG_SECONDS = 120
@@ -188,6 +188,9 @@ def what_stands_in_place_of_an_expression(program: str) -> None:
         assert codes_of(script) == [], (script, codes_of(script))
     for script, codes in ABOUT_OTHERS.items():
         assert codes_of(script) == codes, (script, codes_of(script))
+    found = notes_on("for ${{ a }} in b c; do\n          :\n          done\n          echo $x\n")
+    assert [(one.code, one.fault.line, one.fault.column) for one in found] == [("SC2086", 10, 16)], "a variable can't be there"
+    assert codes_of("source ./lib.sh\n          echo \"$FROM_ENV\"") == [], "files and variables come from elsewhere"
     found = notes_on('[ "${{ a }}" = b ] && echo $x\n')
     assert [(one.code, one.fault.column) for one in found] == [("SC2086", 38)], found
 
@@ -242,7 +245,7 @@ def each_file_once(program: str) -> None:
     with tempfile.TemporaryDirectory(prefix="actionlint-test-") as folder:
         write(folder, {FILE: STEPS + "      - uses: ./a\n" * 3 + "      - uses: ./a/\n", WORKFLOWS + "b.yml": STEPS + "      - uses: ./a\n" * 2,
                        "a/action.yml": action})
-        for words in ((), ("--", FILE), ("--", FILE, "./" + FILE, FILE), ("--", "a/action.yml", FILE)):
+        for words in ((), ("--", FILE), ("--", FILE, "./" + FILE, FILE), ("--", "a/action.yml", FILE), ("--", "a/action.yml", "./a/action.yml", "a/action.yml")):
             _, found, errors = run(program, folder, *words)
             assert [(one["path"], one["code"]) for one in found] == [("a/action.yml", "SC2086")] and not errors, (words, found, errors)
 

@@ -28,7 +28,7 @@ HANG_SECONDS = 60
 # In place of shellcheck: it notes that it was started, and doesn't end at some scripts.
 WRAPPER = """#!/bin/sh
 echo started >> '{folder}/log'
-if grep -q 'leave it' words; then sleep 600 & sleep 600; fi
+if grep -q 'leave it' words; then sleep 120 & sleep 120; fi
 exec /usr/bin/shellcheck "$@"
 """
 
@@ -122,9 +122,8 @@ def off_unless_asked_for(program: str) -> None:
             editor.settle()
             if is_on:
                 wait_until(lambda: bool(notes(editor, FILE)), f"no notes: {words} {options}")
-            else:
-                # (a wrong server would begin within this time)
-                time.sleep(1)
+            # Besides the first thread and the one that reads messages, the one that has scripts checked.
+            assert len(os.listdir(f"/proc/{editor.child.pid}/task")) == (3 if is_on else 2), (words, options)
             assert editor.quit() == 0
             assert (starts(folder) > 0) == is_on, (words, options)
             shutil.rmtree(editor.root)
@@ -200,14 +199,32 @@ def without_shellcheck(program: str) -> None:
 
 
 @CASES.case
-def what_is_no_yaml(program: str) -> None:
-    """A text that the linter can't read isn't checked."""
+def a_shellcheck_that_fails(program: str) -> None:
+    """What it says is told once, however often it fails."""
     with tempfile.TemporaryDirectory(prefix="actionlint-test-") as folder:
         editor = start_with(program, folder)
-        editor.open(FILE, NOTED + "name: 'x\n")
+        write(folder, {"bin/shellcheck": f"#!/bin/sh\necho started >> '{folder}/log'\necho no libraries >&2\nexit 127\n"})
+        for number in range(1, 5):
+            editor.open(FILE, NOTED) if number == 1 else editor.change(FILE, NOTED + "#\n" * number)
+            wait_until(lambda: starts(folder) == number and not check_of(editor), "not checked")
+            # (what a check says is told before the next one begins)
+            wait_until(lambda: bool(editor.messages), "nothing is said")
+        editor.settle()
+        assert editor.messages == ["actionlint: shellcheck ended with status 127: no libraries"], editor.messages
+        end(editor)
+
+
+@CASES.case
+def what_is_no_yaml(program: str) -> None:
+    """A text that the linter can't read isn't checked, even if PyYAML can."""
+    with tempfile.TemporaryDirectory(prefix="actionlint-test-") as folder:
+        editor = start_with(program, folder)
+        editor.open(FILE, NOTED.replace("on: push", "on: [push, pull_request: x]"))
         editor.open(OTHER, NOTED)
+        # (the first that is opened would be checked first)
         wait_until(lambda: bool(notes(editor, OTHER)), "no notes")
-        assert starts(folder) == 1 and not notes(editor, FILE)
+        assert starts(folder) == 1 and not notes(editor, FILE), editor.diagnostics()
+        assert [one["code"][0] for one in editor.diagnostics()[FILE]] == ["Y"], editor.diagnostics()
         end(editor)
 
 

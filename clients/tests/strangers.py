@@ -166,6 +166,10 @@ inputs:
     default: "`[x](command:y)`"
   "![p]({EVIL})":
     description: plain words
+  "hidden\\u202e":
+    description: plain words
+  "good`[x](command:y)":
+    description: plain words
 outputs:
   "o`[x](command:y)":
     description: "{HOSTILE}"
@@ -188,7 +192,7 @@ def markdown_texts(value: object) -> list[str]:
 
 def answers(editor: Editor) -> list[Any]:
     """What completion and hovers answer at each third place of the text that is open."""
-    text = steps("- uses: ./act", "  id: a", "  with:", "    good: 1", "    ", "- run: echo ${{ steps.a.outputs.x }}", "- uses: ./act")
+    text = steps("- uses: ./act", "  id: a", "  with:", "    good: 1", "    good`[x](command:y): 1", "    ", "- run: echo ${{ steps.a.outputs.x }}", "- uses: ./act")
     editor.open(FILE, text)
     found = []
     for number, line in enumerate(text.split("\n")):
