@@ -7,7 +7,8 @@ from .diagnostics import Diagnostics
 from .editor import Editor
 from .folder import Program
 from .positions import range_of_span
-from .protocol import Capabilities, CodeAction, CodeActionContext, CreateFile, Handler, Range, TextDocumentEdit, TextDocumentIdentifier, TextEdit, WorkspaceEdit
+from .protocol import (Capabilities, CodeAction, CodeActionContext, CreateFile, Handler, Range, TextDocumentEdit, TextDocumentIdentifier,
+                       TextEdit, WorkspaceEdit)
 from .repair import Edit
 from .repository import Document, Repository
 from .text import Point, Span

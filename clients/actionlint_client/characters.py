@@ -5,8 +5,8 @@ from __future__ import annotations
 import json
 import re
 
-# Controls except those of ASCII below 32; soft hyphen; marks, embeddings, overrides and isolates of direction; separators; what has no width
-# (a joiner between two pictures makes one picture of them); invisible operators and fillers; tags.
+# Controls except those of ASCII below 32; soft hyphen; marks, embeddings, overrides and isolates of direction; separators; what has no
+# width (a joiner between two pictures makes one picture of them); invisible operators and fillers; tags.
 HIDDEN = ("\x7f-\x9f\xad\u061c\u115f\u1160\u17b4\u17b5\u180b-\u180f\u200b\u200c\u200e\u200f\u2028-\u202e\u2060-\u206f\u3164\ufeff\uffa0"
           "\ufff0-\ufffb\U0001bca0-\U0001bca3\U0001d173-\U0001d17a\U000e0000-\U000e0fff")
 PICTURE = "[\u2190-\u2bff\U0001f000-\U0001faff]"
@@ -14,8 +14,8 @@ JOINER = f"(?<![\ufe0f\u2190-\u2bff\U0001f000-\U0001faff])\u200d|\u200d(?!{PICTU
 IN_JSON = re.compile(f"[{HIDDEN}\u200d]|(?<=#)#")
 IN_A_NAME = re.compile(f"[\x00-\x1f{HIDDEN}]|{JOINER}")
 IN_A_LINE = re.compile(f"[\x00-\x08\x0a-\x1f{HIDDEN}]|{JOINER}")
-# GitHub's runner obeys a line that begins with `::`, after blanks, or contains `##[`, Azure's one that contains `##vso[`, and TeamCity's one
-# that contains `##teamcity[`.
+# GitHub's runner obeys a line that begins with `::`, after blanks, or contains `##[`, Azure's one that contains `##vso[`, and TeamCity's
+# one that contains `##teamcity[`.
 COMMAND = re.compile(r"(?<=#)#(?=\w*\[)|\A\s*:(?=:)")
 
 

@@ -257,7 +257,8 @@ def _jobs(cursor: Cursor) -> list[Offer]:
     if tree is None:
         return []
     barred = files.dependents(tree, job) | (set(tree.texts("jobs", job, "needs")) - {cursor.place.word})
-    return [Offer(name, "value", name, "job", escaped_or_none(tree.text("jobs", name, "name"))) for name in tree.names("jobs") if name not in barred]
+    return [Offer(name, "value", name, "job", escaped_or_none(tree.text("jobs", name, "name"))) for name in tree.names("jobs")
+            if name not in barred]
 
 
 def _workflows(cursor: Cursor) -> list[Offer]:

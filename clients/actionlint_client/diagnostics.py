@@ -35,8 +35,9 @@ class Diagnostics:
 
     def of_fault(self, lines: Lines, fault: Fault) -> Diagnostic:
         problem = problem_of(fault)
-        diagnostic: Diagnostic = {"range": lines.range_of(fault), "severity": SEVERITIES[problem.level], "source": SOURCE, "code": problem.code,
-                      "message": f"{shown(fault.message)} [{fault.kind}]", "data": {"kind": fault.kind}}
+        diagnostic: Diagnostic = {
+            "range": lines.range_of(fault), "severity": SEVERITIES[problem.level], "source": SOURCE, "code": problem.code,
+            "message": f"{shown(fault.message)} [{fault.kind}]", "data": {"kind": fault.kind}}
         if link := problem.link_in(self._docs):
             diagnostic["codeDescription"] = {"href": link}
         return diagnostic
@@ -50,8 +51,9 @@ class Diagnostics:
 
 def of_note(lines: Lines, note: Problem) -> Diagnostic:
     """A note of shellcheck, or why it has none on a script."""
-    told: Diagnostic = {"range": lines.range_of(note.fault), "severity": INFORMATION if note.level == NOTE else WARNING, "source": note.fault.kind,
-            "message": shown(note.fault.message), "data": {"kind": note.fault.kind}}
+    told: Diagnostic = {
+        "range": lines.range_of(note.fault), "severity": INFORMATION if note.level == NOTE else WARNING,
+        "source": note.fault.kind, "message": shown(note.fault.message), "data": {"kind": note.fault.kind}}
     if note.code and note.link:
         told["code"], told["codeDescription"] = note.code, {"href": note.link}
     return told

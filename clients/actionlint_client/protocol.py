@@ -1,4 +1,4 @@
-"""The messages of the Language Server Protocol 3.17 and their parts, as far as the server reads or writes them. The names are the protocol's.
+"""The messages of the Language Server Protocol 3.17 and their parts, as far as the server reads or writes them, with the protocol's names.
 
 What an editor sends is only as good as the editor: a type says what the protocol promises, not what was checked.
 """

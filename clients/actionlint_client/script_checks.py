@@ -52,8 +52,8 @@ class Wanted(NamedTuple):
 
 
 class ScriptChecks:
-    """The notes on the last text of each open file, made by a thread and a process while the server works. `wake` is called, by that thread,
-    when there are new ones, or none since shellcheck can't be run. It is off until `is_on` is set."""
+    """The notes on the last text of each open file, made by a thread and a process while the server works. `wake` is called, by that
+    thread, when there are new ones, or none since shellcheck can't be run. It is off until `is_on` is set."""
 
     def __init__(self, wake: Callable[[], None]):
         self.is_on = False

@@ -27,9 +27,9 @@ class NotRead(Exception):
 
 @dataclass(frozen=True)
 class Script:
-    """A script for `bash` or `sh`, and whether the shell ends at the first command that fails. In `text` a word of the same length stands in
-    place of each expression, and in `with_variables` a variable. `offsets` has the place in the file's text of each character and of the
-    end; `lines` has the starts of its lines."""
+    """A script for `bash` or `sh`, and whether the shell ends at the first command that fails. In `text` a word of the same length stands
+    in place of each expression, and in `with_variables` a variable. `offsets` has the place in the file's text of each character and of
+    the end; `lines` has the starts of its lines."""
 
     shell: str
     ends_at_failure: bool

@@ -3,7 +3,8 @@ from __future__ import annotations
 
 from .asked import Asked, asked
 from .characters import shown
-from .protocol import Capabilities, DocumentLink, DocumentSymbol, FoldingRange, Handler, SymbolInformation, TextDocumentIdentifier
+from .protocol import (Capabilities, DocumentLink, DocumentSymbol, FoldingRange, Handler, SymbolInformation,
+                       TextDocumentIdentifier)
 from .structure import Part, folds, links, part_of
 from .text import Point
 from .workspace import Workspace
@@ -15,8 +16,9 @@ START = Point(0, 0)
 
 
 class Symbols:
-    capabilities: Capabilities = {"documentSymbolProvider": True, "workspaceSymbolProvider": True, "documentLinkProvider": {"resolveProvider": False},
-                    "foldingRangeProvider": True}
+    capabilities: Capabilities = {
+        "documentSymbolProvider": True, "workspaceSymbolProvider": True, "documentLinkProvider": {"resolveProvider": False},
+        "foldingRangeProvider": True}
 
     def __init__(self, workspace: Workspace):
         self._workspace = workspace

@@ -64,14 +64,17 @@ AS_RUN: dict[str | None, list[str]] = {
     None: [], "bash": [], "sh": [], "bash -e {0}": [], "bash -euo pipefail {0}": [], "sh -x -e {0}": [], "/bin/bash -o errexit {0}": [],
     "bash {0}": ["SC2164", "SC2103"], "bash --norc -o pipefail {0}": ["SC2164", "SC2103"], "sh -x {0}": ["SC2164", "SC2103"],
     "bash --noprofile --norc {0}": ["SC2164", "SC2103"]}
-# Scripts whose only oddities would be those of a word or of a variable: SC2050, 2170, 2193, 2268, 2195, 2222, 2043, 2157, 2078, 2086, 2016 ..
+# Scripts whose only oddities would be those of a word or of a variable: SC2050, 2170, 2193, 2268, 2222, 2043, 2157, 2078, 2086, 2016 ..
 ABOUT_EXPRESSIONS = (
     '[ "${{ a }}" = main ]', "[ ${{ a }} -eq 1 ]", "[ ${{ a }} = xyz ]", '[ "x${{ a }}" = "x" ]', "test ${{ a }} == true",
     'case ${{ a }} in b) echo c ;; esac', 'case "$1" in ${{ a }}) echo a ;; ${{ b }}) echo b ;; esac', '[ -n "${{ a }}" ]', "[ ${{ a }} ]",
-    'for i in ${{ a }}; do echo "$i"; done', 'for i in "${{ a }}"; do echo "$i"; done', '[[ ${{ a }} == "${{ b }}" ]]', "[[ ${{ a }} =~ ^v ]]",
-    "echo ${{ a }}", "echo '${{ a }}'", 'printf "${{ a }}"', "rm -rf ${{ a }}/b", "source ${{ a }}", "exit ${{ a }}", "while ${{ a }}; do :; done",
+    'for i in ${{ a }}; do echo "$i"; done', 'for i in "${{ a }}"; do echo "$i"; done',
+    '[[ ${{ a }} == "${{ b }}" ]]', "[[ ${{ a }} =~ ^v ]]",
+    "echo ${{ a }}", "echo '${{ a }}'", 'printf "${{ a }}"', "rm -rf ${{ a }}/b",
+    "source ${{ a }}", "exit ${{ a }}", "while ${{ a }}; do :; done",
     "if [ ${{ a }} -gt ${{ b }} ]; then :; fi", 'echo "a "${{ a }}" b"', "cat <<< ${{ a }}", "for ${{ a }} in b c; do :; done")
-ABOUT_OTHERS = {"[ a = main ]": ["SC2050"], "[ a -eq 1 ]": ["SC2170", "SC2050"], "[ -n a ]": ["SC2157"], "for i in a; do echo \"$i\"; done": ["SC2043"],
+ABOUT_OTHERS = {"[ a = main ]": ["SC2050"], "[ a -eq 1 ]": ["SC2170", "SC2050"], "[ -n a ]": ["SC2157"],
+                "for i in a; do echo \"$i\"; done": ["SC2043"],
                 "case a in b) echo c ;; esac": ["SC2194"]}
 # In place of shellcheck: ends itself at some scripts, and at others leaves a process that doesn't end and keeps its output open.
 WRAPPER = """#!/bin/sh
@@ -85,7 +88,8 @@ HANG_SECONDS = 120
 def run(program: str, folder: str, *words: str, path: str = "") -> tuple[int, list[dict[str, Any]], str]:
     """The status, the lines of JSON and standard error. `path` comes before the usual PATH."""
     done = subprocess.run([sys.executable, REPORT, "--program", program, "--form", "jsonl", "--shellcheck", *words], cwd=folder,
-                          stdout=subprocess.PIPE, stderr=subprocess.PIPE, env={**os.environ, "PATH": path + os.environ["PATH"]}, check=False)
+                          env={**os.environ, "PATH": path + os.environ["PATH"]}, stdout=subprocess.PIPE, stderr=subprocess.PIPE,
+                          check=False)
     return done.returncode, [json.loads(line) for line in done.stdout.decode().splitlines()], done.stderr.decode()
 
 
@@ -206,8 +210,8 @@ def a_script_without_end(program: str) -> None:
         begun = time.monotonic()
         status, found, errors = run(program, folder)
         assert status == 1 and [(one["code"], one["line"]) for one in found] == [("X13", 6), ("SC2086", 7), ("SC2086", 12)], (found, errors)
-        assert errors == "".join(f"actionlint-report: {FILE}:{line}: no shellcheck of this script, since shellcheck took more than 4 seconds\n"
-                                 for line in (8, 10)), errors
+        why = "no shellcheck of this script, since shellcheck took more than 4 seconds"
+        assert errors == "".join(f"actionlint-report: {FILE}:{line}: {why}\n" for line in (8, 10)), errors
         assert time.monotonic() - begun < HANG_SECONDS
         assert running_in(folder) == []
 
@@ -230,7 +234,8 @@ def a_script_at_which_it_dies(program: str) -> None:
 def many_scripts_without_end(program: str) -> None:
     """After twelve, the rest isn't checked, and that is said."""
     with tempfile.TemporaryDirectory(prefix="actionlint-test-") as folder:
-        write(folder, {FILE: STEPS + "      - run: kill it\n" * 14 + "      - run: echo $x\n", "bin/shellcheck": WRAPPER.format(folder=folder)})
+        write(folder, {FILE: STEPS + "      - run: kill it\n" * 14 + "      - run: echo $x\n",
+                       "bin/shellcheck": WRAPPER.format(folder=folder)})
         os.chmod(folder + "/bin/shellcheck", 0o755)
         status, found, errors = run(program, folder, path=folder + "/bin:")
         *named, last = errors.splitlines()
@@ -243,9 +248,10 @@ def each_file_once(program: str) -> None:
     """However often a file is called, named or called by another spelling, its notes come once."""
     action = "name: a\ndescription: b\nruns:\n  using: composite\n  steps:\n    - run: echo $x\n      shell: sh\n"
     with tempfile.TemporaryDirectory(prefix="actionlint-test-") as folder:
-        write(folder, {FILE: STEPS + "      - uses: ./a\n" * 3 + "      - uses: ./a/\n", WORKFLOWS + "b.yml": STEPS + "      - uses: ./a\n" * 2,
-                       "a/action.yml": action})
-        for words in ((), ("--", FILE), ("--", FILE, "./" + FILE, FILE), ("--", "a/action.yml", FILE), ("--", "a/action.yml", "./a/action.yml", "a/action.yml")):
+        write(folder, {FILE: STEPS + "      - uses: ./a\n" * 3 + "      - uses: ./a/\n",
+                       WORKFLOWS + "b.yml": STEPS + "      - uses: ./a\n" * 2, "a/action.yml": action})
+        for words in ((), ("--", FILE), ("--", FILE, "./" + FILE, FILE), ("--", "a/action.yml", FILE),
+                      ("--", "a/action.yml", "./a/action.yml", "a/action.yml")):
             _, found, errors = run(program, folder, *words)
             assert [(one["path"], one["code"]) for one in found] == [("a/action.yml", "SC2086")] and not errors, (words, found, errors)
 

@@ -131,8 +131,8 @@ def off_unless_asked_for(program: str) -> None:
 
 @CASES.case
 def no_answer_waits(program: str) -> None:
-    """While shellcheck doesn't end, requests are answered and faults are shown. A change of the text ends the check and what it started, and
-    the new text is checked."""
+    """While shellcheck doesn't end, requests are answered and faults are shown. A change of the text ends the check and what it started,
+    and the new text is checked."""
     with tempfile.TemporaryDirectory(prefix="actionlint-test-") as folder:
         editor = start_with(program, folder, patient_server(folder))
         editor.open(FILE, NOTED + "      - run: leave it\n")
