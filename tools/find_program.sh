@@ -135,8 +135,9 @@ refuse() {
   exit 3
 }
 
-# Proves and builds the program, and runs it.
+# Proves and builds the program, and runs it. Without the kit, the reason is that alone if it was asked for.
 build() {
   if has python3 && has rt; then exec python3 "$top/tools/build.py" "$@"; fi
+  if [ "${1-}" = --build-anew ]; then why="nothing can be proved and built here"; fi
   refuse
 }

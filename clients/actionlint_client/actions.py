@@ -35,7 +35,7 @@ class CodeActions:
         return [self._action(document, fix) for fix in found if not fix.repair.new_files or self._editor.makes_files()]
 
     def _action(self, document: Document, fix: fixes.Fix) -> CodeAction:
-        return {"title": shown(fix.repair.title), "kind": "quickfix",
+        return {"title": shown(fix.repair.title), "kind": "quickfix", "isPreferred": fix.repair.is_safe,
                 "diagnostics": [self._diagnostics.of_fault(document.lines(), fix.fault)],
                 "edit": workspace_edit(document.repository, fix.repair.edits, fix.repair.new_files)}
 

@@ -8,14 +8,16 @@ from __future__ import annotations
 import argparse
 import os
 import sys
-from typing import BinaryIO
+import textwrap
+from typing import TYPE_CHECKING, BinaryIO, Iterable
 
 from . import library, shellcheck
+from .advice import FirstFixes
 from .characters import terminal_text
 from .console import add_help_and_version
 from .entries import entries, explained
-from .forms import Annotations, CodeQuality, Form, JsonLines, Outcome
-from .ignoring import Ignored, WrongRule, rules_in
+from .forms import Annotations, CodeQuality, Form, JsonLines, OneLine, Outcome
+from .ignoring import Ignored, Rule, WrongRule, is_note, rules_in
 from .lint_run import CANNOT_GO_ON, CannotStart, LintRun, ReportTooLong
 from .output import STANDARD_OUTPUT, report_output
 from .paths import path_of_word
@@ -23,11 +25,16 @@ from .problems import Problem, problem_of
 from .program import WHICH, find_program
 from .report import BadReport
 from .sarif import Sarif, left_out_line
-from .terminal import Text, has_color
+from .terminal import WIDTH, Text, has_color
+
+if TYPE_CHECKING:
+    from .applying import Request
 
 WRONG_WORDS = 2
+# What scripts and trees of files are read with.
+LIBRARY = "yaml.cyaml"
 FORMS: dict[str, type[Form]] = {
-    "sarif": Sarif, "codequality": CodeQuality, "jsonl": JsonLines, "github": Annotations, "text": Text}
+    "sarif": Sarif, "codequality": CodeQuality, "jsonl": JsonLines, "github": Annotations, "oneline": OneLine, "text": Text}
 
 
 class NoReport(Exception):
@@ -39,9 +46,16 @@ def main(words: list[str] | None = None) -> int:
     try:
         if options.explain is not None:
             return explain(options.explain)
-        if options.shellcheck and (said := library.missing(["yaml.cyaml"])):
-            return _fail(said)
+        is_needed = options.shellcheck or options.diff or options.fix
+        lacks = library.missing([LIBRARY]) if is_needed or FORMS[options.form].shows_fixes else ""
+        if is_needed and lacks:
+            return _fail(lacks)
+        # Without the library a report has no fixes.
+        options.shows_fixes = FORMS[options.form].shows_fixes and not lacks
         ignored = Ignored([*map(path_of_word, options.ignore), *(rule for file in options.ignore_file for rule in rules_in(file))])
+        if options.diff:
+            return _diff(options, ignored)
+        fixed_all = not options.fix or _fix(options, ignored)
         with report_output(options.out) as out:
             form, outcome = _report(options, ignored, out)
             if not (outcome.is_known() or form.tells_failure):
@@ -57,7 +71,40 @@ def main(words: list[str] | None = None) -> int:
     except OSError as error:
         return _fail(f"cannot write {options.out or 'standard output'}: {error.strerror}")
     _say(form, outcome)
-    return outcome.status
+    return outcome.status if fixed_all else CANNOT_GO_ON
+
+
+def _request(options: argparse.Namespace, ignored: Ignored) -> Request:
+    from .applying import Request
+
+    return Request(options.program, options.root, options.files, ignored, options.guesses)
+
+
+def _diff(options: argparse.Namespace, ignored: Ignored) -> int:
+    """Writes what the fixes would change. The status is that of the files as they are."""
+    from .applying import find_changes, write_diff
+
+    found = find_changes(_request(options, ignored), _print)
+    sys.stderr.write("".join(terminal_text(line) + "\n" for line in found.errors.splitlines()))
+    if found.status in (0, 1):
+        with report_output(options.out) as out:
+            write_diff(found, out, options.out is None and os.isatty(STANDARD_OUTPUT))
+        return 1 if found.faults else 0
+    return found.status
+
+
+def _fix(options: argparse.Namespace, ignored: Ignored) -> bool:
+    """Writes what the fixes change. Whether all of it could be written. (The report says if the linter can't go on.)"""
+    from .applying import find_changes, write_files
+
+    found = find_changes(_request(options, ignored), _print)
+    write_files(found, options.root, _print)
+    return not found.not_written
+
+
+def _print(line: str) -> None:
+    """Prints a line on standard error at once, since other programs may print there too."""
+    sys.stderr.write(f"actionlint-report: {terminal_text(line)}\n")
 
 
 def explain(code: str) -> int:
@@ -66,7 +113,11 @@ def explain(code: str) -> int:
     if entry is None:
         return _fail(f"{code!r} is not a fault code", WRONG_WORDS)
     with report_output(None) as out:
-        out.write(explained(entry).encode() + b"\n")
+        paragraphs = explained(entry).split("\n\n")
+        # (an example has several lines, or is indented)
+        wrapped = [one if "\n" in one or one.startswith(" ") else textwrap.fill(one, WIDTH, break_long_words=False, break_on_hyphens=False)
+                   for one in paragraphs]
+        out.write("\n\n".join(wrapped).encode() + b"\n")
     return 0
 
 
@@ -85,8 +136,7 @@ def _write(options: argparse.Namespace, ignored: Ignored, out: BinaryIO, snippet
     form.begin()
     unread: set[str] = set()
     with LintRun(options.program, options.root, options.files, snippets) as run:
-        for reported in run:
-            problem = problem_of(reported.fault, reported.snippet)
+        for problem in _problems(options, run):
             if problem.code.startswith("Y"):
                 unread.add(problem.fault.path)
             _tell(problem, form, ignored, outcome)
@@ -97,8 +147,16 @@ def _write(options: argparse.Namespace, ignored: Ignored, out: BinaryIO, snippet
             _tell(note, form, ignored, outcome)
     if outcome.is_known():
         outcome.status = 1 if outcome.files else 0
+        outcome.warnings += [f"{rule} ignores nothing" for rule in ignored.unused() if _could_be_used(rule, options)]
     form.end(outcome)
     return form, outcome
+
+
+def _problems(options: argparse.Namespace, run: LintRun) -> Iterable[Problem]:
+    """The faults of a run, with fixes if they are to be shown."""
+    problems = (problem_of(reported.fault, reported.snippet) for reported in run)
+    named = list(map(path_of_word, options.files))
+    return FirstFixes(options.program, options.root, named).add_to(problems) if options.shows_fixes else problems
 
 
 def _tell(problem: Problem, form: Form, ignored: Ignored, outcome: Outcome) -> None:
@@ -107,6 +165,13 @@ def _tell(problem: Problem, form: Form, ignored: Ignored, outcome: Outcome) -> N
     else:
         outcome.count(problem)
         form.add(problem)
+
+
+def _could_be_used(rule: Rule, options: argparse.Namespace) -> bool:
+    """Whether a rule would have ignored something if there was anything that it is about."""
+    if is_note(rule.code) and not options.shellcheck:
+        return False
+    return not options.files or rule.path in map(path_of_word, options.files)
 
 
 def _form(options: argparse.Namespace, out: BinaryIO) -> Form:
@@ -119,10 +184,12 @@ def _say(form: Form, outcome: Outcome) -> None:
     """Prints to standard error what the report doesn't say."""
     if not form.tells_errors:
         sys.stderr.write("".join(terminal_text(line) + "\n" for line in outcome.errors.splitlines()))
+        for warning in outcome.warnings:
+            _print(warning)
     if form.left_out:
-        print(f"actionlint-report: {left_out_line(form.left_out)}", file=sys.stderr)
+        _print(left_out_line(form.left_out))
     if outcome.ignored and not form.tells_count:
-        print(f"actionlint-report: {outcome.count_line()}", file=sys.stderr)
+        _print(outcome.count_line())
 
 
 def _options(words: list[str]) -> argparse.Namespace:
@@ -141,6 +208,10 @@ def _options(words: list[str]) -> argparse.Namespace:
     parser.add_argument("--ignore-file", metavar="FILE", action="append", default=[],
                         help="a file with a CODE[:PATH] on each line; may be repeated")
     parser.add_argument("--shellcheck", action="store_true", help="also show shellcheck's notes on scripts")
+    change = parser.add_mutually_exclusive_group()
+    change.add_argument("--diff", action="store_true", help="print what the safe fixes would change, as a patch, in place of a report")
+    change.add_argument("--fix", action="store_true", help="write what the safe fixes change, and report what is left")
+    parser.add_argument("--guesses", action="store_true", help="with --diff or --fix, take the first guess where no fix is safe")
     parser.add_argument("--explain", metavar="CODE", help="explain a fault, and lint nothing")
     parser.add_argument("files", nargs="*", metavar="FILE",
                         help="workflows and actions below DIR (default: all workflows, and what they call)")
@@ -149,11 +220,13 @@ def _options(words: list[str]) -> argparse.Namespace:
     options.files += words[end + 1:]
     if options.out == "":
         parser.error("argument --out: it names no file")
+    if options.guesses and not (options.diff or options.fix):
+        parser.error("argument --guesses: it needs --diff or --fix")
     options.program = find_program(options.program)
     options.docs = options.docs and options.docs.rstrip("/")
     return options
 
 
 def _fail(why: str, status: int = CANNOT_GO_ON) -> int:
-    print(f"actionlint-report: {terminal_text(why)}", file=sys.stderr)
+    _print(why)
     return status

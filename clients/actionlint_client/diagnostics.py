@@ -5,6 +5,7 @@ from typing import Iterable
 
 from .characters import shown
 from .faults import FileFaults
+from .ignoring import IgnoreFiles
 from .positions import Lines
 from .problems import NOTE, Problem, problem_of
 from .protocol import Diagnostic, Position
@@ -17,9 +18,10 @@ OF_EARLIER = "(of the last text that was YAML)"
 
 
 class Diagnostics:
-    def __init__(self, docs: str | None):
-        """`docs` is the address of the pages of faults, for links."""
+    def __init__(self, docs: str | None, ignored: IgnoreFiles | None = None):
+        """`docs` is the address of the pages of faults, for links; `ignored` are the faults that aren't shown."""
         self._docs = docs
+        self.ignored = ignored or IgnoreFiles(lambda _: None)
 
     def of_file(self, lines: Lines, found: FileFaults, earlier: FileFaults, refused: str | None,
                 notes: Iterable[Problem] = ()) -> list[Diagnostic]:

@@ -83,7 +83,14 @@ def title_of(entry: Entry) -> str:
 def explained(entry: Entry) -> str:
     """The entry as plain text, its examples indented."""
     parts = [f"{entry.code}: {title_of(entry)}", entry.text, f"Why it matters: {entry.why}", f"Repair: {entry.repair}"]
-    return EXAMPLE.sub(lambda found: re.sub("^(?=.)", "    ", found[1], flags=re.M), LINK.sub(r"\1", "\n\n".join(parts)))
+    text = LINK.sub(r"\1", PAGE_LINK.sub(_named_page, "\n\n".join(parts)))
+    return EXAMPLE.sub(lambda found: re.sub("^(?=.)", "    ", found[1], flags=re.M), text)
+
+
+def _named_page(link: re.Match[str]) -> str:
+    """A link to a page as a text that says which page it is, in the folder `docs`."""
+    text, page = link[1], link[2].partition("#")[0]
+    return f"docs/{page}" if text == page else f"{text} in docs/{page}" if page else text
 
 
 def markdown_of(entry: Entry, docs: str | None, messages: Sequence[str] = ()) -> str:

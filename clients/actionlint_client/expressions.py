@@ -180,7 +180,7 @@ class Scope:
             return [Property(name, "row of the matrix", escaped_or_none(", ".join(item.value for item in row.items[:8] if item.value)))
                     for name, row in rows.items()]
         name = _same(list(rows), names[0])
-        return [Property(key, "value of the matrix", None) for key in _common_keys(rows[name])] if name and len(names) == 1 else []
+        return [Property(key, "value of the matrix", None) for key in _keys_of_values(rows[name])] if name and len(names) == 1 else []
 
     def _inputs(self, names: tuple[str, ...]) -> list[Property]:
         return [property_of(one, "input") for one in files.declarations(self.file, self.tree, "inputs")] if not names else []
@@ -213,10 +213,6 @@ def _same(names: list[str], wanted: str) -> str | None:
     return next((name for name in names if name.lower() == wanted.lower()), None)
 
 
-def _common_keys(row: Node) -> list[str]:
-    """The keys that all entries of a row have, if they are mappings."""
-    if row.kind == "mapping":
-        return row.names()
-    if not row.items or any(item.kind != "mapping" for item in row.items):
-        return []
-    return [key for key in row.items[0].names() if all(key in item.names() for item in row.items)]
+def _keys_of_values(row: Node) -> list[str]:
+    """The keys that entries of a row have, those of all entries."""
+    return list(dict.fromkeys(key for item in (row.items or [row]) for key in item.names()))

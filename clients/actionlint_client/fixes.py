@@ -4,10 +4,13 @@ from __future__ import annotations
 import re
 import time
 from collections import Counter
+from dataclasses import replace
+from enum import Enum
 from itertools import islice
 from typing import Callable, Iterable, NamedTuple, Tuple
 
-from . import repairs_calls, repairs_expressions, repairs_keys, repairs_names, repairs_rules, repairs_yaml
+from . import (repairs_calls, repairs_expressions, repairs_keys, repairs_kinds, repairs_levels, repairs_names, repairs_rules,
+               repairs_scripts, repairs_values, repairs_yaml)
 from .disk import MAX_FILE_BYTES
 from .entries import entry_of
 from .paths import is_workflow
@@ -23,8 +26,11 @@ MAX_TRIED = 24
 MAX_SHOWN = 4
 MAX_FILES = 64
 MAX_REPORT_BYTES = 4 * 1_048_576
+# Faults of expressions that can't be read.
+UNREADABLE = ("X1", "X2", "X3", "X4", "X5", "X6", "X20")
 LOCAL_CALL = re.compile(r"\./[^\s'\"#,}\]]*")
-MODULES = (repairs_yaml, repairs_keys, repairs_rules, repairs_expressions, repairs_names, repairs_calls)
+MODULES = (repairs_yaml, repairs_levels, repairs_keys, repairs_kinds, repairs_rules, repairs_expressions, repairs_names, repairs_values,
+           repairs_scripts, repairs_calls)
 REPAIRS: dict[str, tuple[Callable[[Case], Iterable[Repair]], ...]] = {
     code: tuple(each for module in MODULES for each in module.REPAIRS.get(code, ())) for found in MODULES for code in found.REPAIRS}
 
@@ -48,15 +54,20 @@ def repairs(project: Project, fault: Fault) -> list[Repair]:
     case = Case(project, fault, entry)
     if len(case.line) > MAX_LINE_CHARACTERS:
         return []
-    found = [repair for each in REPAIRS[entry.code] for repair in each(case)]
-    return list({repr((one.edits, one.new_files)): one for one in reversed(found)}.values())[::-1][:MAX_TRIED]
+    found: dict[str, Repair] = {}
+    for repair in (repair for each in REPAIRS[entry.code] for repair in each(case)):
+        result = repr((repair.edits, repair.new_files))
+        if result not in found or repair.is_safe and not found[result].is_safe:
+            found[result] = repair
+    return list(found.values())[:MAX_TRIED]
 
 
-def fixes(words: list[str], timeout: float, project: Project, faults: Iterable[Fault], earlier: Iterable[Fault] = ()) -> list[Fix]:
-    """For the first 20 faults, the repairs after which the linter no longer reports the fault, and none that it didn't report before, as
-    many as can be tried in a second, and at least one. `words` start the linter. While a file isn't valid YAML, `earlier` are the faults
-    that it had when it last was; these may come back."""
-    deadline = time.monotonic() + MAX_SECONDS
+def fixes(words: list[str], timeout: float, project: Project, faults: Iterable[Fault], earlier: Iterable[Fault] = (),
+          seconds: float = MAX_SECONDS) -> list[Fix]:
+    """For the first 20 faults, the repairs after which the linter no longer reports the fault, and none that it didn't report before but
+    what the fault has hidden, as many as can be tried in some seconds, and at least one. One that shows what was hidden is a guess. `words`
+    start the linter. While a file isn't valid YAML, `earlier` are the faults that it had when it last was; these may come back."""
+    deadline = time.monotonic() + seconds
     mended: list[Fix] = []
     trial = None
     try:
@@ -70,8 +81,9 @@ def fixes(words: list[str], timeout: float, project: Project, faults: Iterable[F
                     trial.earlier = _counted(earlier)
                 elif time.monotonic() > deadline:
                     break
-                if trial.mends(repair, fault):
-                    right.append(repair)
+                result = trial.result(repair, fault)
+                if result is not Result.WRONG:
+                    right.append(repair if result is Result.CLEAN else replace(repair, is_safe=False))
             mended += [Fix(fault, repair) for repair in _to_show(right)]
     except (LinterEnded, ReportTooLong):
         pass
@@ -82,10 +94,23 @@ def fixes(words: list[str], timeout: float, project: Project, faults: Iterable[F
 
 
 def _to_show(found: list[Repair]) -> list[Repair]:
-    """The first repair with each title. Last resorts only if there are no others."""
-    better = [repair for repair in found if not repair.is_last_resort]
-    by_title = {repair.title: repair for repair in reversed(better or found)}
+    """The first repair with each title: the safe one, guesses, and guesses that delete something. Several safe ones are several readings,
+    so each is a guess; beside a single one nothing is deleted. Last resorts only if there are no others."""
+    better = [repair for repair in found if not repair.is_last_resort] or found
+    safe = sum(repair.is_safe for repair in better)
+    if safe > 1:
+        better = [replace(repair, is_safe=False) for repair in better]
+    in_order = sorted(better, key=lambda repair: (not repair.is_safe, repair.deletes))
+    by_title = {repair.title: repair for repair in reversed(in_order) if repair.is_safe or safe != 1 or not repair.deletes}
     return list(by_title.values())[::-1][:MAX_SHOWN]
+
+
+class Result(Enum):
+    """What a repair does: it leaves the fault or causes another one, it leaves neither, or it shows what the fault has hidden."""
+
+    WRONG = "wrong"
+    CLEAN = "clean"
+    UNCOVERS = "uncovers"
 
 
 class Trial:
@@ -101,20 +126,30 @@ class Trial:
         callers = [path for path in project.paths() if path != file and _calls(project, path, file)]
         self._include([file, *callers])
 
-    def mends(self, repair: Repair, fault: Fault) -> bool:
-        """Whether the report after a repair lacks the fault and has no new one."""
+    def result(self, repair: Repair, fault: Fault) -> Result:
+        """What the report after a repair says."""
         changed = {path: replaced(self.project.text(path), edits) for path, edits in repair.edits.items()}
-        after = self.faults_after(changed | repair.new_files)
+        after = self.report_after(changed | repair.new_files)
+        counted = _counted(after)
         key = fault.path, fault.message
-        return after[key] < self.before[key] and not after - self.before - self.earlier
+        new = counted - self.before - self.earlier
+        if counted[key] >= self.before[key]:
+            return Result.WRONG
+        if not new:
+            return Result.CLEAN
+        return Result.UNCOVERS if all(_was_hidden(one, fault, repair) for one in after if (one.path, one.message) in new) else Result.WRONG
 
     def faults_after(self, texts: dict[str, str]) -> Counted:
         """The faults if some files had other texts. The session is unchanged afterwards."""
+        return _counted(self.report_after(texts))
+
+    def report_after(self, texts: dict[str, str]) -> list[Fault]:
+        """The report if some files had other texts. The session is unchanged afterwards."""
         called = [path for text in texts.values() for path in self._called(text)]
         self._include([*(path for path in texts if self.project.has(path)), *called])
         for path, text in texts.items():
             self._put(path, text)
-        after = self.faults()
+        after = self.report()
         for path in texts:
             if path in self.texts:
                 self._put(path, self.texts[path])
@@ -123,7 +158,10 @@ class Trial:
         return after
 
     def faults(self) -> Counted:
-        return _counted(parse_report(self.session.report(MAX_REPORT_BYTES), False))
+        return _counted(self.report())
+
+    def report(self) -> list[Fault]:
+        return parse_report(self.session.report(MAX_REPORT_BYTES), False)
 
     def _include(self, paths: list[str]) -> None:
         """Puts files and what they call, one after another, if they aren't there yet and up to a limit."""
@@ -145,6 +183,20 @@ class Trial:
 
     def _put(self, path: str, text: str) -> None:
         self.session.put(path, text.encode("utf-8", "surrogatepass"))
+
+
+def _was_hidden(one: Fault, fault: Fault, repair: Repair) -> bool:
+    """Whether a fault was there before a repair, hidden by the repaired one: an expression that can't be read has no other fault, and a
+    file that isn't YAML has none on its other lines."""
+    code, hidden = (entry.code if (entry := entry_of(each.message)) else "" for each in (one, fault))
+    if one.path != fault.path or code in UNREADABLE or code[:1] in ("Y", "K"):
+        return False
+    if hidden in UNREADABLE:
+        return one.line == fault.line and code[:1] == "X" and code not in ("X7", "X9")
+    edits = repair.edits.get(fault.path, ())
+    touched = {line + 1 for edit in edits for line in range(edit.span.start.line, edit.span.end.line + 1)}
+    keeps_lines = all("\n" not in edit.text and edit.span.start.line == edit.span.end.line for edit in edits)
+    return hidden[:1] == "Y" and keeps_lines and one.line not in touched
 
 
 def _counted(faults: Iterable[Fault]) -> Counted:

@@ -6,17 +6,19 @@ from collections import Counter
 from dataclasses import dataclass, field
 from typing import BinaryIO
 
+from .advice import advice, sentence
 from .characters import json_text, log_text, shown, terminal_text
 from .problems import Problem
 
 
 @dataclass
 class Outcome:
-    """The result of a run: its status, what was printed on standard error, and how many faults and notes of shellcheck were reported, in
-    which files, and ignored."""
+    """The result of a run: its status, what was printed on standard error, what the user should know beside it, and how many faults and
+    notes of shellcheck were reported, in which files, and ignored."""
 
     status: int = 0
     errors: str = ""
+    warnings: list[str] = field(default_factory=list)
     faults: int = 0
     notes: int = 0
     ignored: int = 0
@@ -50,7 +52,8 @@ class Outcome:
 class Form:
     """Writes problems as they come. `docs` is the address of the pages of faults."""
 
-    # Whether the report has what was on standard error, the count, and the fact that the linter could not go on.
+    # Whether the report has fixes, what was on standard error and the warnings, the count, and the fact that the linter could not go on.
+    shows_fixes = True
     tells_errors = False
     tells_count = False
     tells_failure = False
@@ -74,14 +77,27 @@ class Form:
 
 
 class JsonLines(Form):
-    """A line of JSON for each problem. Lines and columns count from 1, in characters; `end_column` is one past the last."""
+    """A line of JSON for each problem. Lines and columns count from 1, in characters; `end_column` is one past the last. `fix` is the title
+    of the first fix."""
 
     def add(self, problem: Problem) -> None:
         fault = problem.fault
         self.write(json_text({
             "path": fault.path, "line": fault.line, "column": fault.column,
             "end_column": fault.column + fault.width if fault.width else None, "code": problem.code if problem.has_code() else None,
-            "kind": fault.kind, "level": problem.level, "message": shown(fault.message), "link": problem.link_in(self.docs)}) + "\n")
+            "kind": fault.kind, "level": problem.level, "message": shown(fault.message), "link": problem.link_in(self.docs),
+            "advice": sentence(problem) or None, "fix": problem.fix and shown(problem.fix.title),
+            "fix_is_safe": problem.fix and problem.fix.is_safe}) + "\n")
+
+
+class OneLine(Form):
+    """A line for each problem as the linter prints it with `--oneline`."""
+
+    shows_fixes = False
+
+    def add(self, problem: Problem) -> None:
+        fault = problem.fault
+        self.write(terminal_text(f"{fault.path}:{fault.line}:{fault.column}: {fault.message} [{fault.kind}]") + "\n")
 
 
 class CodeQuality(Form):
@@ -103,7 +119,8 @@ class CodeQuality(Form):
         self._seen[same] += 1
         self.write(separator + "\n" + json_text({
             "description": shown(fault.message), "check_name": problem.code, "fingerprint": _digest(same, str(self._seen[same])),
-            "severity": self.SEVERITIES[problem.level], "location": {"path": fault.path, "lines": {"begin": fault.line}}}))
+            "severity": self.SEVERITIES[problem.level], "location": {"path": fault.path, "lines": {"begin": fault.line}},
+            **({"content": {"body": "\n\n".join(map(shown, said))}} if (said := advice(problem)) else {})}))
 
     def end(self, outcome: Outcome) -> None:
         self.write("\n]\n" if self._seen else "]\n")
@@ -121,13 +138,14 @@ class Annotations(Form):
         place = {"file": fault.path, "line": fault.line, "endLine": fault.line, "col": fault.column}
         if fault.width:
             place["endColumn"] = fault.column + fault.width
-        near = problem.near()
-        said = [f"{fault.message} [{fault.kind}]", *([f'did you mean "{near}"?'] if near else []), problem.advice()]
-        self._command(self.COMMANDS[problem.level], {**place, "title": problem.code}, "\n".join(filter(None, said)))
+        self._command(self.COMMANDS[problem.level], {**place, "title": problem.code},
+                      "\n".join([f"{fault.message} [{fault.kind}]", *advice(problem)]))
 
     def end(self, outcome: Outcome) -> None:
         for line in outcome.errors.splitlines():
             self._command("error", {"title": "actionlint"}, line)
+        for warning in outcome.warnings:
+            self._command("warning", {"title": "actionlint"}, warning)
         self.write(outcome.count_line() + "\n")
 
     def _command(self, name: str, properties: dict[str, object], text: str) -> None:

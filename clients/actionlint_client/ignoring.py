@@ -1,11 +1,14 @@
 """Ignored faults: by code, in all files or in one."""
 from __future__ import annotations
 
+import os
 import re
-from typing import Iterable
+from typing import Callable, Iterable, NamedTuple
 
 from .entries import entries
-from .problems import Problem
+from .faults import NO_FAULTS, FileFaults
+from .problems import Problem, problem_of
+from .report import Fault
 
 NOTE = re.compile(r"SC\d{4}")
 MAX_FILE_BYTES = 1_048_576
@@ -15,27 +18,93 @@ class WrongRule(Exception):
     """A rule without a valid code or path, or a file of rules that can't be read."""
 
 
+class Rule(NamedTuple):
+    """A code, and the path of the only file in which its faults are ignored, or nothing for all files."""
+
+    code: str
+    path: str
+
+    def __str__(self) -> str:
+        return f"{self.code}:{self.path}" if self.path else self.code
+
+
 class Ignored:
     """Rules CODE and CODE:PATH. The code is in any case; the path is written as in a report."""
 
     def __init__(self, rules: Iterable[str]):
-        self._rules = set()
-        for rule in rules:
-            named, colon, path = rule.partition(":")
-            code = named.upper()
-            if not is_code(code):
-                raise WrongRule(f"{named!r} is not a fault code")
-            if colon and not path:
-                raise WrongRule(f"{rule!r} names no file")
-            self._rules.add((code, path))
+        self._rules = dict.fromkeys(map(_rule, rules))
+        self._used: set[Rule] = set()
 
     def has(self, problem: Problem) -> bool:
-        return (problem.code, "") in self._rules or (problem.code, problem.fault.path) in self._rules
+        """Whether a rule ignores the problem. The rules that do are no longer unused."""
+        found = {Rule(problem.code, ""), Rule(problem.code, problem.fault.path)} & self._rules.keys()
+        self._used |= found
+        return bool(found)
+
+    def has_fault(self, fault: Fault) -> bool:
+        return bool(self._rules) and self.has(problem_of(fault))
+
+    def without(self, found: FileFaults) -> FileFaults:
+        """The faults of a file that aren't ignored. Of those beyond the first ones only the number is known."""
+        if not self._rules:
+            return found
+        kept = tuple(fault for fault in found.faults if not self.has_fault(fault))
+        return FileFaults(kept, found.more) if kept or found.more else NO_FAULTS
+
+    def unused(self) -> list[Rule]:
+        """The rules that have ignored nothing so far."""
+        return [rule for rule in self._rules if rule not in self._used]
+
+
+def _rule(text: str) -> Rule:
+    named, colon, path = text.partition(":")
+    code = named.upper()
+    if not is_code(code):
+        raise WrongRule(f"{named!r} is not a fault code")
+    if colon and not path:
+        raise WrongRule(f"{text!r} names no file")
+    return Rule(code, path)
+
+
+def is_note(code: str) -> bool:
+    """Whether it is the code of a note of shellcheck."""
+    return NOTE.fullmatch(code) is not None
+
+
+class IgnoreFiles:
+    """The rules of some files, which are read again once they changed. If one can't be used, nothing is ignored."""
+
+    def __init__(self, say: Callable[[str], None]):
+        self.files: list[str] = []
+        self._say = say
+        self._stamps: list[tuple[int, ...]] = []
+        self._rules = Ignored(())
+
+    def rules(self) -> Ignored:
+        """The rules of the files as they are now, the same object as before if no file changed."""
+        stamps = list(map(_stamp, self.files))
+        if stamps != self._stamps:
+            self._stamps = stamps
+            try:
+                self._rules = Ignored(rule for file in self.files for rule in rules_in(file))
+            except WrongRule as error:
+                self._rules = Ignored(())
+                self._say(f"no fault is ignored: {error}")
+        return self._rules
+
+
+def _stamp(file: str) -> tuple[int, ...]:
+    """What differs once a file changed. Empty if it can't be looked at."""
+    try:
+        found = os.stat(file)
+    except (OSError, ValueError):
+        return ()
+    return found.st_mtime_ns, found.st_ctime_ns, found.st_size, found.st_dev, found.st_ino
 
 
 def is_code(text: str) -> bool:
     """Whether a text is the code of an entry or of a note of shellcheck."""
-    return NOTE.fullmatch(text) is not None or any(entry.code == text for entry in entries())
+    return is_note(text) or any(entry.code == text for entry in entries())
 
 
 def rules_in(file: str) -> list[str]:
@@ -46,6 +115,6 @@ def rules_in(file: str) -> list[str]:
         if len(data) > MAX_FILE_BYTES:
             raise WrongRule(f"{file} has more than {MAX_FILE_BYTES} bytes")
         lines = data.decode("utf-8-sig").splitlines()
-    except (OSError, UnicodeDecodeError) as error:
+    except (OSError, ValueError) as error:
         raise WrongRule(f"cannot read {file}: {getattr(error, 'strerror', None) or 'it is not UTF-8'}") from error
     return [line.strip() for line in lines if line.strip() and not line.lstrip().startswith("#")]

@@ -11,6 +11,8 @@ from .report import SHOWN_OF_A_LINE, SNIPPET_LINES, BadReport, Fault, marked_wid
 
 MAX_REPORT_BYTES = 64 * 1_048_576
 CANNOT_GO_ON = 3
+HELP = b"Checks the workflows and actions of a repository for faults."
+SECONDS_OF_HELP = 60
 
 
 class CannotStart(Exception):
@@ -37,6 +39,7 @@ class LintRun:
         words = [program, *([] if snippets else ["--oneline"]), *([f"--root={root}"] if root is not None else []), "--", *files]
         self.status = CANNOT_GO_ON
         self.errors = ""
+        self._program = program
         self._snippets = snippets
         self._said = tempfile.TemporaryFile()
         try:
@@ -71,6 +74,8 @@ class LintRun:
         if self.status in (0, 1) and self.status != has_faults:
             reported = "faults" if has_faults else f"none: {self.errors.strip()}"
             raise BadReport(f"it ended with status {self.status}, but reported {reported}")
+        if self.status == 0 and not _is_linter(self._program):
+            raise BadReport("its help isn't the linter's")
 
     def _group_length(self) -> int:
         """How many lines a fault has."""
@@ -104,3 +109,13 @@ class LintRun:
         elif status > CANNOT_GO_ON:
             self.errors = self.errors or f"actionlint: ended with status {status}\n"
         self.status = status if 0 <= status <= CANNOT_GO_ON else CANNOT_GO_ON
+
+
+def _is_linter(program: str) -> bool:
+    """Whether a program says so in its help. One that reports nothing, such as `true`, may be any."""
+    try:
+        said = subprocess.run([program, "--help"], stdin=subprocess.DEVNULL, stdout=subprocess.PIPE, stderr=subprocess.DEVNULL, check=False,
+                              timeout=SECONDS_OF_HELP).stdout
+    except (OSError, subprocess.TimeoutExpired):
+        return False
+    return said.startswith(HELP)

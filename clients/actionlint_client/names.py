@@ -3,16 +3,21 @@ from __future__ import annotations
 
 import difflib
 import json
+import re
 from functools import lru_cache
+from itertools import islice
 from pathlib import Path
 from typing import Iterable
-
-from .entries import argument_of, entry_of
 
 TABLE = Path(__file__).parent / "names.json"
 # Three fifths aren't enough: `main` would be like `matrix`.
 LEAST_LIKENESS = 0.61
 MAX_NAME_CHARACTERS = 100
+# Of which only so many names, and in words so long, are compared by letters.
+MAX_NAMES = 400
+MAX_WORD_CHARACTERS = 40
+SEPARATORS = re.compile(r"[-_. /]+")
+DIGITS = re.compile(r"\d+")
 
 # Of which names the argument of a fault should have been one.
 LISTS = {"G1": "events", "G2": "activity types", "G12": "shells", "G13": "permission scopes", "G14": "permission values",
@@ -33,9 +38,59 @@ def near(wrong: str, known: Iterable[str], count: int = 3, likeness: float = LEA
     return [plain[name] for name in difflib.get_close_matches(wrong.lower().replace("_", "-"), plain, count, likeness)]
 
 
-def near_name(message: str) -> str | None:
-    """The name most similar to the one in the message; None if it isn't about a known list, or no name is similar."""
-    entry, wrong = entry_of(message), argument_of(message)
-    if entry is None or entry.code not in LISTS or wrong is None:
+def misspelled(wrong: str, known: Iterable[str]) -> str | None:
+    """The only name that a wrong one can be a slip of: they differ in case, signs between words, a plural, or a letter or two of a word."""
+    if len(wrong) > MAX_NAME_CHARACTERS:
         return None
-    return next(iter(near(wrong, names()[LISTS[entry.code]], 1)), None)
+    found = [name for name in islice(dict.fromkeys(known), MAX_NAMES) if name != wrong and _is_slip(wrong, name)]
+    same = [name for name in found if _bare(name) == _bare(wrong)]
+    return found[0] if len(found) == 1 else same[0] if len(same) == 1 else None
+
+
+def likely(wrong: str, known: Iterable[str]) -> list[tuple[str, bool]]:
+    """The names that may be meant by a wrong one, and whether it is a slip of that name alone. Then no other is likely."""
+    names_ = list(islice(known, MAX_NAMES))
+    meant = misspelled(wrong, names_)
+    return [(meant, True)] if meant is not None else [(name, False) for name in near(wrong, names_)]
+
+
+def _bare(name: str) -> str:
+    return SEPARATORS.sub("", name.lower())
+
+
+def _is_slip(wrong: str, name: str) -> bool:
+    if _bare(wrong) == _bare(name):
+        return True
+    if DIGITS.findall(wrong) != DIGITS.findall(name):
+        return False
+    words, others = SEPARATORS.split(wrong.lower()), SEPARATORS.split(name.lower())
+    if len(words) != len(others):
+        return 1 in (len(words), len(others)) and " " not in wrong + name and _is_slip_of_word(_bare(wrong), _bare(name))
+    return all(_is_slip_of_word(word, other) for word, other in zip(words, others))
+
+
+def _is_slip_of_word(word: str, other: str) -> bool:
+    """Whether words are equal but for a plural or a few letters: one in a short word, two in a long one, none in one of two letters."""
+    short = min(len(word), len(other))
+    if word == other or short > 2 and (word in (other + "s", other + "es") or other in (word + "s", word + "es")):
+        return True
+    if short < 3 or short > MAX_WORD_CHARACTERS:
+        return False
+    changed = difference(word, other, 2)
+    return changed == 1 and (short > 3 or sorted(word) == sorted(other) or len(word) != len(other)) or changed == 2 and short >= 8
+
+
+def difference(one: str, other: str, most: int) -> int:
+    """How many letters are changed, inserted, deleted or swapped with the next one; `most` + 1 if they are more than `most`."""
+    if abs(len(one) - len(other)) > most:
+        return most + 1
+    rows = [list(range(len(other) + 1))]
+    for number, letter in enumerate(one, 1):
+        row = [number]
+        for column, sign in enumerate(other, 1):
+            count = min(rows[-1][column] + 1, row[-1] + 1, rows[-1][column - 1] + (letter != sign))
+            if number > 1 < column and letter == other[column - 2] and sign == one[number - 2]:
+                count = min(count, rows[-2][column - 2] + 1)
+            row.append(count)
+        rows.append(row)
+    return min(rows[-1][-1], most + 1)

@@ -20,6 +20,8 @@ def options(words: list[str] | None = None) -> argparse.Namespace:
     parser.add_argument("--no-earlier-faults", action="store_true",
                         help="while a file isn't valid YAML, don't keep showing its earlier faults")
     parser.add_argument("--shellcheck", action="store_true", help="also show shellcheck's notes on the scripts of open files")
+    parser.add_argument("--ignore-file", metavar="FILE", action="append", default=[],
+                        help="a file with a CODE[:PATH] on each line, of faults that aren't shown; may be repeated")
     parser.add_argument("--log", metavar="FILE", help="the file for error messages (default: standard error)")
     parser.add_argument("--timeout", metavar="SECONDS", type=_seconds, default=20.0,
                         help="how long the linter may take to answer (default: %(default)s)")

@@ -8,7 +8,7 @@ import select
 import shutil
 import stat
 import tempfile
-from contextlib import contextmanager
+from contextlib import contextmanager, suppress
 from typing import BinaryIO, Iterator, cast
 
 STANDARD_OUTPUT = 1
@@ -30,20 +30,25 @@ def report_output(file: str | None) -> Iterator[BinaryIO]:
         return
     folder, name = _open_folder(os.path.dirname(file)), os.path.basename(file)
     try:
-        with _replaced(folder, name) as opened:
+        _refuse_odd(folder, name)
+        with replaced_file(folder, name) as opened:
             yield opened
     finally:
         os.close(folder)
 
 
 @contextmanager
-def _replaced(folder: int, name: str) -> Iterator[BinaryIO]:
-    """A new file in a folder that gets the name at the end."""
-    _refuse_odd(folder, name)
+def replaced_file(folder: int, name: str, like: os.stat_result | None = None) -> Iterator[BinaryIO]:
+    """A new file in a folder that gets the name at the end, if the block ends without an exception. It has the mode of another file, and its
+    owner if possible."""
     beside = f".actionlint-report.{secrets.token_hex(8)}"
     handle = os.open(beside, NEW_FILE, 0o666, dir_fd=folder)
     try:
         with open(handle, "w+b") as opened:
+            if like is not None:
+                with suppress(PermissionError):
+                    os.fchown(handle, like.st_uid, like.st_gid)
+                os.fchmod(handle, stat.S_IMODE(like.st_mode))
             yield opened
         os.rename(beside, name, src_dir_fd=folder, dst_dir_fd=folder)
     except BaseException:
@@ -62,9 +67,11 @@ def _refuse_odd(folder: int, name: str) -> None:
 
 def _open_folder(path: str) -> int:
     """A folder. No link below the current folder is followed."""
-    if os.path.isabs(path):
-        return os.open(path, FOLDER)
-    folder = os.open(".", FOLDER)
+    return os.open(path, FOLDER) if os.path.isabs(path) else folder_below(os.open(".", FOLDER), path)
+
+
+def folder_below(folder: int, path: str) -> int:
+    """A folder below an open one, which is closed. No link is followed."""
     for part in path.split("/"):
         if part not in ("", "."):
             above = folder

@@ -8,18 +8,22 @@ from functools import cached_property
 from typing import Iterable, NamedTuple
 
 from .entries import Entry
+from .names import names
 from .paths import is_workflow
 from .place import Outline
 from .positions import BYTE_ORDER_MARK, WORD
 from .project import Project
 from .report import Fault
 from .shells import default_shell, shell_of
+from .stricter import is_refused_beside, takes_filter
+from .syntax import shape_at
 from .text import Places, Point, Span
 from .tree import Node, Path, last_line, walk
 
 NEEDS_QUOTES = re.compile(r"^[!&*\[\]{}|>@`%'\"#,?-]|: | #|:$")
 FLOW_SIGNS = re.compile(r"[\[\]{},]")
-COMMENT = re.compile(r"\s+#.*$|\s+$")
+COMMENT = re.compile(r"(?<!\s)\s+(?:#.*)?$")
+Levels = tuple[dict[str, str], ...]
 
 
 class Edit(NamedTuple):
@@ -31,12 +35,16 @@ class Edit(NamedTuple):
 
 @dataclass(frozen=True)
 class Repair:
-    """What can be done about a fault: edits by file, and new files. A last resort is offered only if nothing else repairs the fault."""
+    """What can be done about a fault: edits by file, and new files. A safe one means what was written, or is the only reading that the
+    fault leaves; any other is a guess. One that deletes something comes after all others. A last resort is offered only if nothing else
+    repairs the fault."""
 
     title: str
     edits: dict[str, tuple[Edit, ...]]
     new_files: dict[str, str] = field(default_factory=dict)
     is_last_resort: bool = False
+    is_safe: bool = False
+    deletes: bool = False
 
 
 class Found(NamedTuple):
@@ -116,24 +124,28 @@ class Case:
     @property
     def key(self) -> Found | None:
         """The entry whose key begins at the fault."""
-        return self._nodes.keys.get(self.span.start)
+        return self.nodes.keys.get(self.span.start)
 
     @property
     def value(self) -> Found | None:
         """The outermost node that begins at the fault."""
-        return self._nodes.values.get(self.span.start)
+        return self.nodes.values.get(self.span.start)
 
     @property
     def scalar(self) -> Found | None:
         """The scalar value that contains the fault."""
-        return self._nodes.scalar_at(self.span.start)
+        return self.nodes.scalar_at(self.span.start)
 
     @cached_property
-    def _nodes(self) -> Nodes:
+    def nodes(self) -> Nodes:
         known = self.project.memory.get(("nodes", self.file))
         if not isinstance(known, Nodes) or known.tree is not self.tree:
             known = self.project.memory["nodes", self.file] = Nodes(self.tree)
         return known
+
+    def levels(self, path: Path) -> Levels:
+        """The keys of each mapping on the way to a node."""
+        return levels_of(self.tree, path)
 
     def at(self, *path: str | int) -> Node | None:
         return self.tree.at(path) if self.tree else None
@@ -145,9 +157,9 @@ class Case:
         return str(path[1]) if is_workflow(self.file) and path[:1] == ("jobs",) and len(path) > 1 else None
 
     def shell_of(self, script: Found) -> str:
-        """The name of the shell of a step's script, bash if it isn't known."""
+        """The name of the shell of a step's script, or nothing if it isn't known."""
         assert self.tree
-        return shell_of(script.parent, default_shell(self.tree, self.at("jobs", self.job) if self.job else None)) or "bash"
+        return shell_of(script.parent, default_shell(self.tree, self.at("jobs", self.job) if self.job else None))
 
     def slice(self, span: Span) -> str:
         """The text of a span."""
@@ -158,13 +170,17 @@ class Case:
         lines[0] = lines[0][span.start.column:]
         return "\n".join(lines)
 
-    def of(self, title: str, *edits: Edit) -> Repair:
+    def of(self, title: str, *edits: Edit, is_safe: bool = False, deletes: bool = False) -> Repair:
         """A repair of this file alone."""
-        return Repair(title, {self.file: edits})
+        return Repair(title, {self.file: edits}, is_safe=is_safe, deletes=deletes)
 
-    def replace(self, title: str, text: str, span: Span | None = None) -> Repair:
+    def replace(self, title: str, text: str, span: Span | None = None, is_safe: bool = False, deletes: bool = False) -> Repair:
         """Replaces the text at the fault's place, or at another one."""
-        return self.of(title, Edit(span or self.span, text))
+        return self.of(title, Edit(span or self.span, text), is_safe=is_safe, deletes=deletes)
+
+    def known_keys(self, path: Path, beside: Iterable[str] = ()) -> list[str]:
+        """The keys that the mapping at a path can have beside others, by GitHub's syntax too."""
+        return known_keys(self.file, path, levels_of(self.tree, (*path, "")), set(beside))
 
     def rest_span(self, line: int) -> Span | None:
         """What follows the dashes and the key of a line, without a comment."""
@@ -176,6 +192,32 @@ class Case:
         start += len(text[start:]) - len(text[start:].lstrip())
         end = start + len(COMMENT.sub("", text[start:]))
         return Span.on_line(line, start, end) if end > start else None
+
+
+def known_keys(file: str, path: Path, levels: Levels, beside: set[str]) -> list[str]:
+    """The keys that the mapping at a path can have beside others, by GitHub's syntax too, except those that are there."""
+    shape = shape_at(file, path, levels)
+    if shape is None or "keys" not in shape:
+        return []
+    section, rows = str(shape["section"]), shape["keys"]
+    barred = {row["clash"] for key, row in rows.items() if key in beside} | beside
+    found = [key for key, row in rows.items() if key not in barred and row["clash"] not in beside
+             and not is_refused_beside(section, key, beside)]
+    if section == "event":
+        return [key for key in found if takes_filter(str(path[-1]), key)]
+    if section == "on":
+        found += [name for name in names()["events"] if name not in beside and name not in rows]
+    return found
+
+
+def levels_of(tree: Node | None, path: Path) -> Levels:
+    """The keys of each mapping on the way to a node, with the texts of their values."""
+    found: list[dict[str, str]] = []
+    node = tree
+    for step in path:
+        found.append({key.value: value.value for key, value in node.entries} if node else {})
+        node = node.at((step,)) if node else None
+    return tuple(found)
 
 
 def quoted(text: str) -> str:
@@ -206,6 +248,12 @@ def first_entry(case: Case, mapping: Node, entry: str) -> Edit:
     return Edit(Span.at(start), entry.replace("\n", indent) + indent)
 
 
+def entries_of(node: Node) -> str:
+    """How many entries a node has, in words for a title."""
+    count = len(node.entries) or len(node.items)
+    return "" if node.kind == "scalar" else f", with its {count} {'entry' if count == 1 else 'entries'}"
+
+
 def next_entry(case: Case, mapping: Node, key: str, entry: str) -> Edit:
     """A new entry after another one of a mapping."""
     name, value = next((name, value) for name, value in mapping.entries if name.value == key)
@@ -233,6 +281,29 @@ def without_entry(case: Case, mapping: Node, key: Node) -> Edit:
         return Edit(Span(Point(key.span.start.line, 0), Point(line + 1, 0)), "")
     above = max(key.span.start.line - 1, 0)
     return Edit(Span(Point(above, len(case.lines[above])), Point(line, len(case.lines[line]))), "")
+
+
+def without_key(case: Case, mapping: Node, name: str) -> Edit:
+    """A mapping without the entry that has a key, which isn't the only one."""
+    key = mapping.key(name)
+    assert key
+    return without_entry(case, mapping, key)
+
+
+def indented(case: Case, entries: Iterable[tuple[Node, Node]], by: str) -> list[Edit]:
+    """Edits that put a text before the lines of entries: for `- `, before the first line only, and as many spaces before the others."""
+    edits = []
+    for key, value in entries:
+        column = key.span.start.column if by.strip() else 0
+        lines = range(key.span.start.line, last_line(value, case.lines) + 1)
+        edits += [Edit(Span.at(Point(line, column)), by if line == lines[0] else " " * len(by)) for line in lines]
+    return edits
+
+
+def tight(case: Case, node: Node) -> Span:
+    """The span of a node without the lines after it."""
+    line = last_line(node, case.lines)
+    return node.span if node.span.end.line == line else Span(node.span.start, Point(line, len(case.lines[line])))
 
 
 def replaced(text: str, edits: Iterable[Edit]) -> str:

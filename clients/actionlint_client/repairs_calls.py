@@ -2,32 +2,50 @@
 from __future__ import annotations
 
 import re
+from collections import Counter
 from typing import Callable, Iterable
 
 from . import project as files
-from .names import near
+from .names import likely, misspelled
 from .paths import ACTION_NAMES, WORKFLOWS, is_workflow
-from .repair import Case, Edit, Repair, as_scalar, is_within_flow, next_entry, without_entry
-from .repairs_keys import deleted
+from .repair import Case, Edit, Found, Repair, as_scalar, entries_of, is_within_flow, next_entry, without_entry
+from .repairs_keys import deleted, moved_below
+from .repairs_names import as_secret
+from .repairs_kinds import as_flag, as_number
 from .text import Point, Span
-from .tree import Node
+from .tree import Node, Path
 
 CALLED = "on:\n  workflow_call:\njobs:\n  build:\n    runs-on: ubuntu-latest\n    steps:\n      - run: make\n"
+# A version of each of these actions that exists.
+VERSIONS = {
+    "actions/cache": "v4", "actions/checkout": "v4", "actions/configure-pages": "v5", "actions/deploy-pages": "v4",
+    "actions/download-artifact": "v4", "actions/github-script": "v7", "actions/labeler": "v5", "actions/setup-dotnet": "v4",
+    "actions/setup-go": "v5", "actions/setup-java": "v4", "actions/setup-node": "v4", "actions/setup-python": "v5", "actions/stale": "v9",
+    "actions/upload-artifact": "v4", "actions/upload-pages-artifact": "v3", "docker/build-push-action": "v6", "docker/login-action": "v3",
+    "docker/metadata-action": "v5", "docker/setup-buildx-action": "v3", "docker/setup-qemu-action": "v3",
+    "codecov/codecov-action": "v5", "golangci/golangci-lint-action": "v6", "ruby/setup-ruby": "v1", "softprops/action-gh-release": "v2",
+}
 VALUES = {"boolean": "true", "number": "0", "string": "''"}
 OWNER_AND_NAME = re.compile(r"[\w.-]+/[\w./-]+")
 
 
+def _path_of(case: Case) -> Path:
+    """The path of the step or the job with the call."""
+    here = case.scalar or case.key or case.value
+    path = here.path if here else ()
+    while path and not ((node := case.at(*path)) and node.kind == "mapping" and node.get("uses")):
+        path = path[:-1]
+    return path
+
+
 def _call(case: Case) -> tuple[Node | None, str | None, bool]:
     """The step or the job with the call, the file that it leads to, and whether it is a job."""
-    here = case.scalar or case.key or case.value
-    path = list(here.path) if here else []
-    while path:
-        node = case.at(*path)
-        if node and node.kind == "mapping" and node.get("uses"):
-            of_job = is_workflow(case.file) and len(path) == 2
-            return node, case.project.callee(node.text("uses"), of_job), of_job
-        path.pop()
-    return None, None, False
+    path = _path_of(case)
+    node = case.at(*path) if path else None
+    if node is None:
+        return None, None, False
+    of_job = is_workflow(case.file) and len(path) == 2
+    return node, case.project.callee(node.text("uses"), of_job), of_job
 
 
 def near_file(case: Case) -> Iterable[Repair]:
@@ -36,8 +54,8 @@ def near_file(case: Case) -> Iterable[Repair]:
     wrong = case.arguments[0]
     callable_files = ["./" + file for file in case.project.paths() if is_workflow(file) and file != case.file
                       and files.is_callable(case.project.good_tree(file))]
-    for name in near(wrong, callable_files):
-        yield case.replace(f'change to "{name}"', name, here.value.span if here else None)
+    for name, is_slip in likely(wrong, callable_files):
+        yield case.replace(f'change to "{name}"', name, here.value.span if here else None, is_slip)
     if re.fullmatch(rf"\./{re.escape(WORKFLOWS)}/[\w.-]+\.ya?ml", wrong):
         yield Repair(f'create the file "{wrong[2:]}"', {}, {wrong[2:]: CALLED})
 
@@ -51,7 +69,7 @@ def near_declared(what: str) -> Callable[[Case], Iterable[Repair]]:
             declared = files.declarations(callee, case.project.good_tree(callee), what, True)
             given = {name.lower() for name in node.names("with" if what == "inputs" else "secrets")}
             free = [one.name for one in declared if one.name.lower() not in given]
-            yield from (case.replace(f'change to "{name}"', name) for name in near(case.arguments[0], free))
+            yield from (case.replace(f'change to "{name}"', name, is_safe=is_slip) for name, is_slip in likely(case.arguments[0], free))
         yield from _without(case)
     return repairs
 
@@ -67,7 +85,7 @@ def _without(case: Case) -> Iterable[Repair]:
     node = case.at(*here.path[:-2])
     outer = node.key(str(here.path[-2])) if node else None
     if node and outer:
-        yield case.of(f'delete "{outer.value}"', without_entry(case, node, outer))
+        yield case.of(f'delete "{outer.value}"' + entries_of(here.parent), without_entry(case, node, outer), deletes=True)
 
 
 def required(what: str) -> Callable[[Case], Iterable[Repair]]:
@@ -81,6 +99,10 @@ def required(what: str) -> Callable[[Case], Iterable[Repair]]:
         one = next((one for one in declared if one.name.lower() == case.arguments[0].lower()), None)
         given = {name.lower() for name in node.names(below)}
         lacking = [other for other in declared if other.is_required and other.name.lower() not in given]
+        there = list(_written_elsewhere(case, node, below, one.name)) if one else []
+        yield from there
+        if there:
+            return
         if one:
             yield from _given(case, node, below, [one])
         if len(lacking) > 1:
@@ -88,6 +110,41 @@ def required(what: str) -> Callable[[Case], Iterable[Repair]]:
         if what == "secrets" and of_job:
             yield from _all_secrets(case, node)
     return repairs
+
+
+def _written_elsewhere(case: Case, node: Node, below: str, name: str) -> Iterable[Repair]:
+    """What is missing, if it is there: beside `uses`, misspelled, or a secret among the inputs."""
+    path = _path_of(case)
+    key, value = node.key(name), node.get(name)
+    if key and value:
+        yield from moved_below(case, Found((*path, name), key, value, node))
+    around = node.get(below)
+    for key, _ in around.entries if around else ():
+        if misspelled(key.value, [name]):
+            yield case.replace(f'change "{key.value}" to "{name}"', name, key.span, is_safe=True)
+    inputs = node.get("with")
+    key, value = (inputs.key(name), inputs.get(name)) if inputs and below == "secrets" else (None, None)
+    if inputs and key and value:
+        yield from as_secret(case, Found((*path, "with", name), key, value, inputs))
+
+
+def declared_as_secret(case: Case) -> Iterable[Repair]:
+    """An input of a called workflow that is one of its secrets, moved to `secrets`."""
+    node, callee, of_job = _call(case)
+    here = case.key
+    if node and callee and of_job and here:
+        declared = files.declarations(callee, case.project.good_tree(callee), "secrets", True)
+        if case.arguments[0].lower() in [one.name.lower() for one in declared]:
+            yield from as_secret(case, here)
+
+
+def action_of_job(case: Case) -> Iterable[Repair]:
+    """An action that a job with steps calls, called from a step."""
+    here = case.key
+    uses = here.parent.get("uses") if here else None
+    key = here.parent.key("uses") if here else None
+    if here and uses and key and len(here.path) == 3 and here.path[0] == "jobs" and ".github/workflows/" not in uses.value:
+        yield from _called_from_step(case, Found((*here.path[:-1], "uses"), key, uses, here.parent))
 
 
 def _all_secrets(case: Case, job: Node) -> Iterable[Repair]:
@@ -101,7 +158,7 @@ def _all_secrets(case: Case, job: Node) -> Iterable[Repair]:
 
 def _given(case: Case, node: Node, below: str, declared: list[files.Declaration]) -> Iterable[Repair]:
     entries = [f"{one.name}: {_value_of(one, below)}" for one in declared]
-    title = "add " + ", ".join(f'"{one.name}"' for one in declared)
+    title = "add " + ", ".join(f'"{entry}"' for entry in entries)
     around = node.get(below)
     if around and around.entries:
         yield case.of(title, next_entry(case, around, around.entries[-1][0].value, (", " if around.is_flow else "\n").join(entries)))
@@ -127,20 +184,18 @@ def other_type(case: Case) -> Iterable[Repair]:
     if here is None:
         return
     text, kind = here.value.value.strip(), case.arguments[1]
-    if kind == "boolean":
-        meant = {"yes": "true", "on": "true", "1": "true", "true": "true"}.get(text.lower(), "false")
-        yield case.replace(f'change to "{meant}"', meant, here.value.span)
-    number = re.match(r"-?\d+(?:\.\d+)?", text)
-    if kind == "number" and number:
-        yield case.replace(f'change to "{number[0]}"', number[0], here.value.span)
-    expression = re.fullmatch(r"\$\{\{(.*)\}\}", text)
-    if expression:
+    expression = re.fullmatch(r"\$\{\{(.*)\}\}", text, re.S)
+    if kind == "boolean" and not expression:
+        yield from as_flag(case, here.value)
+    if kind == "number" and not expression:
+        yield from as_number(case, here.value, {})
+    if expression and "}}" not in expression[1]:
         inner = expression[1].strip()
         changed = "${{ fromJSON(" + inner + ") }}" if kind in ("boolean", "number") else "${{ format('{0}', " + inner + ") }}"
         shown = as_scalar(changed, here.value.style, is_within_flow(case, here.path))
         yield case.replace("read it with fromJSON" if kind != "string" else "write it as a text", shown, here.value.span)
-    if kind == "string":
-        yield case.replace("put it in quotes", "'" + text.replace("'", "''") + "'", here.value.span)
+    if kind == "string" and not expression and here.value.kind == "scalar":
+        yield case.replace("put it in quotes", "'" + text.replace("'", "''") + "'", here.value.span, is_safe=True)
 
 
 def right_uses(case: Case) -> Iterable[Repair]:
@@ -150,32 +205,65 @@ def right_uses(case: Case) -> Iterable[Repair]:
         return
     text = here.value.value.strip()
     if len(here.path) == 3 and here.path[0] == "jobs" and here.key and is_workflow(case.file) and ".github/workflows/" not in text:
-        indent = "\n" + " " * here.key.span.start.column
-        steps = f"runs-on: ubuntu-latest{indent}steps:{indent}  - uses: {case.slice(here.value.span)}"
-        yield case.replace("call it from a step", steps, Span(here.key.span.start, here.value.span.end))
-    bare = re.sub(r"@?\$\{\{.*?\}\}.*$", "", text)
-    own = re.sub(r"^(?:\.?/)+", "", text)
-    tries = []
-    if case.project.has(own) or any(case.project.has(f"{own.removesuffix('/')}/{name}") for name in ACTION_NAMES):
-        tries.append("./" + own)
-    if text.startswith("./") and "@" in text:
-        tries.append(text.partition("@")[0])
-    if bare != text and OWNER_AND_NAME.fullmatch(bare):
-        tries.append(bare + "@main")
-    for one in (text, re.sub(r"^https?://github\.com/", "", text).removesuffix(".git"), text.replace(" ", ""), text.rstrip("@/")):
-        tries += [one] if "@" in one else [one + "@main"]
-        tries += [re.sub(r":([\w.-]+)$", r"@\1", one)]
-    if re.fullmatch(r"[\w.-]+@[\w.-]+", text):
-        tries.append("actions/" + text)
-    if re.fullmatch(r"[\w.-]+", text):
-        tries.append(f"actions/{text}@main")
-    if not text.startswith("docker://") and re.fullmatch(r"docker:/*[\w./:-]+", text):
-        tries.append(re.sub(r"^docker:/*", "docker://", text))
-    if is_workflow(case.file) and text.rpartition("/")[2] and case.project.has(f"{WORKFLOWS}/{text.rpartition('/')[2]}"):
-        tries.append(f"./{WORKFLOWS}/{text.rpartition('/')[2]}")
-    for changed in dict.fromkeys(tries):
+        yield from _called_from_step(case, here)
+    for changed, is_safe in _right_calls(case, text):
         if changed != text:
-            yield case.replace(f'change to "{changed}"', changed, here.value.span)
+            yield case.replace(f'change to "{changed}"', changed, here.value.span, is_safe)
+
+
+def _called_from_step(case: Case, here: Found) -> Iterable[Repair]:
+    """A job's call of an action, from a step: a new first one, or the only one."""
+    assert here.key
+    steps, column = here.parent.get("steps"), here.key.span.start.column
+    uses = f"uses: {case.slice(here.value.span)}"
+    if steps and steps.items and not steps.is_flow and not here.parent.is_flow:
+        start = steps.span.start
+        added = Edit(Span.at(start), f"- {uses}\n" + " " * start.column)
+        yield case.of("call it from a step", without_entry(case, here.parent, here.key), added)
+    elif steps is None:
+        indent = "\n" + " " * column
+        runs_on = "" if here.parent.get("runs-on") else f"runs-on: ubuntu-latest{indent}"
+        yield case.replace("call it from a step", f"{runs_on}steps:{indent}  - {uses}", Span(here.key.span.start, here.value.span.end))
+
+
+def _right_calls(case: Case, text: str) -> Iterable[tuple[str, bool]]:
+    """What a call may be meant to be, and whether that is the only reading."""
+    own = re.sub(r"^(?:\.?/)+", "", text).partition("@")[0].removesuffix("/")
+    if case.project.has(own) and is_workflow(own) or any(case.project.has(f"{own}/{name}") for name in ACTION_NAMES):
+        yield "./" + own, True
+        return
+    if is_workflow(case.file) and text.rpartition("/")[2] and case.project.has(f"{WORKFLOWS}/{text.rpartition('/')[2]}"):
+        yield f"./{WORKFLOWS}/{text.rpartition('/')[2]}", False
+    if re.fullmatch(r"docker:[\w./:-]+", text):
+        yield re.sub(r"^docker:/*", "docker://", text), True
+    bare = re.sub(r"^(?:https?://)?(?:www\.)?github\.com/", "", text)
+    bare = re.sub(r"\.git(?=@|$)", "", bare).strip("/")
+    name, sign, version = bare.partition("@")
+    if not sign:
+        match = re.fullmatch(r"([\w.-]+/[\w./-]+?)\s*[:= ]\s*([\w.-]+)", bare)
+        name, version = (match[1], match[2]) if match else (bare, "")
+    name, version = re.sub(r"\s+", "", name), version.strip()
+    name = f"actions/{name}" if re.fullmatch(r"[\w.-]+", name) else name
+    if not OWNER_AND_NAME.fullmatch(name):
+        return
+    if version and "${{" not in version and " " not in version:
+        yield f"{name}@{version}", name in bare
+    else:
+        yield from ((f"{name}@{known}", False) for known in versions(case.project, name))
+
+
+def versions(project: files.Project, name: str) -> list[str]:
+    """The versions of an action that the folder uses, the most frequent first, or else one that is known to exist."""
+    used = re.compile(rf"uses['\"]?\s*:\s*['\"]?{re.escape(name)}@([\w./-]+)", re.I)
+    found = Counter(version for path in project.paths() for version in used.findall(project.text(path)))
+    return [version for version, _ in found.most_common()] or [VERSIONS[name] for name in [name.lower()] if name in VERSIONS]
+
+
+def local_action_of_job(case: Case) -> Iterable[Repair]:
+    """An action of this repository that a job calls, called from a step."""
+    here = case.value
+    if here and here.key and len(here.path) == 3 and here.path[0] == "jobs" and ".github/workflows/" not in here.value.value:
+        yield from _called_from_step(case, here)
 
 
 def made_callable(case: Case) -> Iterable[Repair]:
@@ -213,17 +301,18 @@ def without_step(case: Case) -> Iterable[Repair]:
         if number is not None:
             end = steps.items[number + 1].span.start.line if number + 1 < len(steps.items) else steps.span.end.line
             end = end if number + 1 < len(steps.items) or steps.span.end.column == 0 else end + 1
-            yield case.replace("delete the step", "", Span(Point(item.span.start.line, 0), Point(end, 0)))
+            yield case.replace("delete the step", "", Span(Point(item.span.start.line, 0), Point(end, 0)), deletes=True)
 
 
 REPAIRS: dict[str, tuple[Callable[[Case], Iterable[Repair]], ...]] = {
     "C1": (near_file,),
-    "C2": (near_declared("inputs"),),
+    "K6": (action_of_job,),
+    "C2": (declared_as_secret, near_declared("inputs"),),
     "C3": (required("inputs"),),
     "C4": (other_type,),
     "C5": (near_declared("secrets"),),
     "C6": (required("secrets"),),
     "C7": (right_uses,),
-    "C8": (made_callable,),
+    "C8": (local_action_of_job, made_callable),
     "C9": (without_step,),
 }

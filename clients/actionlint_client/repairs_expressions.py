@@ -1,33 +1,39 @@
-"""Repairs of expressions."""
+"""Repairs of expressions that can't be read, and what other repairs of expressions use."""
 from __future__ import annotations
 
-import itertools
 import re
 from typing import Callable, Iterable, NamedTuple
 
 from .expressions import CHAIN, NAME, STRING, links
+from .operators import Choice, Token, choice, choice_in, grouped, operators, parts, tokens
 from .repair import NEEDS_QUOTES, Case, Repair, as_scalar, is_within_flow
-from .text import Point, Span, end_of
+from .syntax import is_condition
+from .text import Point, Span
 
-BRACES = re.compile(r"\$\{\{(.*?)\}\}", re.S)
+BRACES = re.compile(r"\$\{\{((?:[^$}]|\$(?!\{\{)|\}(?!\}))*)\}\}")
+MANY_BRACES = re.compile(r"\$\{{3,}([^{}]*)\}{2,}")
+NESTED_BRACES = re.compile(r"\$\{\{([^{}]*)\$\{\{([^{}]*)\}\}([^{}]*)\}\}")
 DOUBLE_QUOTED = re.compile(r'\\?"([^"\\]*)\\?"')
+CURLY = "\u2018\u2019\u201a\u201c\u201d\u201e\u00b4`"
+CURLY_QUOTED = re.compile(rf"[{CURLY}]([^'\"{CURLY}]*)[{CURLY}]")
+ODD_SPACES = re.compile("[\u00a0\u2000-\u200a\u202f\u3000]")
 SINGLE_EQUALS = re.compile(r"(?<![=!<>])=(?!=)")
-WORD_OPERATORS = {"and": "&&", "or": "||", "not": "!", "eq": "==", "ne": "!="}
-WORDS = re.compile(r"\b(" + "|".join(WORD_OPERATORS) + r")\b", re.I)
-VARIABLE = re.compile(r"\$\{?(GITHUB_)?([A-Z_][A-Z0-9_]*)\}?")
+WORD_OPERATORS = {"and": "&&", "or": "||", "eq": "==", "ne": "!="}
+WORDS = re.compile(r"(?<![\w.-])(" + "|".join(WORD_OPERATORS) + r")(?![\w.-])", re.I)
+NOT = re.compile(r"(?<![\w.-])not(?![\w.-])\s*", re.I)
+VARIABLE = re.compile(r"\$\{?(GITHUB_|RUNNER_)?([A-Z_][A-Z0-9_]*)\}?")
 METHOD = re.compile(rf"(?<![\w.-])({NAME}(?:\.{NAME})*?)\.(contains|startsWith|endsWith)\(")
-AMONG = re.compile(rf"(?<![\w.-])({NAME}(?:\.{NAME})*)\s+in\s+[\[(]([^\])]*)[\])]")
-LIST_ARGUMENT = re.compile(r"\(\s*\[([^\]]*)\]\s*,")
-CALL_OF_CHOICE = re.compile(r"\b(?:case|iif|if|ternary|choose)\s*\(")
-# What a word consists of, before a fault and after it.
-AROUND = re.compile(r"[^\s'\"()=!,]*")
-AROUND_OR_BRACE = re.compile(r"[^\s'\"()=!,}]*")
+AMONG = re.compile(rf"(?<![\w.-])({NAME}(?:\.{NAME})*)\s+in\s+[\[(]([^\[\]()]*)[\])]")
+LIST_ARGUMENT = re.compile(r"\(\s*\[([^\[\]]*)\]\s*,")
+CALL_OF_CHOICE = re.compile(r"\b(case|iif|if|ternary|choose)\s*\(")
 ARGUMENTS = re.compile(r"(?:'(?:[^']|'')*'|[^()']|\((?:[^()']|'[^']*')*\))*")
 ARGUMENT = re.compile(r"(?:'(?:[^']|'')*'|\((?:[^()']|'[^']*')*\)|[^,()'])+")
 MAX_CONDITION_CHARACTERS = 5_000
-PLACEHOLDER = re.compile(r"\{(\d{1,3})\}")
 TWO_QUOTES = "''"
+NO_SIGNS = (";", "$", "\\")
 SUM = re.compile(rf"({CHAIN.pattern}|'[^']*')((?:\s*\+\s*(?:{CHAIN.pattern}|'[^']*'))+)")
+WORD = re.compile(r"[^\s'\"()=!,]*")
+COMPARISONS = ("==", "!=", "<", ">", "<=", ">=")
 
 
 class Expression(NamedTuple):
@@ -62,42 +68,91 @@ def expression_of(case: Case) -> Expression | None:
     return Expression(case.slice(inner), inner, style)
 
 
-def rewritten(title: str, change: Callable[[str], str | None]) -> Callable[[Case], Iterable[Repair]]:
+def rewritten(title: str, change: Callable[[str], str | None], is_safe: bool = False,
+              deletes: bool = False) -> Callable[[Case], Iterable[Repair]]:
     """A repair that replaces the whole expression."""
     def repairs(case: Case) -> Iterable[Repair]:
         expression = expression_of(case)
-        text = change(expression.text) if expression else None
-        if expression and text is not None and text != expression.text:
-            is_whole = case.scalar is not None and expression.span == case.scalar.value.span
-            wrapped = "${{ " + text + " }}" if is_whole and NEEDS_QUOTES.search(text) else text
-            yield case.replace(title, in_yaml(wrapped, expression), expression.span)
+        text = change(decoded(expression)) if expression else None
+        if expression and text is not None and text != decoded(expression):
+            yield with_expression(case, title, expression, text, is_safe, deletes)
     return repairs
 
 
+def with_expression(case: Case, title: str, expression: Expression, text: str, is_safe: bool = False, deletes: bool = False) -> Repair:
+    """The case's text with another one for an expression."""
+    is_whole = case.scalar is not None and expression.span == case.scalar.value.span
+    wrapped = "${{ " + text + " }}" if is_whole and NEEDS_QUOTES.search(text) else text
+    return case.replace(title, in_yaml(wrapped, expression), expression.span, is_safe, deletes)
+
+
+def decoded(expression: Expression) -> str:
+    """The text of an expression without what its quotes in YAML ask for."""
+    if expression.style == "'":
+        return expression.text.replace(TWO_QUOTES, "'")
+    return expression.text.replace('\\"', '"') if expression.style == '"' else expression.text
+
+
 def in_yaml(text: str, expression: Expression) -> str:
-    """A new text for an expression: inside single quotes in YAML, quotes are doubled."""
-    if expression.style != "'":
-        return text
-    return re.sub(r"'+", lambda match: match[0] if len(match[0]) % 2 == 0 else match[0] * 2, text)
+    """A new text for an expression or a part of it, as its quotes in YAML ask for."""
+    if expression.style == "'":
+        return text.replace("'", TWO_QUOTES)
+    return text.replace('"', '\\"') if expression.style == '"' else text
 
 
 def _outside_texts(text: str, change: Callable[[str], str]) -> str:
     """A text with changes only outside of quotes."""
-    parts, at = [], 0
+    found, at = [], 0
     for match in STRING.finditer(text):
-        parts += [change(text[at:match.start()]), match[0]]
+        found += [change(text[at:match.start()]), match[0]]
         at = match.end()
-    return "".join([*parts, change(text[at:])])
+    return "".join([*found, change(text[at:])])
 
 
 def _single_quotes(text: str) -> str:
-    return DOUBLE_QUOTED.sub(lambda match: "'" + match[1].replace("'", "''") + "'", text)
+    changed = DOUBLE_QUOTED.sub(lambda match: "'" + match[1].replace("'", "''") + "'", text)
+    return _outside_texts(changed, lambda part: CURLY_QUOTED.sub(r"'\1'", part))
 
 
-def _operators(text: str) -> str:
+def _plain_spaces(text: str) -> str:
+    return _outside_texts(text, lambda part: ODD_SPACES.sub(" ", part))
+
+
+def _operators(text: str, with_lone_texts: bool = False) -> str:
     changed = _outside_texts(text, lambda part: WORDS.sub(lambda match: WORD_OPERATORS[match[1].lower()], part))
-    changed = _outside_texts(changed, lambda part: re.sub(r"===+", "==", part).replace("!==", "!=").replace("<>", "!=").replace("??", "||"))
-    return _outside_texts(changed, lambda part: re.sub(r"! (?=\S)", "!", part))
+    changed = _outside_texts(changed, lambda part: re.sub(r"===+", "==", part).replace("!==", "!=").replace("<>", "!="))
+    changed = _without_words(_outside_texts(changed, lambda part: re.sub(r"! (?=\S)", "!", part)))
+    has_lone_text = len(parts(changed, "||")) > 1 and any(STRING.fullmatch(part) for part in parts(changed, "||")[1:])
+    return text if has_lone_text and "==" in changed and not with_lone_texts else changed
+
+
+def _spread(text: str) -> str | None:
+    """`a == 'x' or 'y'` as `a == 'x' || a == 'y'`."""
+    found = parts(_operators(text, True), "||")
+    first = re.fullmatch(r"(.+?)\s*==\s*'[^']*'", found[0])
+    if first is None or len(operators(found[0])) != 1 or not any(STRING.fullmatch(part) for part in found[1:]):
+        return None
+    return " || ".join(f"{first[1]} == {part}" if STRING.fullmatch(part) else part for part in found)
+
+
+def _without_words(text: str) -> str:
+    """`not a == b` as `!(a == b)`: the word holds for all up to the next `&&` or `||`."""
+    while (match := next((match for match in NOT.finditer(text) if not _is_in_text(text, match.start())), None)) is not None:
+        rest = text[match.end():]
+        ends = (token.start for token in tokens(rest) if token.depth < 0 or token.depth == 0 and token.text in ("&&", "||", ","))
+        end = next(ends, len(rest))
+        operand = rest[:end]
+        tail = operand[len(operand.rstrip()):]
+        text = text[:match.start()] + "!" + grouped(operand.strip(), COMPARISONS) + tail + rest[end:]
+    return text
+
+
+def _is_in_text(text: str, offset: int) -> bool:
+    return any(match.start() < offset < match.end() for match in STRING.finditer(text))
+
+
+def _coalesced(text: str) -> str:
+    return _outside_texts(text, lambda part: part.replace("??", "||"))
 
 
 def _doubled(text: str) -> str:
@@ -110,14 +165,25 @@ def _all_operators(text: str) -> str:
 
 
 def _double_braces(text: str) -> str | None:
-    match = re.fullmatch(r"\$?\{+(.*?)\}+", text.strip(), re.S)
-    return "${{ " + match[1].strip() + " }}" if match else None
+    bare = text.strip().removeprefix("$")
+    return "${{ " + bare.strip("{}").strip() + " }}" if bare[:1] == "{" and bare[-1:] == "}" else None
 
 
-def _github_variables(text: str) -> str:
-    """`$GITHUB_REF` as `github.ref`, any other variable as a property of `env`."""
-    return _outside_texts(text, lambda part: VARIABLE.sub(
-        lambda match: "github." + match[2].lower() if match[1] else "env." + match[2], part))
+def from_context(case: Case) -> Iterable[Repair]:
+    """Variables of the shell as properties: of `github` and `runner` by their names, of `env` if the file sets them."""
+    expression = expression_of(case)
+    if expression is None:
+        return
+
+    def property_of(match: re.Match[str]) -> str:
+        context = (match[1] or "env_")[:-1].lower()
+        name = match[2].lower() if match[1] else match[2]
+        if context == "env" and not re.search(rf"(?<!\w){re.escape(name)}['\"]?\s*[:=]", case.text):
+            return str(match[0])
+        return f"{context}.{name}"
+    text = _outside_texts(decoded(expression), lambda part: VARIABLE.sub(property_of, part))
+    if text != decoded(expression):
+        yield with_expression(case, "take it from the context", expression, text)
 
 
 def _called(text: str) -> str:
@@ -132,69 +198,127 @@ def _json_list(entries: str) -> str:
     return f"fromJSON('[{texts}]')"
 
 
-def chosen(text: str) -> str | None:
+def as_choice(case: Case) -> Iterable[Repair]:
     """`a ? b : c` as `a && b || c`, since expressions have no conditional operator."""
-    condition, question, rest = text.partition("?")
-    yes, colon, no = rest.partition(" : " if " : " in rest else ":")
-    return f"{condition.rstrip()} && {yes.strip()} || {no.strip()} " if question and colon else None
+    expression = expression_of(case)
+    made = choice_in(decoded(expression)) if expression else None
+    if expression and made:
+        yield with_expression(case, title_of(made), expression, made.text, not made.doubtful)
 
 
-def _chosen_by_call(text: str) -> str | None:
-    """`case(a, b, c)` as `(a && b || c)`."""
+def title_of(made: Choice) -> str:
+    return 'write "&&" and "||"' + (f", wrong where {made.doubtful} is empty or false" if made.doubtful else "")
+
+
+def choice_by_call(case: Case) -> Iterable[Repair]:
+    """`case(a, b, c)` as `a && b || c`; more pairs likewise."""
+    expression = expression_of(case)
+    text = decoded(expression) if expression else ""
     call = CALL_OF_CHOICE.search(text)
-    if call is None:
-        return None
-    parts, end = _arguments(text, call.end())
-    if len(parts) != 3 or text[end:end + 1] != ")":
-        return None
-    return f"{text[:call.start()]}({parts[0]} && {parts[1]} || {parts[2]}){text[end + 1:]}"
+    if expression is None or call is None:
+        return
+    arguments, end = arguments_at(text, call.end())
+    made = _choice_of(arguments) if call[1] == "case" or len(arguments) == 3 else None
+    if made and text[end:end + 1] == ")":
+        before, after = text[:call.start()], text[end + 1:]
+        inner = made.text if not before.strip() and not after.strip() else f"({made.text})"
+        yield with_expression(case, title_of(made), expression, before + inner + after, call[1] == "case" and not made.doubtful)
 
 
-def _arguments(text: str, start: int) -> tuple[list[str], int]:
+def _choice_of(arguments: list[str]) -> Choice | None:
+    """A condition, a value, any more of both, and what is left."""
+    if len(arguments) % 2 == 0 or len(arguments) < 3:
+        return None
+    made = Choice(arguments[-1])
+    for condition, value in reversed(list(zip(arguments[:-1:2], arguments[1:-1:2]))):
+        next_made = choice(condition, value, made.text)
+        if next_made is None:
+            return None
+        made = Choice(next_made.text, next_made.doubtful or made.doubtful)
+    return made
+
+
+def arguments_at(text: str, start: int) -> tuple[list[str], int]:
     """The arguments of a call that begin at an offset, and the offset after them."""
-    end = end_of(ARGUMENTS, text, start)
+    match = ARGUMENTS.match(text, start)
+    end = match.end() if match else start
     return [part.strip() for part in ARGUMENT.findall(text[start:end])], end
-
-
-chosen_by_call = rewritten('write "&&" and "||"', _chosen_by_call)
 
 
 def _formatted(text: str) -> str | None:
     """`a + 'b'` as a call of format. Without a string it may be a sum, which expressions don't have."""
     def call(match: re.Match[str]) -> str:
-        parts = [part.strip() for part in re.split(r"\s*\+\s*", match[0])]
+        parts = [part.strip() for part in match[0].split("+")]
         if not any(part.startswith("'") for part in parts):
             return str(match[0])
         return f"format('{''.join('{%d}' % number for number in range(len(parts)))}', {', '.join(parts)})"
     return SUM.sub(call, text)
 
 
-def _balanced(text: str) -> str:
-    bare = STRING.sub("", text)
-    closers = "".join({"(": ")", "[": "]"}[sign] for sign in reversed(_open_brackets(bare)))
-    return text.rstrip() + closers + text[len(text.rstrip()):]
+def closed_brackets(case: Case) -> Iterable[Repair]:
+    """The brackets that are open, closed before the next `&&` or `||`, or else at the end."""
+    expression = expression_of(case)
+    text = decoded(expression) if expression else ""
+    open_brackets = [token for token in _unclosed(text)]
+    if expression is None or not open_brackets:
+        return
+    closers = "".join({"(": ")", "[": "]"}[token.text] for token in reversed(open_brackets))
+    innermost = open_brackets[-1]
+    ends = [token.start for token in tokens(text) if token.start > innermost.start and token.text in ("&&", "||")
+            and token.depth == innermost.depth + 1]
+    for end in (*ends[:1], len(text)):
+        inner = text[:end].rstrip()
+        yield with_expression(case, "close the brackets", expression, inner + closers + text[len(inner):], not ends)
 
 
-def _open_brackets(text: str) -> list[str]:
-    found: list[str] = []
-    for sign in text:
-        if sign in "([":
-            found.append(sign)
-        elif sign in ")]" and found:
+def _unclosed(text: str) -> list[Token]:
+    found: list[Token] = []
+    for token in tokens(text):
+        if token.text in ("(", "["):
+            found.append(token)
+        elif token.text in (")", "]") and found:
             found.pop()
     return found
 
 
-def _without_rest(text: str) -> str | None:
-    """An expression without the operator at its end, or without a surplus bracket."""
+def without_rest(case: Case) -> Iterable[Repair]:
+    """An expression without `&&` or `||` at its end, or without a bracket that closes nothing."""
+    expression = expression_of(case)
+    text = decoded(expression) if expression else ""
     stripped = text.rstrip()
-    changed = re.sub(r"\s*(?:&&|\|\||==|!=|[<>]=?|,|\.|\))$", "", stripped)
-    return changed + text[len(stripped):] if changed != stripped else None
+    match = re.search(r"(?<!\s)\s*(&&|\|\||,|\))$", stripped)
+    if expression and match and match.start():
+        yield with_expression(case, f'delete "{match[1]}" at the end', expression, stripped[:match.start()] + text[len(stripped):],
+                              deletes=True)
+
+
+def with_comma(case: Case) -> Iterable[Repair]:
+    """A comma between two arguments of a call."""
+    expression = expression_of(case)
+    before = case.line[:case.span.start.column]
+    if expression and _unclosed(STRING.sub("", before[before.rfind("${{") + 1:])) and re.search(r"[\w')]\s+$", before):
+        yield case.replace("add a comma", ",", Span.at(Point(case.span.start.line, len(before.rstrip()))))
 
 
 def without_character(case: Case) -> Iterable[Repair]:
-    end = Point(case.span.start.line, case.span.start.column + max(len(case.written), 1))
-    yield case.replace("delete it", "", Span(case.span.start, end))
+    """An expression without a sign that has no meaning in it."""
+    sign = case.line[case.span.start.column:case.span.start.column + 1]
+    if sign in NO_SIGNS and not re.match(r"\$[^a-z]", case.line[case.span.start.column:]):
+        end = Point(case.span.start.line, case.span.start.column + 1)
+        yield case.replace(f'delete the "{sign}"', "", Span(case.span.start, end), deletes=True)
+
+
+def inner_braces(case: Case) -> Iterable[Repair]:
+    """Braces around a part of what is in braces already are taken away, and more than two in a row."""
+    many = MANY_BRACES.search(case.line)
+    if many:
+        span = Span.on_line(case.span.start.line, many.start(), many.end())
+        yield case.replace("write two braces", "${{" + many[1] + "}}", span, is_safe=True)
+    column = case.span.start.column
+    match = NESTED_BRACES.search(case.line)
+    if match and (match.start() <= column < match.end() or case.code == "G18"):
+        span = Span.on_line(case.span.start.line, match.start(), match.end())
+        yield case.replace("take away the inner braces", "${{" + match[1] + match[2].strip() + match[3] + "}}", span, is_safe=True)
 
 
 def closed_text(case: Case) -> Iterable[Repair]:
@@ -217,7 +341,7 @@ def closed_braces(case: Case) -> Iterable[Repair]:
         tail = rest[end:end + 1]
         span = Span.on_line(case.span.start.line, case.span.start.column + end, case.span.start.column + end + (1 if tail == "}" else 0))
         before = "" if rest[:end].endswith(" ") else " "
-        yield case.replace("close the braces", before + "}}", span)
+        yield case.replace("close the braces", before + "}}", span, is_safe=tail == "}" and end == ends[0])
 
 
 def whole_chain(case: Case) -> tuple[tuple[str, ...], Span]:
@@ -230,35 +354,28 @@ def whole_chain(case: Case) -> tuple[tuple[str, ...], Span]:
 
 
 def word_as_text(case: Case) -> Iterable[Repair]:
-    """The text around the fault, up to the nearest spaces, in quotes."""
+    """The text around the fault, up to the nearest spaces, in quotes, if it is compared or an argument."""
     expression = expression_of(case)
     line, column = case.line, case.span.start.column
-    start = column - end_of(AROUND, line[:column][::-1], 0)
-    end = end_of(AROUND_OR_BRACE, line, column)
-    if expression and start < end:
+    start = column - len(WORD.findall(line[:column][::-1])[0])
+    end = column + len(WORD.findall(line[column:])[0].partition("}")[0])
+    if expression and re.match(r"[\w./*-]", line[start:end]) and is_operand(line[:start], line[end:]):
         span = Span.on_line(case.span.start.line, start, end)
         yield case.replace("put it in quotes", in_yaml(f"'{line[start:end]}'", expression), span)
 
 
-def without_index(case: Case) -> Iterable[Repair]:
-    """The chain up to what can't be indexed."""
-    chain, span = whole_chain(case)
-    dot = max(case.line.rfind(sign, span.start.column, case.span.start.column + 1) for sign in (".", "["))
-    if chain and dot > span.start.column:
-        yield case.replace("delete the index", "", Span(Point(case.span.start.line, dot), span.end))
+def is_operand(before: str, after: str) -> bool:
+    """Whether what is between two texts is compared, or is an argument."""
+    return re.search(r"(?:[=!]=|[<>]=?|[\w]\(|,)\s*$", before) is not None or re.match(r"\s*(?:[=!]=|[<>])", after) is not None
 
 
-def as_json(case: Case) -> Iterable[Repair]:
-    """The value as a text."""
-    chain, span = whole_chain(case)
-    if chain:
-        yield case.replace("convert it to JSON", f"toJSON({case.slice(span)})", span)
-        if span.end.column > span.start.column:
-            expression = expression_of(case)
-            literal = in_yaml("', '", expression) if expression else "', '"
-            yield case.replace("join its entries", f"join({case.slice(span)}, {literal})", span)
-    elif (expression := expression_of(case)) and expression.text.strip():
-        yield case.replace("convert it to JSON", f" toJSON({expression.text.strip()}) ", expression.span)
+def is_compared(before: str, after: str) -> bool:
+    return re.search(r"(?:[=!]=|[<>]=?)\s*$", before) is not None or re.match(r"\s*(?:[=!]=|[<>])", after) is not None
+
+
+def is_in_condition(case: Case) -> bool:
+    here = case.scalar
+    return here is not None and is_condition(case.file, here.path, case.levels(here.path))
 
 
 def one_pair(case: Case) -> Iterable[Repair]:
@@ -268,88 +385,35 @@ def one_pair(case: Case) -> Iterable[Repair]:
         return
     in_flow = is_within_flow(case, here.path)
     text = " ".join(here.value.value.split())
-    grouped = BRACES.sub(lambda match: "(" + match[1].strip() + ")" if re.search(r"&&|\|\|", match[1]) else match[1].strip(), text).strip()
-    whole = as_scalar("${{ " + grouped + " }}", here.value.style, in_flow)
-    yield case.replace("put all of it into one pair of braces", whole, here.value.span)
+    outside = operators(BRACES.sub("x", text))
+    beside = ("&&", "||") if set(outside) <= {"&&", "||"} else (*COMPARISONS, "&&", "||")
+    whole = BRACES.sub(lambda match: grouped(match[1].strip(), beside), text).strip()
+    if outside:
+        # a flag isn't equal to the text `true`
+        is_safe = "'true'" not in whole and "'false'" not in whole
+        yield case.replace("put all of it into one pair of braces", as_scalar("${{ " + whole + " }}", here.value.style, in_flow),
+                           here.value.span, is_safe)
     for match in BRACES.finditer(text):
-        if text.replace(match[0], "").strip() in (".", ";", ",", "'", '"', '""', "''"):
+        rest = text.replace(match[0], "").strip()
+        if rest in (".", ";", ",", "'", '"', '""', "''"):
             alone = as_scalar(match[0], here.value.style, in_flow)
-            yield case.replace("delete the text beside the braces", alone, here.value.span)
+            yield case.replace(f"delete the {rest} beside the braces", alone, here.value.span, deletes=True)
 
 
-def fewer_arguments(case: Case) -> Iterable[Repair]:
-    """A call with one argument fewer or more, if the function takes as many."""
-    line, column = case.line, case.span.start.column
-    match = re.match(rf"{NAME}\s*\(", line[column:])
-    if not match:
-        return
-    start = column + match.end()
-    end = line.find(")", start)
-    inner = line[start:end] if end >= 0 else ""
-    parts = re.split(r",\s*(?=(?:[^']*'[^']*')*[^']*$)", inner) if inner.strip() else []
-    expression = expression_of(case)
-    empty = in_yaml("''", expression) if expression and expression.style != "'" else "''''"
-    span = Span.on_line(case.span.start.line, start, end)
-    if end < 0:
-        return
-    changes: tuple[list[str], ...] = (parts[:-1], parts[:-2], [], [*parts, empty], [*parts, empty, empty])
-    for changed in changes:
-        yield case.replace("give it as many arguments as it takes", ", ".join(changed), span)
-
-
-def _format_call(case: Case) -> tuple[list[str], Span] | None:
-    """The arguments of the call of format around the fault, and their place."""
-    start = case.line.rfind("format(", 0, case.span.end.column)
-    if start < 0:
-        return None
-    begin = start + len("format(")
-    parts, end = _arguments(case.line, begin)
-    return parts, Span.on_line(case.span.start.line, begin, end)
-
-
-def right_format(case: Case) -> Iterable[Repair]:
-    """As many arguments as placeholders, or the other way round; braces that aren't placeholders doubled."""
-    call = _format_call(case)
-    if call is None or not call[0]:
-        return
-    (text, *arguments), span = call
-    numbers = [int(number) for number in PLACEHOLDER.findall(text)]
-    empty, quote = (TWO_QUOTES * 2, TWO_QUOTES) if text.startswith(TWO_QUOTES) else (TWO_QUOTES, "'")
-    most = max(numbers, default=-1)
-    unused = "".join(f" {{{number}}}" for number in range(len(arguments)) if number not in numbers)
-    tries = [(f"give it {most + 1} arguments", [text, *arguments, *[empty] * (most + 1 - len(arguments))]),
-             ("take away the argument", [text, *arguments[:most + 1]]),
-             ("put it into the text", [text.removesuffix(quote) + unused + quote, *arguments]),
-             ("number the placeholders", [_numbered(text), *arguments]),
-             ("write the braces twice", [re.sub(r"\{(?!\d+\})([^{}]*)\}", r"{{\1}}", text), *arguments])]
-    for title, changed in tries:
-        if changed != [text, *arguments]:
-            yield case.replace(title, ", ".join(changed), span)
-
-
-def _numbered(text: str) -> str:
-    numbers = itertools.count()
-    return re.sub(r"\{\}|%s", lambda match: "{%d}" % next(numbers), text)
-
+SINGLE_QUOTES = rewritten("write single quotes", _single_quotes, True)
+DOUBLED = rewritten('write "==", "&&", "||"', _doubled, True)
+SPREAD = rewritten("compare it with each", _spread)
+OPERATORS = rewritten('write "&&", "||", "!"', _operators, True)
 
 REPAIRS: dict[str, tuple[Callable[[Case], Iterable[Repair]], ...]] = {
-    "X1": (rewritten("write single quotes", _single_quotes), rewritten('write "==", "&&", "||"', _doubled),
-           rewritten('write "&&" and "||"', chosen), rewritten('write "&&", "||", "!"', _operators),
-           rewritten("write a call of format", _formatted), rewritten("write the operators of expressions", _all_operators),
-           rewritten('write "${{" and "}}"', _double_braces), rewritten("take it from the context",
-                                                                        _github_variables), word_as_text, without_character),
+    "X1": (SINGLE_QUOTES, rewritten("write plain spaces", _plain_spaces, True), DOUBLED, as_choice, OPERATORS, SPREAD,
+           rewritten('write "||", which takes the second for an empty text too', _coalesced), inner_braces,
+           rewritten("write a call of format", _formatted), rewritten("write the operators of expressions", _all_operators, True),
+           rewritten('write "${{" and "}}"', _double_braces, True), from_context, word_as_text, without_character),
     "X2": (closed_text,),
-    "X3": (rewritten('write "&&", "||", "!"', _operators), rewritten('write "==", "&&", "||"', _doubled),
-           rewritten('write "&&" and "||"', chosen), rewritten("call a function", _called), rewritten("close the brackets", _balanced),
-           rewritten("delete what is too much at the end", _without_rest), without_character),
-    "X4": (rewritten("close the brackets", _balanced), rewritten("delete what is too much at the end", _without_rest)),
-    "X11": (fewer_arguments,),
-    "X14": (without_index,),
-    "X16": (right_format,),
-    "X17": (right_format,),
-    "X18": (as_json,),
-    "X12": (as_json,),
-    "X15": (as_json,),
+    "X3": (OPERATORS, SPREAD, DOUBLED, as_choice, rewritten("call a function", _called), inner_braces, closed_brackets, with_comma,
+           without_rest, without_character),
+    "X4": (closed_brackets, without_rest),
     "X20": (closed_braces,),
-    "G18": (one_pair,),
+    "G18": (inner_braces, one_pair),
 }

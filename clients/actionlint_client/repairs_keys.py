@@ -1,18 +1,18 @@
-"""Repairs of keys and values that GitHub's syntax doesn't have."""
+"""Repairs of keys that a section doesn't have, lacks, or has twice."""
 from __future__ import annotations
 
-import itertools
 import re
+from itertools import islice
 from typing import Callable, Iterable
 
-from .names import names, near
+from .names import likely, misspelled
 from .paths import is_workflow
-from .repair import Case, Edit, Found, Repair, first_entry, is_within_flow, next_entry, quoted, without_entry
-from .repairs_yaml import DASH_WITHOUT_SPACE
-from .stricter import takes_filter
-from .syntax import table
+from .repairs_levels import moves
+from .repair import (FLOW_SIGNS, Case, Edit, Found, Repair, entries_of, first_entry, indented, next_entry, quoted, tight, without_entry,
+                     without_key)
+from .syntax import shape_at, table
 from .text import Point, Span
-from .tree import Node, Path, last_line, walk
+from .tree import Node, Path, last_line
 
 JOB = "build:\n  runs-on: ubuntu-latest\n  steps:\n    - run: make"
 # The values of missing keys.
@@ -20,32 +20,37 @@ MISSING = {"on": "push", "jobs": "\n  " + JOB.replace("\n", "\n  "), "runs-on": 
            "group": "${{ github.workflow }}-${{ github.ref }}", "cron": "'0 0 * * *'", "value": "''", "name": "Name",
            "description": "Description", "using": "composite", "main": "index.js", "image": "Dockerfile", "steps": "[]",
            "runs": "\n  using: composite\n  steps: []"}
-WORKFLOW = f"on: push\njobs:\n  {JOB.replace(chr(10), chr(10) + '  ')}\n"
-ACTION = "name: Name\ndescription: Description\nruns:\n  using: composite\n  steps:\n    - run: make\n      shell: bash\n"
-FLAGS = {"yes": "true", "on": "true", "y": "true", "1": "true", "true": "true", "no": "false", "off": "false", "n": "false", "0": "false",
-         "false": "false"}
 # Keys that are often written instead of another one that isn't similar enough to be found.
 OTHER_NAMES = {"timeout": "timeout-minutes", "command": "run", "script": "run", "image": "container", "branch": "branches", "tag": "tags",
                "path": "paths", "environment-variables": "env", "depends-on": "needs", "depends_on": "needs", "requires": "needs",
                "condition": "if", "when": "if", "title": "name", "dir": "working-directory", "cwd": "working-directory", "triggers": "on",
                "environments": "environment", "variables": "env", "vars": "env", "args": "with", "params": "with", "secret": "secrets",
                "allow-failure": "continue-on-error", "allow_failure": "continue-on-error", "os": "runs-on", "type": "types", "job": "jobs",
-               "workdir": "working-directory",
+               "workdir": "working-directory", "inputs": "with", "input": "with", "parameters": "with", "environment": "env",
+               "cmd": "run", "commands": "run", "action": "uses", "runner": "runs-on", "dependencies": "needs", "description": "name",
                "continue-on-failure": "continue-on-error", "ignore-errors": "continue-on-error", "matrix": "strategy"}
+# Where a missing key is looked for.
+MAX_PLACES = 20
+STEP_STARTS = ("name", "id", "if")
 
 
 def near_key(case: Case) -> Iterable[Repair]:
-    """A similar key of the section."""
-    wrong = case.arguments[0]
-    known = [*near(wrong, names()["keys"]), *([OTHER_NAMES[wrong.lower()]] if wrong.lower() in OTHER_NAMES else [])]
-    known += [name for name in names()["keys"] if name.lower() == wrong.lower().replace("_", "-") != wrong]
-    yield from (in_its_quotes(case, name) for name in dict.fromkeys(known))
+    """A similar key of the section that can stand beside the others, or the one that is meant by another word."""
+    here, wrong = case.key, case.arguments[0]
+    if here is None:
+        return
+    known = case.known_keys(here.path[:-1], (name for name in here.parent.names() if name != wrong))
+    found = likely(wrong, known)
+    meant = OTHER_NAMES.get(wrong.lower())
+    if meant in known and not any(is_slip for _, is_slip in found):
+        yield in_its_quotes(case, str(meant))
+    yield from (in_its_quotes(case, name, is_slip) for name, is_slip in found)
 
 
-def in_its_quotes(case: Case, name: str) -> Repair:
+def in_its_quotes(case: Case, name: str, is_safe: bool = False) -> Repair:
     """A name in place of the written one, in the same quotes."""
     quote = case.written[:1] if case.written[:1] in ("'", '"') else ""
-    return case.replace(f'change to "{name}"', quote + name + quote)
+    return case.replace(f'change to "{name}"', quote + name + quote, is_safe=is_safe)
 
 
 def one_level_deeper(case: Case) -> Iterable[Repair]:
@@ -53,9 +58,13 @@ def one_level_deeper(case: Case) -> Iterable[Repair]:
     here = case.key
     if here is None:
         return
-    of_run, of_strategy = (table()["shapes"][shape]["keys"] for shape in ("RunDefaults", "Strategy"))
+    of_run, of_strategy, of_step = (table()["shapes"][shape]["keys"] for shape in ("RunDefaults", "Strategy", "Step"))
     if here.path[-2:-1] == ("defaults",) and here.path[-1] in of_run:
         yield from _below(case, here, "run", lambda key: key in of_run)
+    elif len(here.path) == 3 and case.job and here.path[-1] in of_strategy and here.parent.get("strategy") is None:
+        yield from _below(case, here, "strategy", lambda key: key in of_strategy)
+    elif len(here.path) == 3 and case.job and here.path[-1] in of_step and not here.parent.get("steps") and not here.parent.get("uses"):
+        yield from _as_step(case, here)
     elif here.path[-2:-1] == ("strategy",) and here.parent.get("matrix") is None:
         yield from _below(case, here, "matrix", lambda key: key not in of_strategy)
     elif here.key and case.job and len(here.path) == 3 and here.path[-1] in of_run and here.parent.get("defaults") is None:
@@ -69,14 +78,53 @@ def _below(case: Case, here: Found, above: str, belongs: Callable[[str], bool]) 
     if numbers != list(range(numbers[0], numbers[-1] + 1)):
         return
     entries = [here.parent.entries[number] for number in numbers]
-    texts = [case.slice(Span(key.span.start, _tight(case, value).end)) for key, value in entries]
-    span = Span(entries[0][0].span.start, _tight(case, entries[-1][1]).end)
+    texts = [case.slice(Span(key.span.start, tight(case, value).end)) for key, value in entries]
+    span = Span(entries[0][0].span.start, tight(case, entries[-1][1]).end)
     if here.parent.is_flow:
         yield case.replace(f'put it below "{above}"', f"{above}: {{" + ", ".join(texts) + "}", span)
     else:
         indent = "\n" + " " * (entries[0][0].span.start.column + 2)
         lines = indent.join(text.replace("\n", "\n  ") for text in texts)
         yield case.replace(f'put it below "{above}"', f"{above}:{indent}{lines}", span)
+
+
+def below_inputs(case: Case) -> Iterable[Repair]:
+    """Keys of a call that its section doesn't have, as inputs below `with`; below `env` those of a script that look like variables."""
+    if case.key:
+        yield from moved_below(case, case.key)
+
+
+def moved_below(case: Case, here: Found) -> Iterable[Repair]:
+    """An entry of a call or a script, moved below `with` or `env`, with others that don't belong beside it either."""
+    if here.key is None:
+        return
+    beside = here.parent.names()
+    shape = shape_at(case.file, here.path[:-1], case.levels((*here.path[:-1], "")))
+    known = list(shape["keys"]) if shape and shape.get("section") in ("step", "job") else []
+    target = "with" if "uses" in beside else "env" if "run" in beside and here.key.value.isupper() else None
+    others = [name for name in beside if name not in known and misspelled(name, known) is None]
+    if not known or target is None or here.key.value not in others:
+        return
+    around = here.parent.get(target)
+    if around is None:
+        yield from _below(case, here, target, lambda key: key in others)
+    elif around.entries and around.is_flow == here.parent.is_flow and around.alias is None:
+        text = case.slice(Span(here.key.span.start, tight(case, here.value).end))
+        added = next_entry(case, around, around.entries[-1][0].value, text.replace("\n" + " " * here.key.span.start.column, "\n"))
+        yield case.of(f'put it below "{target}"', without_entry(case, here.parent, here.key), added)
+
+
+def _as_step(case: Case, here: Found) -> Iterable[Repair]:
+    """Consecutive keys of a job without steps that only a step has, as its step."""
+    known = table()["shapes"]["Job"]["keys"]
+    entries = [(key, value) for key, value in here.parent.entries if key.value not in known]
+    if here.parent.is_flow or not {"run", "uses"} & {key.value for key, _ in entries} or not here.key:
+        return
+    column = here.key.span.start.column
+    first = entries[0][0].span.start
+    start = Edit(Span.at(first), "steps:\n" + " " * (column + 2) + "- ")
+    edits = [*indented(case, entries, "    ")][1:]
+    yield case.of("make it a step", start, *edits)
 
 
 def part_of_value(case: Case) -> Iterable[Repair]:
@@ -101,14 +149,14 @@ def step_of_keys(case: Case) -> Iterable[Repair]:
     steps = here.parent.get("steps")
     if steps and steps.kind == "scalar" and not steps.value and after and after[0][0] is here.key:
         step = [(key, value) for key, value in after if key.value in table()["shapes"]["Step"]["keys"]]
-        yield case.of("make it a step", *_indented(case, step[:1], "- "), *_indented(case, step[1:], "  "))
+        yield case.of("make it a step", *indented(case, step[:1], "- "), *indented(case, step[1:], "  "))
 
 
 def deleted(case: Case) -> Iterable[Repair]:
     """The mapping without the key."""
     here = case.key
     if here and here.key and len(here.parent.entries) > 1:
-        yield case.of(f'delete "{here.key.value}"', without_entry(case, here.parent, here.key))
+        yield case.of(f'delete "{here.key.value}"{entries_of(here.value)}', without_entry(case, here.parent, here.key), deletes=True)
 
 
 def another_job(case: Case) -> Iterable[Repair]:
@@ -118,267 +166,200 @@ def another_job(case: Case) -> Iterable[Repair]:
         yield case.replace(f'change to "{here.path[-1]}-2"', f"{here.path[-1]}-2")
 
 
+def repeated(case: Case) -> Iterable[Repair]:
+    """The second of two equal keys: taken away if it says the same, merged with the first, or deleted."""
+    here = case.key
+    if here is None or here.key is None:
+        return
+    first = here.parent.get(here.key.value)
+    assert first
+    name = here.key.value
+    if case.slice(tight(case, first)) == case.slice(tight(case, here.value)):
+        yield case.of(f'delete the second "{name}", which is equal', without_entry(case, here.parent, here.key), is_safe=True)
+        return
+    yield from _merged(case, here, first)
+    if name == "if" and first.kind == here.value.kind == "scalar" and "${{" not in first.value + here.value.value and not first.style:
+        both = f"({first.value}) && ({here.value.value})"
+        yield case.of('join both conditions with "&&"', Edit(first.span, both), without_entry(case, here.parent, here.key))
+    if here.path != ("jobs", name):
+        value = f' ("{here.value.value}")' if here.value.kind == "scalar" and 0 < len(here.value.value) < 40 else ""
+        title = f'delete the second "{name}"{value}{entries_of(here.value)}'
+        yield case.of(title, without_entry(case, here.parent, here.key), deletes=True)
+
+
+def _merged(case: Case, here: Found, first: Node) -> Iterable[Repair]:
+    """The entries of the second value after those of the first."""
+    second = here.value
+    assert here.key
+    removed = without_entry(case, here.parent, here.key)
+    title = f'merge it with the first "{here.key.value}"'
+    if first.alias or second.alias:
+        return
+    if first.kind == second.kind == "mapping" and first.entries and second.entries:
+        is_plain = first.is_flow == second.is_flow or all(_fits_anywhere(value) for _, value in second.entries)
+        shared = [key.value for key, _ in second.entries if first.get(key.value)]
+        new = [(key, value) for key, value in second.entries if key.value not in shared]
+        if is_plain and new:
+            texts = [case.slice(Span(key.span.start, tight(case, value).end)) for key, value in new]
+            lost = ", without its " + ", ".join(f'"{name}"' for name in shared) if shared else ""
+            indent, between = "\n" + " " * second.span.start.column, ", " if first.is_flow else "\n"
+            added = next_entry(case, first, first.entries[-1][0].value, between.join(text.replace(indent, "\n") for text in texts))
+            yield case.of(title + lost, added, removed, is_safe=not shared, deletes=bool(shared))
+    elif first.kind == second.kind == "sequence" and not first.is_flow and not second.is_flow and first.items and second.items:
+        line = last_line(first, case.lines)
+        lines = case.lines[second.items[0].span.start.line:last_line(second, case.lines) + 1]
+        dash, column = (case.lines[node.items[0].span.start.line].index("-") for node in (second, first))
+        text = "".join("\n" + (" " * column + one[dash:] if one.strip() else "") for one in lines)
+        yield case.of(title, Edit(Span.at(Point(line, len(case.lines[line]))), text), removed)
+    elif _takes_list(case, here) and (first.kind == "scalar" or first.is_flow) and {first.kind, second.kind} <= {"scalar", "sequence"}:
+        items = [item for node in (first, second) for item in (node.items or [node])]
+        if not all(item.kind == "scalar" and item.value not in ("", "~", "null") for item in items):
+            return
+        texts = [case.slice(item.span) for item in items]
+        yield case.of(title, Edit(first.span, f"[{', '.join(dict.fromkeys(texts))}]"), removed, is_safe=True)
+
+
+def _fits_anywhere(value: Node) -> bool:
+    """Whether a value means the same in brackets and on a line of its own."""
+    return value.kind == "scalar" and value.style in ("", "'", '"') and not FLOW_SIGNS.search(value.value)
+
+
+def _takes_list(case: Case, here: Found) -> bool:
+    """Whether the value of a key can be a list of texts."""
+    shape = shape_at(case.file, here.path, case.levels((*here.path, "")))
+    return shape is not None and shape["items"] == "Text"
+
+
 def missing_key(case: Case) -> Iterable[Repair]:
-    """The missing key with a first value."""
-    here = case.value
-    name = case.arguments[0]
-    if here is None or here.value.kind != "mapping" or name not in MISSING:
+    """The missing key: a misspelled one of the mapping, or a new one with a first value."""
+    here, name = case.value, case.arguments[0]
+    if here is None or here.value.kind != "mapping":
         return
-    if name == "on" and not is_workflow(case.file):
+    shape = shape_at(case.file, here.path, case.levels((*here.path, "")))
+    row = shape["keys"].get(name, {}) if shape and "keys" in shape else {}
+    wanted = [name, row["need"]] if isinstance(row.get("need"), str) else [name]
+    unknown = [key for key, _ in here.value.entries if shape and key.value not in shape.get("keys", ())]
+    found = [*_renamed(case, unknown, wanted), *_moved_here(case, here.path, wanted)]
+    yield from found
+    if not found:
+        yield from _joined(case, here)
+        yield from _added(case, here, name)
+
+
+def _renamed(case: Case, unknown: list[Node], wanted: list[str]) -> Iterable[Repair]:
+    """The keys that are a slip of a wanted one or another word for it."""
+    for key in unknown:
+        meant = misspelled(key.value, wanted)
+        other = OTHER_NAMES.get(key.value.lower())
+        name = meant or (other if other in wanted else None)
+        if name:
+            yield case.replace(f'change "{key.value}" to "{name}"', name, key.span, is_safe=meant is not None)
+
+
+def _moved_here(case: Case, path: Path, wanted: list[str]) -> Iterable[Repair]:
+    """A missing key that stands in another section, which doesn't have it."""
+    others = (found for found in case.nodes.keys.values() if found.path[-1] in wanted and found.path[:-1] != path)
+    near = (found for found in others if len(found.path) < 3 or found.path[:2] == path[:2])
+    for found in islice(near, MAX_PLACES):
+        if found.path[-1] not in case.known_keys(found.path[:-1]):
+            yield from (repair for goal, repair in moves(case, found) if goal == path)
+
+
+def _joined(case: Case, here: Found) -> Iterable[Repair]:
+    """A step that a dash cut, joined with the next one or the one before it."""
+    steps = case.at(*here.path[:-1]) if here.path[-2:-1] == ("steps",) else None
+    if steps is None or steps.is_flow or here.value.is_flow or not isinstance(here.path[-1], int):
         return
-    value = MISSING[name]
-    if here.value.is_flow and "\n" in value:
+    step, number = here.value, here.path[-1]
+    after = steps.items[number + 1] if number + 1 < len(steps.items) else None
+    before = steps.items[number - 1] if number else None
+    if after and _fit(step, after) and set(step.names()) <= {*STEP_STARTS, "env"}:
+        yield case.of("join it with the step below", _without_dash(case, after))
+    if before and _fit(before, step) and not set(step.names()) & {"name", "id"}:
+        yield case.of("join it with the step above", _without_dash(case, step))
+
+
+def _fit(first: Node, second: Node) -> bool:
+    """Whether two steps could be a single one."""
+    names = {*first.names(), *second.names()}
+    is_one = len(names) == len(first.entries) + len(second.entries) and len(names & {"run", "uses"}) == 1
+    return is_one and second.kind == "mapping" and not second.is_flow and not ("with" in names and "run" in names)
+
+
+def _without_dash(case: Case, item: Node) -> Edit:
+    line, column = item.span.start
+    dash = case.lines[line].index("-")
+    return Edit(Span.on_line(line, dash, column), " " * (column - dash))
+
+
+def _added(case: Case, here: Found, name: str) -> Iterable[Repair]:
+    value = _first_value(case, here, name)
+    if value is None or name == "on" and not is_workflow(case.file) or here.value.is_flow and "\n" in value:
         return
     entry = f"{name}:{value}" if value.startswith("\n") else f"{name}: {value}"
+    title = f'add "{name}" with a first job' if name == "jobs" else f'add "{entry}"' if "\n" not in entry else f'add "{name}"'
     if name in ("jobs", "run", "runs", "steps") and here.value.entries:
-        yield case.of(f'add "{name}"', next_entry(case, here.value, here.value.entries[-1][0].value, entry))
+        yield case.of(title, next_entry(case, here.value, here.value.entries[-1][0].value, entry))
     else:
-        yield case.of(f'add "{name}"', first_entry(case, here.value, entry))
+        yield case.of(title, first_entry(case, here.value, entry))
 
 
-def step_of_its_own(case: Case) -> Iterable[Repair]:
-    """A step with `uses` and `run` split into two, if each is on lines of its own."""
+def _first_value(case: Case, here: Found, name: str) -> str | None:
+    """The value of a new key: as the rest of the file suggests, or one that is often right."""
+    jobs = case.at("jobs")
+    if name == "runs-on" and jobs:
+        used = [job.text("runs-on") or "" for _, job in jobs.entries if "${{" not in (job.text("runs-on") or "${{")]
+        return max(used, key=used.count) if used else MISSING[name]
+    if name == "type":
+        default = here.value.get("default")
+        if here.value.get("options"):
+            return "choice"
+        if default and not default.style and default.value in ("true", "false"):
+            return "boolean"
+        return "number" if default and not default.style and re.fullmatch(r"-?\d+(?:\.\d+)?", default.value) else "string"
+    if name == "description":
+        return here.value.text("name") or MISSING[name]
+    return MISSING.get(name)
+
+
+def new_step(case: Case) -> Iterable[Repair]:
+    """A step that has a second `uses` or `run`, cut in two: at the name, the id or the condition before that key, or at the key."""
     here = case.key
-    if here and here.key and case.line[:here.key.span.start.column].strip() == "" and len(here.path) > 1 and isinstance(here.path[-2], int):
-        column = here.key.span.start.column
-        dash = case.lines[here.parent.span.start.line][:column]
-        if "-" in dash and here.parent.entries[0][0] is not here.key:
-            start = Point(here.key.span.start.line, 0)
-            yield case.replace("make it a step of its own", dash, Span(start, here.key.span.start))
-
-
-def other_kind(case: Case) -> Iterable[Repair]:
-    """A list if one is expected, a space after dashes, a first job, and an alias in place of `<<`."""
-    here = case.value
-    yield from _spaced_dashes(case)
-    if case.arguments[0] == "jobs":
-        yield from _indented_jobs(case)
-        yield from _first_job(case)
-    if case.arguments[0] == "<<":
-        yield from _without_merge(case)
-    if here is None:
+    if here is None or here.key is None or here.path[-3:-2] != ("steps",) or here.parent.is_flow:
         return
-    yield from _of_its_section(case, here)
-    value, text = here.value, case.slice(here.value.span)
-    if value.kind == "scalar" and value.style not in ("|", ">") and value.value:
-        yield case.replace("make it a list", f"[{text}]", value.span)
-        yield case.replace('make it a step with "run"', f"run: {text}", value.span)
-        pair = re.fullmatch(r"([\w-]+)[=:]\s*(.+)", value.value)
-        if pair:
-            yield case.replace("make it a mapping", "{%s: %s}" % (pair[1], quoted(pair[2])), value.span)
-    if value.kind == "mapping":
-        if all(not entry.value and entry.kind == "scalar" for _, entry in value.entries):
-            keys = ", ".join(case.slice(key.span) for key, _ in value.entries)
-            yield case.replace("make it a list", f"[{keys}]", _tight(case, value))
-        if not value.is_flow:
-            yield from as_list(case, value)
-    if value.kind == "sequence":
-        yield from as_mapping(case, value)
-        yield from _scalars_as_other(case, here)
+    keys = [key for key, _ in here.parent.entries]
+    number = next(number for number, key in enumerate(keys) if key is here.key)
+    start = number
+    while start > 1 and keys[start - 1].value in STEP_STARTS:
+        start -= 1
+    first = here.parent.span.start
+    dash = case.lines[first.line][:first.column]
+    for one in dict.fromkeys([start, number]):
+        before = {key.value for key in keys[:one]}
+        at = keys[one].span.start
+        if before & {"run", "uses"} and dash.strip() == "-" and not case.lines[at.line][:at.column].strip():
+            yield case.replace(f'begin a new step at "{keys[one].value}"', dash, Span(Point(at.line, 0), at))
 
 
-def _scalars_as_other(case: Case, here: Found) -> Iterable[Repair]:
-    """A list of texts as a mapping, as a script, or as a single text."""
-    items, span = here.value.items, _tight(case, here.value)
-    texts = [item.value for item in items if item.kind == "scalar"]
-    if not items or len(texts) != len(items):
+def excluded_patterns(case: Case) -> Iterable[Repair]:
+    """The patterns of an `-ignore` filter as patterns with `!` in the filter beside it."""
+    here = case.key
+    names_ = case.arguments
+    if here is None or here.key is None or len(names_) < 2 or not {names_[0] + "-ignore", names_[1] + "-ignore"} & set(names_):
         return
-    if case.arguments[0] == "permissions":
-        yield case.replace("make it a mapping", "{" + ", ".join(f"{scope}: read" for scope in texts) + "}", span)
-    line = case.outline.lines[here.value.span.start.line]
-    if case.arguments[0] == "run" and line.elements:
-        indent = "\n" + " " * (line.elements[-1].column + 2)
-        yield case.replace("write the script as a block", "|" + "".join(indent + text for text in texts), span)
-    pairs = [re.fullmatch(r"([\w-]+)=(.*)", text) for text in texts]
-    if all(pairs):
-        yield case.replace("make it a mapping", "{" + ", ".join(f"{pair[1]}: {quoted(pair[2])}" for pair in pairs if pair) + "}", span)
-    if len(items) == 1:
-        yield case.replace("remove it from the list", case.slice(items[0].span), span)
-
-
-def _of_its_section(case: Case, here: Found) -> Iterable[Repair]:
-    """A schedule, steps, a job or an input, made from the text or the mapping in its place."""
-    value, text, name = here.value, case.slice(here.value.span), case.arguments[0]
-    is_text = value.kind == "scalar" and bool(value.value)
-    column = here.key.span.start.column if here.key else 0
-    if name == "schedule" and is_text:
-        cron = "{cron: %s}" % quoted(value.value)
-        yield case.replace('make it a list of "cron" entries', cron if isinstance(here.path[-1], int) else f"[{cron}]", value.span)
-    elif name == "schedule" and value.is_flow:
-        yield case.replace('make it a list of "cron" entries', f"[{text}]", value.span)
-    elif here.path[:-1] == ("on",) and not value.entries:
-        yield from _settings_of_event(case, here)
-    elif name == "steps" and is_text:
-        yield case.replace("make it a list of steps", "[{run: %s}]" % quoted(value.value), value.span)
-    elif name == "inputs" and value.kind == "sequence" and value.is_flow:
-        entries = ", ".join("%s: {type: string}" % item.value for item in value.items)
-        yield case.replace("make it a mapping", "{" + entries + "}", value.span)
-    elif here.path[-2:-1] == ("inputs",) and is_text:
-        yield case.replace("make it a mapping", "{type: string}", value.span)
-    elif here.path[:-1] == ("jobs",) and here.key and value.kind == "scalar":
-        yield from _indented_keys(case, here)
-        run = value.value or "make"
-        lines = JOB.replace("make", run).split("\n")[1:]
-        yield case.replace("make it a job", ":" + "".join("\n" + " " * column + line for line in lines),
-                           Span(here.key.span.end, value.span.end))
-    elif name == "steps" and value.kind == "scalar" and isinstance(here.path[-1], int):
-        line = case.line_at(value.span.start.line)
-        yield case.replace("add a script", (" " if line.rstrip().endswith("-") else "") + "run: echo",
-                           Span.on_line(value.span.start.line, len(line.rstrip()), len(line)))
-
-
-def _settings_of_event(case: Case, here: Found) -> Iterable[Repair]:
-    """The value of an event as its activity types, or as its branches."""
-    event, value = str(here.path[-1]), here.value
-    items = value.items or [value]
-    is_of_types = {item.value for item in items} <= set(table()["activity types"].get(event, []))
-    key = "types" if is_of_types else "branches"
-    if here.key and all(item.value for item in items) and takes_filter(event, key):
-        texts = ", ".join(case.slice(item.span) for item in items)
-        yield case.replace(f'put it below "{key}"', f": {{{key}: [{texts}]}}", Span(here.key.span.end, _tight(case, value).end))
-
-
-def _indented_keys(case: Case, here: Found) -> Iterable[Repair]:
-    """The keys of a job, moved below it if they are beside it."""
-    if here.value.value or is_within_flow(case, here.path):
-        return
-    after = [(key, value) for key, value in here.parent.entries if here.key and key.span.start > here.key.span.start]
-    keys = itertools.takewhile(lambda entry: entry[0].value in table()["shapes"]["Job"]["keys"], after)
-    edits = _indented(case, keys, "  ")
-    if edits:
-        yield case.of("indent the keys of the job", *edits)
-
-
-def _indented_jobs(case: Case) -> Iterable[Repair]:
-    """The jobs, moved below `jobs` if they are beside it."""
-    tree, jobs = case.tree, case.at("jobs")
-    if tree is None or jobs is None or jobs.kind != "scalar" or jobs.value:
-        return
-    after = tree.entries[tree.names().index("jobs") + 1:]
-    found = itertools.takewhile(lambda entry: entry[0].value not in table()["shapes"]["Workflow"]["keys"], after)
-    edits = _indented(case, found, "  ")
-    if edits:
-        yield case.of("indent the jobs", *edits)
-
-
-def _indented(case: Case, entries: Iterable[tuple[Node, Node]], by: str) -> list[Edit]:
-    """Edits that put a text before the lines of entries: for `- `, before the first line only, and as many spaces before the others."""
-    edits = []
-    for key, value in entries:
-        column = key.span.start.column if by.strip() else 0
-        lines = range(key.span.start.line, last_line(value, case.lines) + 1)
-        edits += [Edit(Span.at(Point(line, column)), by if line == lines[0] else " " * len(by)) for line in lines]
-    return edits
-
-
-def _tight(case: Case, node: Node) -> Span:
-    """The span of a node without the lines after it."""
-    line = last_line(node, case.lines)
-    return node.span if node.span.end.line == line else Span(node.span.start, Point(line, len(case.lines[line])))
-
-
-def as_list(case: Case, mapping: Node) -> Iterable[Repair]:
-    """A block mapping as the only entry of a list, or each of its entries as one."""
-    first, last = mapping.span.start.line, last_line(mapping, case.lines)
-    start = mapping.span.start
-    edits = [Edit(Span.at(start), "- ")]
-    edits += [Edit(Span.at(Point(line, 0)), "  ") for line in range(first + 1, last + 1) if case.lines[line].strip()]
-    yield case.of("make it a list", *edits)
-
-
-def as_mapping(case: Case, sequence: Node) -> Iterable[Repair]:
-    """A list of block mappings without its dashes."""
-    if sequence.is_flow or not sequence.items or any(item.kind != "mapping" or item.is_flow for item in sequence.items):
-        return
-    edits = []
-    for item in sequence.items:
-        line, column = item.span.start
-        dash = case.lines[line].index("-")
-        edits.append(Edit(Span.on_line(line, dash, column), " " * (column - dash)))
-    yield case.of("delete the dashes", *edits)
-
-
-def _spaced_dashes(case: Case) -> Iterable[Repair]:
-    edits = []
-    for number in range(case.span.start.line, len(case.lines)):
-        match = DASH_WITHOUT_SPACE.match(case.lines[number])
-        if match and match.end() - 1 == case.span.start.column:
-            edits.append(Edit(Span.at(Point(number, match.end())), " "))
-    if edits:
-        yield case.of("add a space after the dash", *edits)
-
-
-def _first_job(case: Case) -> Iterable[Repair]:
-    jobs = case.tree.key("jobs") if case.tree else None
-    value = case.at("jobs")
-    if jobs and value and not value.entries and not value.items:
-        line = jobs.span.start.line
-        span = Span.on_line(line, jobs.span.end.column, len(case.lines[line]))
-        yield case.replace("add a job", ":\n  " + JOB.replace("\n", "\n  "), span)
-
-
-def _without_merge(case: Case) -> Iterable[Repair]:
-    """The alias alone if a mapping has nothing but `<<`, otherwise what the alias stands for in its place."""
-    if case.tree is None:
-        return
-    parents: dict[Path, Node] = {(): case.tree}
-    parents.update((path, value) for path, _, value in walk(case.tree))
-    edits = []
-    for path, key, value in walk(case.tree):
-        parent = parents[path[:-1]]
-        if key is None or key.value != "<<" or value.alias is None:
-            continue
-        if len(parent.entries) == 1 and len(path) > 1:
-            edits.append(_alias_alone(case, parent, value))
-        elif value.entries and all(entry.kind == "scalar" for _, entry in value.entries):
-            entries = [f"{name.value}: {case.slice(entry.span)}" for name, entry in value.entries]
-            between = ", " if parent.is_flow else "\n" + " " * key.span.start.column
-            edits.append(Edit(Span(key.span.start, value.span.end), between.join(entries)))
-    if edits:
-        yield case.of('replace "<<"', *edits)
-
-
-def _alias_alone(case: Case, mapping: Node, alias: Node) -> Edit:
-    if mapping.is_flow:
-        return Edit(mapping.span, f"*{alias.alias}")
-    line = mapping.span.start.line
-    before = case.lines[line - 1].rstrip() if line else ""
-    if case.lines[line][:mapping.span.start.column].strip() or not before.endswith(":"):
-        return Edit(Span(mapping.span.start, alias.span.end), f"*{alias.alias}")
-    return Edit(Span(Point(line - 1, len(before)), alias.span.end), f" *{alias.alias}")
-
-
-def other_type(case: Case) -> Iterable[Repair]:
-    """A flag or a number that is written as a text."""
-    here = case.value
-    text = here.value.value.strip() if here else ""
-    if here and text.lower() in FLAGS:
-        yield case.replace(f'change to "{FLAGS[text.lower()]}"', FLAGS[text.lower()], here.value.span)
-    number = re.match(r"-?\d+(?:\.\d+)?", text)
-    if here and number:
-        yield case.replace(f'change to "{number[0]}"', number[0], here.value.span)
-    if here and here.path == ("on",) and not text:
-        key = case.tree.key("on") if case.tree else None
-        if key:
-            span = Span(key.span.end, Point(key.span.end.line, len(case.lines[key.span.end.line])))
-            yield case.replace('add "push"', ": push", span)
-    if here and re.fullmatch(r"\$?\{.*\}?\}", text) and here.value.kind == "scalar":
-        yield case.replace("write it as an expression", "${{ " + text.strip("${} ") + " }}", here.value.span)
-
-
-def skeleton(case: Case) -> Iterable[Repair]:
-    """A file to start from, after its comments."""
-    end = Point(len(case.lines) - 1, len(case.lines[-1]))
-    before = "\n" if case.lines[-1] else ""
-    yield case.replace("insert a skeleton", before + (WORKFLOW if is_workflow(case.file) else ACTION), Span.at(end))
+    kept, ignored = sorted(names_, key=len)
+    first, second = here.parent.get(kept), here.parent.get(ignored)
+    texts = [item for node in (first, second) if node for item in (node.items or [node])]
+    if first and second and (first.is_flow or first.kind == "scalar") and all(item.kind == "scalar" for item in texts):
+        items = [case.slice(item.span) for item in (first.items or [first])]
+        items += [quoted("!" + item.value) for item in (second.items or [second])]
+        yield case.of(f'put its patterns below "{kept}", each with "!"', Edit(first.span, f"[{', '.join(items)}]"),
+                      without_key(case, here.parent, ignored))
 
 
 REPAIRS: dict[str, tuple[Callable[[Case], Iterable[Repair]], ...]] = {
-    "K1": (near_key, one_level_deeper, step_of_keys, part_of_value, deleted),
+    "K1": (near_key, below_inputs, one_level_deeper, step_of_keys, part_of_value, deleted),
     "K2": (missing_key,),
-    "K3": (another_job, deleted),
-    "K4": (other_kind,),
-    "K5": (other_type,),
-    "K6": (step_of_its_own, deleted),
-    "K7": (skeleton,),
+    "K3": (new_step, another_job, repeated),
+    "K6": (new_step, excluded_patterns, deleted),
 }

@@ -2,44 +2,41 @@
 from __future__ import annotations
 
 import re
-from dataclasses import replace
 from typing import Callable, Iterable
 
 from . import project as files
-from .expressions import Scope, chain_before, links
-from .names import LISTS, names, near
+from .expressions import Scope, chain_before
+from .names import likely
+from .operators import parts
 from .paths import is_workflow
 from .report import Fault
-from .repair import Case, Edit, Repair, first_entry, next_entry, quoted, without_entry
-from .repairs_expressions import BRACES, chosen_by_call, expression_of, in_yaml, whole_chain
-from .repairs_rules import POWERSHELLS
+from .repair import Case, Edit, Found, Repair, first_entry, levels_of, next_entry, quoted, without_entry, without_key
+from .repairs_expressions import choice_by_call, expression_of, in_yaml, is_operand, whole_chain
 from .syntax import table
 from .text import Point, Span
-from .tree import Node, Path
+from .tree import Path
 
-# With this many properties, any of them may be meant.
-FEW_NAMES = 3
-SUM_OF_NUMBERS = re.compile(r"([\w.-]+?)\s*([-+*/%])\s*([\w.-]+)")
-CALL_OF_TEXT = re.compile(r"(\w+)\(\s*([\w.-]+)\s*(?:,\s*'([^'|]*)'\s*,\s*'([^'|]*)'\s*)?\)")
 # Words that are often written for a property of `github`.
 OTHER_PROPERTIES = {"branch": "ref_name", "branch_name": "ref_name", "tag": "ref_name", "tag_name": "ref_name", "sha_short": "sha",
                     "commit": "sha", "commit_sha": "sha", "user": "actor", "author": "actor", "repo": "repository",
                     "owner": "repository_owner", "event_type": "event_name", "build_number": "run_number", "run": "run_id"}
-# For functions of other languages, the shell's equivalents.
-SHELL_COMMANDS = {"replace": "sed 's|{0}|{1}|g'", "tolower": "tr '[:upper:]' '[:lower:]'", "lower": "tr '[:upper:]' '[:lower:]'",
-                  "toupper": "tr '[:lower:]' '[:upper:]'", "upper": "tr '[:lower:]' '[:upper:]'", "trim": "xargs"}
+OTHER_FUNCTIONS = {"failed": "failure", "succeeded": "success", "canceled": "cancelled", "toboolean": "fromJSON", "tonumber": "fromJSON",
+                   "parsejson": "fromJSON", "tostring": "toJSON", "includes": "contains", "glob": "hashFiles", "hash": "hashFiles"}
+WORDS = ("true", "false", "null")
+# Whose properties can be meant by a word without a context.
+OF_CONTEXTS = ("matrix", "inputs", "env", "needs", "steps", "github", "runner")
 
 
 def near_name(case: Case) -> Iterable[Repair]:
-    """A similar name. For a property, one that the object has here."""
+    """A similar name: a property that the object has here, a context or a function that is available here."""
     wrong = case.arguments[0]
-    written = case.written
-    quote = written[:1] if written[:1] == "'" else ""
+    quote = case.written[:1] if case.written[:1] == "'" else ""
     known = _properties_before(case) if case.code == "X13" else _scope_names(case)
-    for name in dict.fromkeys([*near(wrong, known), *near(wrong, names()[LISTS[case.code]])]):
-        yield case.replace(f'change to "{name}"', quote + name + quote)
-    if case.code == "X13" and len(known) <= FEW_NAMES:
-        yield from (replace(case.replace(f'change to "{name}"', quote + name + quote), is_last_resort=True) for name in known)
+    for name, is_slip in likely(wrong, known):
+        yield case.replace(f'change to "{name}"', quote + name + quote, is_safe=is_slip)
+    meant = OTHER_FUNCTIONS.get(wrong.lower()) if case.code == "X9" else None
+    if meant in known:
+        yield case.replace(f'change to "{meant}"', str(meant))
 
 
 def scope_of(case: Case) -> Scope | None:
@@ -49,21 +46,11 @@ def scope_of(case: Case) -> Scope | None:
     return Scope(case.project, case.file, case.tree, here.path, levels_of(case.tree, here.path))
 
 
-def levels_of(tree: Node | None, path: Path) -> tuple[dict[str, str], ...]:
-    """The keys of each mapping on the way to a node, with the texts of their values."""
-    found: list[dict[str, str]] = []
-    node = tree
-    for step in path:
-        found.append({key.value: value.value for key, value in node.entries} if node else {})
-        node = node.at((step,)) if node else None
-    return tuple(found)
-
-
 def _scope_names(case: Case) -> list[str]:
     scope = scope_of(case)
     if scope is None:
         return []
-    return scope.functions() if case.code == "X9" else [one.name for one in scope.contexts()]
+    return scope.functions() if case.code == "X9" else [*(one.name for one in scope.contexts()), *WORDS]
 
 
 def _properties_before(case: Case) -> list[str]:
@@ -96,37 +83,18 @@ def other_property(case: Case) -> Iterable[Repair]:
         yield case.replace(f'change to "{meant}"', meant)
 
 
-def _braces(case: Case) -> tuple[re.Match[str], Span] | None:
-    """The braces around the fault with their contents, and their place."""
-    match = next((match for match in BRACES.finditer(case.line) if match.start() <= case.span.start.column < match.end()), None)
-    return (match, Span.on_line(case.span.start.line, match.start(), match.end())) if match else None
-
-
-def computed_by_shell(case: Case) -> Iterable[Repair]:
-    """What expressions can't compute, in the language of the script's shell: a sum, or another text."""
-    here, braces = case.scalar, _braces(case)
-    if here is None or braces is None or here.path[-1:] != ("run",) or case.shell_of(here) not in ("bash", "sh"):
-        return
-    match, span = braces
-    sum_of = SUM_OF_NUMBERS.fullmatch(match[1].strip())
-    if sum_of:
-        yield case.replace("let the shell compute it", f"$(( ${{{{ {sum_of[1]} }}}} {sum_of[2]} {sum_of[3]} ))", span)
-    call = CALL_OF_TEXT.fullmatch(match[1].strip())
-    command = SHELL_COMMANDS.get(call[1].lower().replace("_", "")) if call else None
-    if call and command and (call[3] is not None) == ("{0}" in command):
-        yield case.replace("let the shell compute it", f'$(echo "${{{{ {call[2]} }}}}" | {command.format(call[3], call[4])})', span)
-
-
 def declared_row(case: Case) -> Iterable[Repair]:
-    """A new row in the matrix of the job."""
+    """A new row in the matrix of the job, if the job then runs as often as before: not beside `include` alone, whose entries would all be
+    added to the new row's only value."""
     chain, _ = whole_chain(case)
     job = case.at("jobs", case.job) if case.job else None
-    if job is None or len(chain) < 2 or chain[0].lower() != "matrix":
+    if job is None or len(chain) != 2 or chain[0].lower() != "matrix" or likely(chain[1], _properties_before(case)):
         return
-    row = f"{chain[1]}: [{'ubuntu-latest' if chain[1] == 'os' else quoted('')}]"
+    value = "ubuntu-latest" if chain[1] == "os" else ""
+    row = f"{chain[1]}: [{value or quoted('')}]"
     matrix, strategy = case.at("jobs", case.job or "", "strategy", "matrix"), job.get("strategy")
-    title = f'add the row "{chain[1]}"'
-    if matrix and matrix.kind == "mapping" and matrix.entries:
+    title = f'add the row "{chain[1]}", with the value "{value}" alone'
+    if matrix and matrix.kind == "mapping" and set(matrix.names()) - {"include", "exclude"}:
         yield case.of(title, first_entry(case, matrix, row))
     elif matrix is None and strategy and strategy.kind == "mapping" and strategy.entries:
         yield case.of(title, first_entry(case, strategy, f"matrix: {{{row}}}" if strategy.is_flow else f"matrix:\n  {row}"))
@@ -135,28 +103,82 @@ def declared_row(case: Case) -> Iterable[Repair]:
                       first_entry(case, job, f"strategy: {{matrix: {{{row}}}}}" if job.is_flow else f"strategy:\n  matrix:\n    {row}"))
 
 
+def unknown_word(case: Case) -> Iterable[Repair]:
+    """A function with its missing brackets, a property with its missing context, or a text in quotes: that first, if it is compared with
+    what is before it."""
+    if case.arguments[0].lower() in [name.lower() for name in _functions(case)]:
+        yield case.replace('add "()"', case.written + "()", is_safe=True)
+        return
+    if case.arguments[0].lower() in WORDS:
+        yield case.replace(f'change to "{case.arguments[0].lower()}"', case.arguments[0].lower(), is_safe=True)
+        return
+    is_right_side = re.search(r"[=!]=\s*$", case.line[:case.span.start.column]) is not None
+    ways = (as_text, with_context) if is_right_side else (with_context, as_text)
+    yield from (repair for way in ways for repair in way(case))
+
+
+def _functions(case: Case) -> list[str]:
+    scope = scope_of(case)
+    return scope.functions() if scope else []
+
+
+def with_context(case: Case) -> Iterable[Repair]:
+    """A word that is a property of contexts that are available here, with each of them."""
+    scope = scope_of(case)
+    chain, span = whole_chain(case)
+    if scope is None or not chain:
+        return
+    available = {one.name for one in scope.contexts()}
+    for context in OF_CONTEXTS:
+        names_ = [one.name.lower() for one in scope.properties((context,))] if context in available else []
+        if chain[0].lower() in names_:
+            yield case.replace(f"change to {context}.{chain[0]}", f"{context}.{chain[0]}", Span(span.start, case.span.end))
+
+
 def as_text(case: Case) -> Iterable[Repair]:
-    """A word that isn't a context, in quotes; or a function with its missing brackets."""
-    if case.arguments[0].lower() in [name.lower() for name in names()["functions"]]:
-        yield case.replace('add "()"', case.written + "()")
+    """A word that isn't a context, in quotes, if it is compared or an argument. What is compared on the right side can be nothing else."""
     chain, span = whole_chain(case)
     expression = expression_of(case)
-    if chain and expression:
-        match = re.match(r"[\w./*-]+", case.line[span.start.column:])
-        spans = [span] + ([Span(span.start, Point(span.start.line, span.start.column + match.end()))] if match else [])
-        for one in reversed(spans):
-            yield case.replace("put it in quotes", in_yaml("'" + case.slice(one) + "'", expression), one)
+    match = re.match(r"[\w./*-]+(?:\[\w+\])?", case.line[span.start.column:]) if chain else None
+    if match is None or expression is None:
+        return
+    end = span.start.column + len(match[0])
+    before, after = case.line[:span.start.column], case.line[end:]
+    if not is_operand(before, after):
+        return
+    is_word = "." not in match[0] and not match[0].isupper() and not likely(chain[0], _scope_names(case)) and not list(with_context(case))
+    is_compared_with_name = re.search(r"[\w\])]\s*[=!]=\s*$", before) is not None
+    place = Span.on_line(span.start.line, span.start.column, end)
+    yield case.replace("put it in quotes", in_yaml(f"'{match[0]}'", expression), place, is_word and is_compared_with_name)
+
+
+def sibling_property(case: Case) -> Iterable[Repair]:
+    """A property of what is before the value that can't be indexed, in place of that value's."""
+    chain, span = whole_chain(case)
+    scope = scope_of(case)
+    before = chain_before(case.line[span.start.column:case.span.start.column] + ".") if chain else None
+    number = len(before.chain) if before else 0
+    if scope is None or not 1 < number < len(chain):
+        return
+    name = chain[number]
+    if name in [one.name for one in scope.properties(chain[:number - 1])]:
+        text = ".".join([*chain[:number - 1], *chain[number:]])
+        yield case.replace(f"change to {text}", text, span)
 
 
 def needed_job(case: Case) -> Iterable[Repair]:
-    """`needs` with the job whose name is used."""
+    """`needs` with the job whose name is used, or with a similar one."""
     chain, _ = whole_chain(case)
     tree, job = case.tree, case.job
-    if tree is None or job is None or not chain or chain[0].lower() != "needs":
+    if tree is None or job is None or len(chain) < 2 or chain[0].lower() != "needs" or chain[1].lower() != case.arguments[0].lower():
         return
-    name = next((name for name in tree.names("jobs") if name.lower() == case.arguments[0].lower()), None)
-    if name and name not in files.dependents(tree, job):
+    free = [name for name in tree.names("jobs") if name not in files.dependents(tree, job) and name not in files.needed(tree, job)]
+    name = next((name for name in free if name.lower() == case.arguments[0].lower()), None)
+    if name:
         yield case.of(f'add "{name}" to "needs"', _need(case, job, name))
+    elif not likely(case.arguments[0], files.needed(tree, job)):
+        yield from (case.of(f'change to "{one}", and add it to "needs"', Edit(case.span, one), _need(case, job, one))
+                    for one, _ in likely(case.arguments[0], free))
 
 
 def _need(case: Case, job: str, name: str) -> Edit:
@@ -206,6 +228,8 @@ def declared_input(case: Case) -> Iterable[Repair]:
     if not chain or chain[0].lower() != "inputs" or case.tree is None:
         return
     name = case.arguments[0]
+    if any(is_slip for _, is_slip in likely(name, _properties_before(case))):
+        return
     ways: list[Path] = [("on", "workflow_dispatch"), ("on", "workflow_call")] if is_workflow(case.file) else [()]
     for way in ways:
         yield from _declaring(case, way, name, f'declare the input "{name}"')
@@ -229,31 +253,71 @@ def _declaring(case: Case, way: Path, name: str, title: str, *edits: Edit) -> It
 
 
 def other_context(case: Case) -> Iterable[Repair]:
-    """An available context in place of one that isn't: the value of a variable, `vars`, or an input of an action."""
+    """An available context in place of one that isn't, or what it stands for: the value of a variable, a needed job, an input of an
+    action."""
     chain, span = whole_chain(case)
     if len(chain) < 2 or case.tree is None:
         return
-    if chain[0].lower() == "env" and len(chain) == 2:
-        yield from _value_of_variable(case, chain[1], span)
-        yield case.replace(f"change to vars.{chain[1]}", f"vars.{chain[1]}", span)
-    if chain[0].lower() == "jobs" and case.job:
-        name = next((one for one in case.tree.names("jobs") if one.lower() == chain[1].lower()), None)
-        edit = Edit(Span(span.start, Point(span.start.line, span.start.column + len("jobs"))), "needs")
-        if name and name in files.needed(case.tree, case.job):
-            yield case.of("change to needs", edit)
-        elif name and name not in files.dependents(case.tree, case.job):
-            yield case.of("change to needs", edit, _need(case, case.job, name))
-    if chain[0].lower() == "secrets" and not is_workflow(case.file):
-        name = chain[1].lower()
-        edit = Edit(span, f"inputs.{name}")
-        if case.at("inputs", name):
-            yield case.of(f"change to inputs.{name}", edit)
-        else:
-            yield from _declaring(case, (), name, f'take it from an input "{name}"', edit)
-    if chain[0].lower() == "secrets" and is_workflow(case.file):
+    context = chain[0].lower()
+    if context == "env" and len(chain) == 2:
+        if not _is_condition_of_job(case):
+            yield from _value_of_variable(case, chain[1], span)
+    if context == "jobs" and case.job:
+        yield from _needs_for_jobs(case, chain, span)
+    if context == "secrets" and not is_workflow(case.file):
+        yield from _input_for_secret(case, chain, span)
+    if context == "secrets" and is_workflow(case.file):
         yield from _by_env(case, chain, span)
-    if case.job and case.scalar and case.scalar.path[2:] == ("if",):
+        yield from _passed_as_secret(case)
+    if _is_condition_of_job(case):
         yield from _moved_to_steps(case, chain, span)
+    if context == "env" and len(chain) == 2:
+        yield case.replace(f"change to vars.{chain[1]}, a variable of the repository", f"vars.{chain[1]}", span)
+
+
+def _is_condition_of_job(case: Case) -> bool:
+    return case.job is not None and case.scalar is not None and case.scalar.path[2:] == ("if",)
+
+
+def _needs_for_jobs(case: Case, chain: tuple[str, ...], span: Span) -> Iterable[Repair]:
+    assert case.tree and case.job
+    name = next((one for one in case.tree.names("jobs") if one.lower() == chain[1].lower()), None)
+    edit = Edit(Span(span.start, Point(span.start.line, span.start.column + len("jobs"))), "needs")
+    if name and name in files.needed(case.tree, case.job):
+        yield case.of("change to needs", edit, is_safe=True)
+    elif name and name not in files.dependents(case.tree, case.job):
+        yield case.of(f'change to needs, and add "{name}" to "needs"', edit, _need(case, case.job, name))
+
+
+def _input_for_secret(case: Case, chain: tuple[str, ...], span: Span) -> Iterable[Repair]:
+    name = chain[1].lower()
+    edit = Edit(span, f"inputs.{name}")
+    if case.at("inputs", name):
+        yield case.of(f"change to inputs.{name}", edit)
+    else:
+        yield from _declaring(case, (), name, f'take it from a new input "{name}"', edit)
+
+
+def _passed_as_secret(case: Case) -> Iterable[Repair]:
+    """A secret under `with` of a called workflow, moved to `secrets`."""
+    if case.scalar and case.job:
+        yield from as_secret(case, case.scalar)
+
+
+def as_secret(case: Case, here: Found) -> Iterable[Repair]:
+    """An entry of `with` of a called workflow, moved to `secrets`."""
+    job = case.at(*here.path[:2])
+    if here.key is None or job is None or here.path[2:3] != ("with",) or len(here.path) != 4:
+        return
+    secrets, text = job.get("secrets"), f"{here.key.value}: {case.slice(here.value.span)}"
+    removed = without_entry(case, here.parent, here.key) if len(here.parent.entries) > 1 else without_key(case, job, "with")
+    if secrets is None:
+        added = next_entry(case, job, "uses", f"secrets: {{{text}}}" if job.is_flow or here.parent.is_flow else f"secrets:\n  {text}")
+    elif secrets.entries:
+        added = first_entry(case, secrets, text)
+    else:
+        return
+    yield case.of('move it to "secrets"', removed, added)
 
 
 def _value_of_variable(case: Case, name: str, span: Span) -> Iterable[Repair]:
@@ -290,18 +354,30 @@ def _secret_variable(chain: tuple[str, ...]) -> tuple[str, str]:
 
 
 def _moved_to_steps(case: Case, chain: tuple[str, ...], span: Span) -> Iterable[Repair]:
-    """The condition of a job, moved to each of its steps, with a variable of the job in place of a secret."""
+    """The condition of a job, moved to each of its steps, with a variable of the job in place of a secret. What is beside it after `&&` and
+    has no such context stays."""
     job = case.at("jobs", case.job or "")
-    key, condition, steps = (job.key("if"), job.get("if"), job.get("steps")) if job else (None, None, None)
-    if not job or key is None or condition is None or steps is None or any(step.get("if") for step in steps.items):
+    value, steps = (job.get("if"), job.get("steps")) if job else (None, None)
+    if not job or value is None or steps is None or any(step.get("if") or step.kind != "mapping" for step in steps.items):
         return
-    text, variable = case.slice(condition.span), []
+    text, whole = value.value.strip().removeprefix("${{").removesuffix("}}").strip(), case.slice(span)
+    moved = [part for part in parts(text, "&&") if re.search(rf"\b{re.escape(chain[0])}\b", part)]
+    stays = [part for part in parts(text, "&&") if part not in moved]
+    if "${{" in text or any(re.search(r"\b(?:always|failure|cancelled)\(", part) for part in moved):
+        return
+    variable, new = [], " && ".join(moved)
     if chain[0].lower() == "secrets" and job.get("runs-on") and job.get("env") is None:
         name, entry = _secret_variable(chain)
-        text = text.replace(case.slice(span), f"env.{name}")
+        new = new.replace(whole, f"env.{name}")
         variable = [next_entry(case, job, "runs-on", f"env: {{{entry}}}" if job.is_flow else f"env:\n  {entry}")]
-    edits = [first_entry(case, step, f"if: {text}") for step in steps.items if step.kind == "mapping"]
-    yield case.of("put the condition on the steps", without_entry(case, job, key), *variable, *edits)
+    kept = Edit(value.span, _as_condition(" && ".join(stays))) if stays else without_key(case, job, "if")
+    edits = [first_entry(case, step, f"if: {_as_condition(new, step.is_flow)}") for step in steps.items]
+    yield case.of("put the condition on the steps" if not stays else f'put "{new}" on the steps', kept, *variable, *edits)
+
+
+def _as_condition(text: str, in_flow: bool = False) -> str:
+    text = "${{ " + text + " }}" if text.startswith("!") else text
+    return quoted(text) if in_flow and re.search(r"[\[\]{},]", text) else text
 
 
 def moved_variable(case: Case) -> Iterable[Repair]:
@@ -319,45 +395,10 @@ def moved_variable(case: Case) -> Iterable[Repair]:
             edits.append(first_entry(case, env, flow_entry if env.is_flow else entry))
         elif env is None:
             edits.append(first_entry(case, step, f"env: {{{flow_entry}}}" if step.is_flow else f"env:\n  {entry}"))
-    whole = job.key("env")
-    if not edits or whole is None:
+    if not edits:
         return
-    removed = without_entry(case, here.parent, here.key) if len(here.parent.entries) > 1 else without_entry(case, job, whole)
+    removed = without_entry(case, here.parent, here.key) if len(here.parent.entries) > 1 else without_key(case, job, "env")
     yield case.of("move it to the steps", removed, *edits)
-
-
-def by_variable(case: Case) -> Iterable[Repair]:
-    """A text that anybody can write, by way of a variable of the step, which the shell doesn't read as commands."""
-    here, braces = case.scalar, _braces(case)
-    if here is None or braces is None or here.path[-1:] != ("run",):
-        return
-    match, span = braces
-    name = re.sub(r"\W", "_", links(case.arguments[0])[-1]).upper() if links(case.arguments[0]) else "TEXT"
-    used = _shell_variable(case, match, name, case.shell_of(here))
-    if used is None:
-        return
-    entry = f"{name}: {match[0]}"
-    env = here.parent.get("env")
-    edit = Edit(span, used)
-    if env and env.entries:
-        entry = f"{name}: {quoted(match[0])}" if env.is_flow else entry
-        yield case.of(f'pass it in the variable "{name}"', first_entry(case, env, entry), edit)
-    elif env is None:
-        text = f"env: {{{name}: {quoted(match[0])}}}" if here.parent.is_flow else f"env:\n  {entry}"
-        yield case.of(f'pass it in the variable "{name}"', next_entry(case, here.parent, "run", text), edit)
-
-
-def _shell_variable(case: Case, match: re.Match[str], name: str, shell: str) -> str | None:
-    before = case.line[:match.start()]
-    if shell in POWERSHELLS:
-        return f"$env:{name}"
-    if shell == "cmd":
-        return f"%{name}%"
-    if shell == "python":
-        return None
-    if before.count('"') % 2:
-        return "$" + name if not re.match(r"\w", case.line[match.end():]) else "${" + name + "}"
-    return f"'\"${name}\"'" if before.count("'") % 2 else f'"${name}"'
 
 
 def declared_output(case: Case) -> Iterable[Repair]:
@@ -367,14 +408,18 @@ def declared_output(case: Case) -> Iterable[Repair]:
     if job is None:
         return
     name = case.arguments[0]
+    if any(is_slip for _, is_slip in likely(name, _properties_before(case))):
+        return
     callee = case.project.callee(job.text("uses"), True)
     if callee:
         yield from _declared_by(case, callee, name)
         return
-    ids = [step.text("id") for step in files.steps_of(case.tree, chain[1]) if step.text("id")]
-    entry = f"{name}: {quoted('${{ steps.%s.outputs.%s }}' % (ids[-1], name)) if ids else quoted('')}"
+    steps = [step for step in files.steps_of(case.tree, chain[1]) if step.text("id")]
+    writes = [step for step in steps if name in files.written_outputs(step)] or steps
+    step = writes[-1].text("id") if writes else None
+    entry = f"{name}: {quoted('${{ steps.%s.outputs.%s }}' % (step, name)) if step else quoted('')}"
     outputs = job.get("outputs")
-    title = f'add the output "{name}" to "{chain[1]}"'
+    title = f'add the output "{name}" to "{chain[1]}", ' + (f'from its step "{step}"' if step else "without a value")
     if outputs and outputs.entries:
         yield case.of(title, first_entry(case, outputs, entry))
     elif outputs is None and job.get("runs-on"):
@@ -397,15 +442,14 @@ def _declared_by(case: Case, callee: str, name: str) -> Iterable[Repair]:
         edit = first_entry(other, call, f"outputs: {{{entry}}}")
     else:
         edit = Edit(Span(key.span.end, call.span.end), f": {{outputs: {{{entry}}}}}")
-    yield Repair(f'add the output "{name}" to {callee}', {callee: (edit,)})
+    yield Repair(f'add the output "{name}" to {callee}, without a value', {callee: (edit,)})
 
 
 REPAIRS: dict[str, tuple[Callable[[Case], Iterable[Repair]], ...]] = {
-    "X1": (computed_by_shell,),
-    "X7": (near_name, of_github, as_text),
+    "X7": (near_name, unknown_word, of_github),
     "X8": (other_context, moved_variable),
-    "X9": (near_name, chosen_by_call, computed_by_shell),
+    "X9": (near_name, choice_by_call),
     "X10": (moved_variable,),
+    "X14": (sibling_property,),
     "X13": (other_property, near_name, needed_job, output_of_job, declared_input, declared_output, declared_row),
-    "X19": (by_variable,),
 }

@@ -1,12 +1,18 @@
 """Repairs of faults within one file that GitHub refuses, or accepts without doing what was meant."""
 from __future__ import annotations
 
+import itertools
 import re
 from typing import Callable, Iterable
 
-from .names import LISTS, names, near
-from .repair import Case, Edit, Repair, as_scalar, is_within_flow, next_entry, quoted, without_entry
-from .repairs_keys import as_list, as_mapping, deleted, in_its_quotes
+from .expressions import CHAIN, links
+from .names import LISTS, likely, names
+from .repair import Case, Edit, Repair, as_scalar, is_within_flow, next_entry, quoted, without_key
+from .repairs_expressions import BRACES
+from .repairs_keys import deleted, in_its_quotes
+from .repairs_kinds import as_list, as_mapping
+from .stricter import takes_access
+from .syntax import table
 from .text import Point, Span
 from .tree import Node
 
@@ -21,17 +27,15 @@ GREATEST = (59, 23, 31, 12, 6)
 MAX_SCHEDULE_CHARACTERS = 200
 # Values that are often written instead of another one that isn't similar enough to be found.
 OTHER_VALUES = {"text": "string", "str": "string", "int": "number", "integer": "number", "float": "number", "bool": "boolean",
-                "list": "choice", "array": "string", "readonly": "read", "read-only": "read", "rw": "write", "admin": "write",
+                "list": "choice", "array": "string", "choice": "string", "environment": "string", "readonly": "read",
+                "read-only": "read", "rw": "write", "admin": "write",
                 "all": "write-all", "merged": "closed", "merge": "closed", "updated": "synchronize", "pushed": "synchronize",
                 "commented": "created", "approved": "submitted", "node18": "node20", "node22": "node24", "node14": "node20",
                 "node": "node20", "javascript": "node20", "shell": "bash", "bash.exe": "bash", "batch": "cmd", "python3": "python"}
-COMMAND = re.compile(r"""(?P<head>(?:echo|printf|Write-Output|Write-Host)\s+(?:-[en]+\s+)?|print\(f?)?(?P<quote>["']?)"""
-                     r"""::(?P<command>set-output|save-state|set-env) name=(?P<name>[^:\n]+?)::(?P<value>[^\n]*?)(?P=quote)"""
-                     r"""(?:(?<=['"])\))?(?=\s*(?:$|[;&|]|\n))""", re.M)
-ADD_PATH = re.compile(r"""(?P<head>(?:echo|Write-Output|Write-Host)\s+)?(?P<quote>["']?)::add-path::(?P<value>[^\n]*?)(?P=quote)"""
-                      r"""(?=\s*(?:$|[;&|]|\n))""", re.M)
-FILES = {"set-output": "GITHUB_OUTPUT", "save-state": "GITHUB_STATE", "set-env": "GITHUB_ENV", "add-path": "GITHUB_PATH"}
-POWERSHELLS = ("pwsh", "powershell")
+# Programs that run a script, given as a file.
+INTERPRETERS = ("zsh", "fish", "dash", "ksh", "nu", "elvish", "node", "deno", "bun", "perl", "ruby", "Rscript", "php", "lua", "tclsh")
+WORDS_OF_SCALARS = {"read": "read-all", "write": "write-all", "readonly": "read-all", "all": "write-all"}
+RANGE_WITHOUT_END = re.compile(r"\[((?:\w-\w)+)(?=[^]\w-]|$)")
 
 
 def several_events(case: Case) -> Iterable[Repair]:
@@ -40,47 +44,100 @@ def several_events(case: Case) -> Iterable[Repair]:
     words = re.split(r"[\s,|/]+", here.value.value.strip()) if here else []
     if here and len(words) > 1 and all(word in names()["events"] for word in words):
         text = ", ".join(words)
-        yield case.replace("make it a list", text if isinstance(here.path[-1], int) else f"[{text}]", here.value.span)
+        yield case.replace("make it a list", text if isinstance(here.path[-1], int) else f"[{text}]", here.value.span, is_safe=True)
 
 
 def other_event(case: Case) -> Iterable[Repair]:
-    """The event that is meant by an unknown word; for `cron` with a time, the schedule."""
+    """The event that is meant by an unknown word, unless it is there; for `cron` with a time, the schedule."""
     meant = OTHER_EVENTS.get(case.arguments[0].lower().replace("-", "_"))
     here = case.key
     if here and here.key and meant == "schedule" and here.value.kind == "scalar" and here.value.value:
         text = "schedule: [{cron: %s}]" % quoted(here.value.value)
         yield case.replace("make it a schedule", text, Span(here.key.span.start, here.value.span.end))
-    if meant:
+    on = case.at("on")
+    if meant and on and meant not in (*on.names(), *(item.value for item in on.items)):
         yield in_its_quotes(case, meant)
 
 
 def near_listed(case: Case) -> Iterable[Repair]:
-    """A similar name of the list."""
-    known, wrong = names()[LISTS[case.code]], case.arguments[0]
-    meant = [OTHER_VALUES[wrong.lower()]] if OTHER_VALUES.get(wrong.lower()) in known else []
-    yield from (in_its_quotes(case, name) for name in dict.fromkeys([*meant, *near(wrong, known)]))
+    """A similar name of the list, or the one that is meant by another word."""
+    known, wrong = _listed(case), case.arguments[0]
+    words = re.split(r"[\s,|]+", wrong.strip())
+    here = case.value
+    if case.code == "G2" and len(words) > 1 and here and all(word in known for word in words):
+        text = ", ".join(words)
+        yield case.replace("make it a list", text if isinstance(here.path[-1], int) else f"[{text}]", here.value.span, is_safe=True)
+        return
+    found = likely(wrong, known)
+    meant = OTHER_VALUES.get(wrong.lower())
+    if case.code == "G12" and wrong in INTERPRETERS:
+        return
+    if meant in known and not any(is_slip for _, is_slip in found):
+        yield in_its_quotes(case, str(meant))
+        return
+    yield from (in_its_quotes(case, name, is_slip) for name, is_slip in found)
 
 
-def every_listed(case: Case) -> Iterable[Repair]:
-    """Each name of a short list, the most similar first."""
-    known, wrong = names()[LISTS[case.code]], case.arguments[0]
-    meant = [OTHER_VALUES[wrong.lower()]] if wrong.lower() in OTHER_VALUES else []
-    command_line = [wrong + " {0}"] if case.code == "G12" and wrong else []
-    yield from (in_its_quotes(case, name) for name in dict.fromkeys([*meant, *near(wrong, known, 2), *command_line, *known]))
+def _listed(case: Case) -> list[str]:
+    """The names that are possible here: the types of the event, the access levels of the scope, or all of the list."""
+    here, known = case.value, names()[LISTS[case.code]]
+    if case.code == "G1":
+        on = case.at("on")
+        there = (*on.names(), *(item.value for item in on.items)) if on else ()
+        return [name for name in known if name not in there]
+    if case.code == "G2" and here and here.path[:1] == ("on",):
+        return table()["activity types"].get(str(here.path[1]), known)
+    if case.code == "G14" and here and here.path[-1:] != ("permissions",):
+        return [name for name in ("read", "write", "none") if takes_access(str(here.path[-1]), name)]
+    if case.code == "G19" and here and here.path[:2] == ("on", "workflow_call"):
+        return list(table()["call input types"])
+    return ["read-all", "write-all"] if case.code == "G14" else known
+
+
+def access_to_all(case: Case) -> Iterable[Repair]:
+    """One access level for all scopes, as a text in place of the scopes."""
+    here = case.value
+    meant = WORDS_OF_SCALARS.get(case.arguments[0].lower())
+    if here and here.path[-1:] == ("permissions",) and here.value.kind == "scalar" and meant:
+        yield in_its_quotes(case, meant)
+
+
+def command_line(case: Case) -> Iterable[Repair]:
+    """The program's command line, if it isn't one of the shells that GitHub knows by their names."""
+    program, _, options = case.arguments[0].partition(" ")
+    name = program.rpartition("/")[2].removesuffix(".exe")
+    if case.arguments[0] in INTERPRETERS or options and "{0}" not in options:
+        yield in_its_quotes(case, case.arguments[0] + " {0}", not options)
+    elif name != program and name in names()["shells"]:
+        yield in_its_quotes(case, name)
 
 
 def pattern(case: Case) -> Iterable[Repair]:
-    """A pattern without `./` or signs of regular expressions at its ends, and without spaces."""
+    """A pattern without `./` or signs of regular expressions at its ends, with brackets that are closed, and without spaces."""
     here = case.value
     if here is None:
         return
     text = here.value.value
-    tries = [re.sub(r"^(!?)(?:\./)+", r"\1", text), re.sub(r"^(!?)/", r"\1", text), re.sub(r"^\^|\$$", "", text),
-             re.sub(r"\s+", "-", text.strip()), text.strip(), text + "]" if "[" in text else text, text.replace("\\", "/"),
-             re.sub(r"[~^:]", "-", text), text.replace("[", "\\["), re.sub(r"^([+?])", r"\\\1", text)]
+    dashes = [line for line in range(here.value.span.start.line, here.value.span.end.line + 1) if re.match(r" *-\S", case.lines[line])]
+    if text.startswith("-") and not here.value.style and dashes and dashes[0] == here.value.span.start.line:
+        yield case.of("add a space after each dash", *(Edit(Span.at(Point(line, case.lines[line].index("-") + 1)), " ") for line in dashes),
+                      is_safe=True)
+        return
+    words = text.replace(",", " ").split()
+    if "," in text and len(words) > 1 and not is_within_flow(case, here.path) and not isinstance(here.path[-1], int):
+        yield case.replace("make it a list", "[" + ", ".join(quoted(word) for word in words) + "]", here.value.span)
+        return
+    without_dot = re.sub(r"^(!?)(?:\./)+", r"\1", text)
+    plain = re.sub(r"^\^|\$$", "", text)
+    closed = RANGE_WITHOUT_END.sub(r"[\1]", plain)
+    tries = [without_dot, re.sub(r"^(!?)/", r"\1", text), plain, closed, closed + "]" if closed.count("[") > closed.count("]") else closed,
+             text.strip(), re.sub(r"\s+", "-", text.strip()), text.replace("\\", "/"), re.sub(r"[~^:]", "-", text),
+             re.sub(r"^([+?])", r"\\\1", text)]
     for changed in dict.fromkeys(tries):
         if changed and changed != text:
-            yield case.replace(f'change to "{changed}"', quoted(changed), here.value.span)
+            yield case.replace(f'change to "{changed}"', quoted(changed), here.value.span, changed in (without_dot, text.strip()))
+            if changed == closed:
+                break
 
 
 def schedule(case: Case) -> Iterable[Repair]:
@@ -91,12 +148,15 @@ def schedule(case: Case) -> Iterable[Repair]:
     text = here.value.value.strip()
     fields = PRESETS.get(text, text).replace("?", "*").split()
     if len(fields) == 6:
-        yield case.replace("delete the seconds", quoted(" ".join(fields[1:])), here.value.span)
-        yield case.replace("delete the year", quoted(" ".join(fields[:5])), here.value.span)
+        yield case.replace("delete the seconds", quoted(" ".join(fields[1:])), here.value.span, deletes=True)
+        yield case.replace("delete the year", quoted(" ".join(fields[:5])), here.value.span, deletes=True)
+    if not 4 <= len(fields) <= 5 or not any(sign.isdigit() or sign == "*" for sign in text) and text not in PRESETS:
+        return
     fields += ["*"] * (5 - len(fields))
     fields = [WORD_OF_CRON.sub(lambda match: match[0][:3].upper(), field) for field in fields]
     changed = " ".join(_bounded(field, most) for field, most in zip(fields, GREATEST))
-    yield case.replace(f'change to "{changed}"', quoted(changed), here.value.span)
+    is_same = text in PRESETS or WORD_OF_CRON.sub(lambda match: match[0][:3].upper(), text) == changed
+    yield case.replace(f'change to "{changed}"', quoted(changed), here.value.span, is_safe=is_same)
 
 
 def _bounded(field: str, most: int) -> str:
@@ -142,11 +202,13 @@ def _needs(case: Case) -> Iterable[Node]:
 
 
 def another_id(case: Case) -> Iterable[Repair]:
+    """A step's id or a job's key with a number that none has."""
     here = case.key or case.value
     node = here.key if here and case.key and here.key else here.value if here else None
     if node:
-        for number in range(2, 5):
-            yield case.replace(f'change to "{node.value}-{number}"', f"{node.value}-{number}", node.span)
+        taken = set(re.findall(r"-(\d+)(?!\d)", case.text))
+        name = f"{node.value}-" + next(str(number) for number in itertools.count(2) if str(number) not in taken)
+        yield case.replace(f'change to "{name}"', name, node.span)
 
 
 def near_job(case: Case) -> Iterable[Repair]:
@@ -157,8 +219,9 @@ def near_job(case: Case) -> Iterable[Repair]:
         words = re.split(r"[\s,]+", here.value.value.strip())
         if len(words) > 1 and all(word in jobs for word in words):
             text = ", ".join(words)
-            yield case.replace("make it a list", text if isinstance(here.path[-1], int) else f"[{text}]", here.value.span)
-        yield from (case.replace(f'change to "{name}"', name, here.value.span) for name in near(case.arguments[0], jobs))
+            yield case.replace("make it a list", text if isinstance(here.path[-1], int) else f"[{text}]", here.value.span, is_safe=True)
+        yield from (case.replace(f'change to "{name}"', as_scalar(name, here.value.style, False), here.value.span, is_slip)
+                    for name, is_slip in likely(case.arguments[0], jobs))
     yield from without_need(case)
 
 
@@ -169,14 +232,14 @@ def without_need(case: Case) -> Iterable[Repair]:
         return
     title = f'take "{here.value.value}" out of "needs"'
     job = case.at("jobs", case.job)
-    key, needs = (job.key("needs"), job.get("needs")) if job else (None, None)
-    if job is None or key is None or needs is None:
+    needs = job.get("needs") if job else None
+    if job is None or needs is None:
         return
     if needs.kind == "scalar" or len(needs.items) == 1:
         if len(job.entries) > 1:
-            yield case.of(title, without_entry(case, job, key))
+            yield case.of(title, without_key(case, job, "needs"), deletes=True)
     else:
-        yield case.of(title, _without_item(case, needs, here.value))
+        yield case.of(title, _without_item(case, needs, here.value), deletes=True)
 
 
 def _without_item(case: Case, sequence: Node, item: Node) -> Edit:
@@ -197,10 +260,11 @@ def list_of_row(case: Case) -> Iterable[Repair]:
         yield from as_mapping(case, here.value)
     text = case.slice(here.value.span)
     if here.value.kind == "scalar":
-        words = re.split(r"\s*,\s*", here.value.value)
+        words = [word.strip() for word in here.value.value.split(",") if word.strip()]
         if len(words) > 1:
             yield case.replace("make it a list", "[" + ", ".join(words) + "]", here.value.span)
-        yield case.replace("make it a list", f"[{text}]", here.value.span)
+        elif not here.value.style.strip("'\""):
+            yield case.replace("make it a list", f"[{text}]", here.value.span, is_safe=True)
     elif here.value.kind == "mapping" and here.value.is_flow:
         yield case.replace("make it a list", f"[{text}]", here.value.span)
     elif here.value.kind == "mapping":
@@ -213,60 +277,53 @@ def near_row(case: Case) -> Iterable[Repair]:
     matrix = case.at("jobs", case.job, "strategy", "matrix") if case.job else None
     if here and matrix:
         rows = [name for name in matrix.names() if name not in ("include", "exclude")]
-        yield from (in_its_quotes(case, name) for name in near(case.arguments[0], rows))
+        yield from (in_its_quotes(case, name, is_slip) for name, is_slip in likely(case.arguments[0], rows))
     yield from deleted(case)
 
 
 def right_variable(case: Case) -> Iterable[Repair]:
+    """A name of letters, digits and `_`, in the expressions of the file too."""
     here = case.key
-    if here and here.key:
-        name = re.sub(r"\W+", "_", here.key.value.strip(), flags=re.A).strip("_") or "NAME"
-        yield case.replace(f'change to "{name}"', name, here.key.span)
+    if here is None or here.key is None or case.tree is None:
+        return
+    name = re.sub(r"\W+", "_", here.key.value.strip(), flags=re.A).strip("_") or "NAME"
+    if here.parent.get(name) is None:
+        yield case.of(f'change to "{name}"', Edit(here.key.span, name), *_uses_of_variable(case, here.key.value, name))
+
+
+def _uses_of_variable(case: Case, wrong: str, name: str) -> Iterable[Edit]:
+    for number, line in enumerate(case.lines):
+        for braces in BRACES.finditer(line):
+            for chain in CHAIN.finditer(line, braces.start(1), braces.end(1)):
+                if links(chain[0]) == ("env", wrong):
+                    yield Edit(Span.on_line(number, chain.start(), chain.end()), f"env.{name}")
 
 
 def secret_password(case: Case) -> Iterable[Repair]:
+    """The only expression in the password, or a secret that has to be made."""
     here = case.value
-    if here:
-        text = as_scalar("${{ secrets.PASSWORD }}", here.value.style, is_within_flow(case, here.path))
-        yield case.replace("take it from a secret", text, here.value.span)
-
-
-def written_to_file(case: Case) -> Iterable[Repair]:
-    """The command as a line that is appended to a file, by the step's shell."""
-    here = case.scalar
     if here is None:
         return
-    shell = case.shell_of(here)
-    offset = len(case.line[:case.span.start.column])
-    for match in (*COMMAND.finditer(case.line), *ADD_PATH.finditer(case.line)):
-        command = match["command"] if "command" in match.groupdict() else "add-path"
-        if match.start() <= offset <= match.end():
-            text = _appended(match, command, shell)
-            span = Span.on_line(case.span.start.line, match.start(), match.end())
-            if text:
-                yield case.replace(f"append to {FILES[command]}", text, span)
-
-
-def _appended(match: re.Match[str], command: str, shell: str) -> str | None:
-    file = FILES[command]
-    named = f"{match['name']}=" if command != "add-path" else ""
-    quote = match["quote"] or '"'
-    text = f"{named}{match['value']}"
-    if shell in POWERSHELLS:
-        return f"echo {quote}{text}{quote} >> $env:{file}"
-    if shell == "cmd":
-        return f"echo {text}>>%{file}%"
-    if shell == "python":
-        head = match["head"] or ""
-        return f"import os; {head}{quote}{text}{quote}, file=open(os.environ['{file}'], 'a'))" if head.startswith("print(") else None
-    return f'{match["head"] or "echo "}{quote}{text}{quote} >> "${file}"'
+    found = BRACES.findall(here.value.value)
+    in_flow = is_within_flow(case, here.path)
+    if len(found) == 1:
+        alone = "${{" + found[0] + "}}"
+        rest = here.value.value.replace(alone, " ").split()
+        yield case.replace(f"delete {', '.join(quoted(one) for one in rest)} beside the expression",
+                           as_scalar(alone, here.value.style, in_flow), here.value.span, deletes=True)
+    elif not found:
+        text = as_scalar("${{ secrets.PASSWORD }}", here.value.style, in_flow)
+        yield case.replace('take it from a new secret "PASSWORD"', text, here.value.span)
 
 
 def with_shell(case: Case) -> Iterable[Repair]:
+    """The shell of the action's other steps, or else bash."""
     here = case.key
+    steps = case.at("runs", "steps")
+    used = [step.text("shell") for step in (steps.items if steps else []) if step.text("shell")]
     if here:
-        for shell in ("bash", "pwsh"):
-            yield case.of(f'add "shell: {shell}"', next_entry(case, here.parent, "run", f"shell: {shell}"))
+        shell = max(used, key=used.count) if used else "bash"
+        yield case.of(f'add "shell: {shell}"', next_entry(case, here.parent, "run", f"shell: {shell}"))
 
 
 def output_value(case: Case) -> Iterable[Repair]:
@@ -277,10 +334,13 @@ def output_value(case: Case) -> Iterable[Repair]:
     steps = case.at("runs", "steps")
     ids = [step.text("id") for step in (steps.items if steps else []) if step.text("id")]
     value = "${{ steps.%s.outputs.%s }}" % (ids[-1], here.key.value) if ids else "''"
+    title = 'add "value", ' + (f'from the step "{ids[-1]}"' if ids else "empty")
     if here.value.kind == "mapping" and here.value.entries:
-        yield case.of('add "value"', next_entry(case, here.value, here.value.entries[-1][0].value, f"value: {value}"))
+        text = quoted(value) if ids and here.value.is_flow else value
+        yield case.of(title, next_entry(case, here.value, here.value.entries[-1][0].value, f"value: {text}"))
     else:
-        yield case.of('add "value"', Edit(Span(here.key.span.end, here.value.span.end), ": {value: %s}" % quoted(value)))
+        text = quoted(value) if ids else value
+        yield case.of(title, Edit(Span(here.key.span.end, here.value.span.end), ": {value: %s}" % text))
 
 
 REPAIRS: dict[str, tuple[Callable[[Case], Iterable[Repair]], ...]] = {
@@ -295,14 +355,13 @@ REPAIRS: dict[str, tuple[Callable[[Case], Iterable[Repair]], ...]] = {
     "G9": (without_need,),
     "G10": (list_of_row,),
     "G11": (near_row,),
-    "G12": (every_listed,),
+    "G12": (command_line, near_listed),
     "G13": (near_listed,),
-    "G14": (every_listed,),
+    "G14": (access_to_all, near_listed),
     "G15": (right_variable,),
     "G16": (secret_password,),
-    "G17": (written_to_file,),
-    "G19": (every_listed,),
-    "G20": (every_listed,),
+    "G19": (near_listed,),
+    "G20": (near_listed,),
     "G21": (with_shell,),
     "G22": (output_value,),
 }

@@ -5,27 +5,57 @@ import re
 from typing import Callable, Iterable
 
 from .expressions import expressions_in
+from .names import likely
+from .operators import OPERATORS, choice_in, grouped
 from .repair import Case, Edit, Repair, quoted
-from .repairs_expressions import chosen
-from .text import Point, Span, end_of
+from .repairs_expressions import title_of
+from .repairs_levels import moved_line
+from .syntax import shape_at
+from .text import Point, Span
 
 FLOW_ITEM = re.compile(r"[^,\[\]{}]*")
 COLON_WITHOUT_SPACE = re.compile(r"^ *(?:- +)?[A-Za-z_][\w-]*:(?=[^\s/:])")
 DASH_WITHOUT_SPACE = re.compile(r"^( *)-(?=[A-Za-z_][\w-]*:(?: |$))")
-FIRST_WORD = re.compile(r"^ *(?:- +)?([A-Za-z_][\w-]*)(?= |$)")
+FIRST_WORD = re.compile(r"^ *(?:- +)?([A-Za-z_][\w-]*)(?= (?! *=)|$)")
+EQUALS = re.compile(r"^ *(?:- +)?([A-Za-z_][\w-]*) *= *(?=[^=\s])")
 KEY_IN_BRACKETS = re.compile(r"\s*[\w-]+: +")
+IS_PAIR = re.compile(r"[a-z][\w-]*: |[\[{].*[\]}]$|\*[\w-]+$")
+QUOTED_BRACES = re.compile(r'"?\$\{\{([^{}]*)\}\}"?')
+NEGATED_BRACES = re.compile(r"! *\$\{\{([^{}]*)\}\}")
+ANCHOR = re.compile(r"(?<!\S)&([^\s,\[\]{}]+)")
+ALIAS = re.compile(r"\*([^\s,\[\]{}]+)")
+ODD_SPACE = re.compile("[\u00a0\u2000-\u200a\u202f\u3000]")
+ODD_START = re.compile("[ \u00a0\u2000-\u200a\u202f\u3000-]*(?:[\\w-]+:)?[ \u00a0\u2000-\u200a\u202f\u3000]*")
+MAX_LINES_ABOVE = 200
 IN_QUOTES = re.compile(r"'[^']*'|\"[^\"]*\"")
 CLOSERS = {"[": "]", "{": "}"}
 
 
 def with_quotes(case: Case) -> Iterable[Repair]:
-    """The value on the fault's line, or on one above it, in quotes."""
+    """The value on the fault's line, or on one above it, in quotes. If the key takes texts only, that is what was written."""
     number = case.span.start.line
     for line in (number, number - 1):
         span = case.rest_span(line) if 0 <= line else None
         if span and span.start.column <= (case.span.start.column if line == number else span.end.column):
-            yield case.replace("put it in quotes", quoted(case.slice(span)), span)
+            text = case.slice(span)
+            if not _opens_quote(text):
+                yield case.replace("put it in quotes", quoted(text), span, is_safe=line == number and _takes_texts(case, span))
     yield from _quoted_item(case)
+
+
+def _opens_quote(text: str) -> bool:
+    """Whether a text begins with a quote that isn't closed in it."""
+    return text[:1] in ("'", '"') and text.count(text[:1]) % 2 == 1
+
+
+def _takes_texts(case: Case, span: Span) -> bool:
+    """Whether the key of a value takes a text and nothing else, and the value isn't an expression."""
+    place = case.outline.place(span.start)
+    shape = shape_at(case.file, place.path, (*place.around, {}))
+    text = case.slice(span)
+    is_text = shape is not None and not shape["items"] and not shape["free"] and "keys" not in shape and shape["scalars"] == "AnyScalar"
+    has_meaning = text[:1] in ("|", ">", "'", '"') or "?" in text or IS_PAIR.match(text) is not None
+    return is_text and not has_meaning and place.path[-1:] not in (("if",), ("uses",))
 
 
 def as_schedule(case: Case) -> Iterable[Repair]:
@@ -43,13 +73,18 @@ def _quoted_item(case: Case) -> Iterable[Repair]:
     start = max(line.rfind(sign, 0, text_start) for sign in "[{,") + 1
     key = KEY_IN_BRACKETS.match(line, start)
     start = key.end() if key and key.end() <= text_start else start + len(line[start:]) - len(line[start:].lstrip())
-    ends = [end_of(FLOW_ITEM, line, max(column + 1, start)), *(match.end() for match in re.finditer(r"\}\}", line)),
+    ends = [_end_of_item(line, max(column + 1, start)), *(match.end() for match in re.finditer(r"\}\}", line)),
             line.find(", ", column), line.rfind("]")]
     for end in dict.fromkeys(end for end in ends if end > column):
         text = line[start:end].rstrip()
-        if text and start <= column:
+        if text and start <= column and not _opens_quote(text):
             span = Span.on_line(case.span.start.line, start, start + len(text))
             yield case.replace("put it in quotes", quoted(text), span)
+
+
+def _end_of_item(line: str, start: int) -> int:
+    match = FLOW_ITEM.match(line, start)
+    return match.end() if match else start
 
 
 def as_block(case: Case) -> Iterable[Repair]:
@@ -74,10 +109,42 @@ def pair_below(case: Case) -> Iterable[Repair]:
 def as_condition(case: Case) -> Iterable[Repair]:
     """`a ? b : c` as `a && b || c`, since expressions have no conditional operator."""
     for at, text in expressions_in(case.line):
-        changed = chosen(text)
-        if changed:
+        made = choice_in(text)
+        if made:
             span = Span.on_line(case.span.start.line, at, at + len(text))
-            yield case.replace('write "&&" and "||"', f" {changed.strip()} ", span)
+            yield case.replace(title_of(made), f" {made.text.strip()} ", span, is_safe=not made.doubtful)
+    here = case.rest_span(case.span.start.line)
+    text = case.slice(here) if here else ""
+    made = choice_in(text) if case.line.lstrip(" -").startswith("if:") and "${{" not in text and not text[:1] in ("'", '"') else None
+    if here and made:
+        yield case.replace(title_of(made), "${{ " + made.text.strip() + " }}", here, is_safe=not made.doubtful)
+
+
+def inner_quotes(case: Case) -> Iterable[Repair]:
+    """A text in quotes that has the same quotes inside, which are doubled or get a backslash. A condition has strings of its own."""
+    span = case.rest_span(case.span.start.line)
+    text = case.slice(span) if span else ""
+    quote, key = text[:1], case.outline.lines[case.span.start.line].elements[-1:]
+    if span and len(text) > 2 and quote in ("'", '"') and text.endswith(quote) and not (key and key[0].name == "if"):
+        inner = text[1:-1].replace("''", "'").replace("'", "''") if quote == "'" else re.sub(r'(?<!\\)"', r'\\"', text[1:-1])
+        yield case.replace("write the quotes inside as a text", quote + inner + quote, span)
+
+
+def list_in_line(case: Case) -> Iterable[Repair]:
+    """A list whose first dash follows its key on the same line."""
+    span = case.rest_span(case.span.start.line)
+    text = case.slice(span) if span else ""
+    if span and text.startswith("- ") and ": " not in text:
+        yield case.replace("make it a list", "[" + ", ".join(text[2:].split(" - ")) + "]", span)
+
+
+def closed_above(case: Case) -> Iterable[Repair]:
+    """A quote that begins a value on a line above and isn't closed there, closed at its end."""
+    for line in range(case.span.start.line, max(case.span.start.line - MAX_LINES_ABOVE, -1), -1):
+        span = case.rest_span(line)
+        if span and _opens_quote(case.slice(span)):
+            yield case.replace("close the quotes", case.slice(span)[:1], Span.at(span.end))
+            return
 
 
 def closed_quote(case: Case) -> Iterable[Repair]:
@@ -105,7 +172,7 @@ def closed_bracket(case: Case) -> Iterable[Repair]:
             yield case.replace("close the bracket", CLOSERS[opener], Span.at(here))
 
 
-def closed_above(case: Case) -> Iterable[Repair]:
+def brackets_closed_above(case: Case) -> Iterable[Repair]:
     """The brackets that are open on a line above, closed at its end."""
     for line in range(case.span.start.line, max(case.span.start.line - 4, -1), -1):
         span = case.rest_span(line)
@@ -136,9 +203,9 @@ def spaces_for_tabs(case: Case) -> Iterable[Repair]:
         if edits:
             yield case.of("replace tabs by spaces", *edits)
     indent = next((len(line) - len(line.lstrip(" ")) for line in reversed(case.lines[:case.span.start.line]) if line.strip()), 0)
-    span = Span.on_line(case.span.start.line, 0, len(case.line) - len(case.line.lstrip(" \t")))
+    start = Span.on_line(case.span.start.line, 0, len(case.line) - len(case.line.lstrip(" \t")))
     for spaces in (indent, indent + 2):
-        yield case.replace("replace tabs by spaces", " " * spaces, span)
+        yield case.replace("replace tabs by spaces", " " * spaces, start)
 
 
 def script_in_lines(case: Case) -> Iterable[Repair]:
@@ -148,6 +215,8 @@ def script_in_lines(case: Case) -> Iterable[Repair]:
         number -= 1
     line = case.outline.lines[number] if number >= 0 else None
     if line is None or not line.elements or line.elements[-1].name != "run" or not line.rest or line.rest[0] in "|>":
+        return
+    if case.outline.lines[case.span.start.line].elements:
         return
     indent = " " * (line.elements[-1].column + 2)
     last = case.span.start.line
@@ -160,46 +229,83 @@ def script_in_lines(case: Case) -> Iterable[Repair]:
 
 
 def as_expression(case: Case) -> Iterable[Repair]:
-    """A condition that begins in double quotes, as in a shell, as an expression; or one whose braces lack the dollar."""
+    """A condition that begins in double quotes, as in a shell, or with `!` before its braces, as one expression; or one whose braces lack
+    the dollar."""
     span = case.rest_span(case.span.start.line)
-    text = case.slice(span) if span else ""
+    text = case.slice(span).strip() if span else ""
     if span and text.startswith("{{") and text.endswith("}}"):
-        yield case.replace("write a dollar before the braces", "$" + text, span)
+        yield case.replace("write a dollar before the braces", "$" + text, span, is_safe=True)
     if span and text.startswith('"') and "${{" in text:
-        bare = re.sub(r'"?\$\{\{\s*(.*?)\s*\}\}"?', r"\1", text).replace('"', "'")
+        bare = QUOTED_BRACES.sub(lambda match: match[1].strip(), text).replace('"', "'")
         yield case.replace("write it as an expression", "${{ " + bare + " }}", span)
+    match = NEGATED_BRACES.fullmatch(text)
+    if span and match:
+        yield case.replace('put the "!" into the braces', "${{ !" + grouped(match[1].strip(), OPERATORS) + " }}", span, is_safe=True)
 
 
-def moved_line(case: Case) -> Iterable[Repair]:
-    """The line with the indentation of one of the lines above it."""
+def script_below(case: Case) -> Iterable[Repair]:
+    """A script that isn't indented below its key."""
     number = case.span.start.line
-    text = case.line
-    indents = [above.elements[-1].column for above in case.outline.lines[max(number - 30, 0):number] if above.elements]
-    indents += [above.indent for above in case.outline.lines[max(number - 30, 0):number] if above.elements]
-    own = len(text) - len(text.lstrip(" "))
-    last = number
-    while last + 1 < len(case.lines) and (not case.lines[last + 1].strip() or
-                                          len(case.lines[last + 1]) - len(case.lines[last + 1].lstrip(" ")) > own):
+    header = number - 1
+    while header > 0 and not case.outline.lines[header].elements:
+        header -= 1
+    line = case.outline.lines[header] if header >= 0 else None
+    if line is None or not line.elements or line.rest[:1] not in ("|", ">"):
+        return
+    column = line.elements[-1].column
+    last, first = header, header + 1
+    while last + 1 < len(case.lines) and (not case.lines[last + 1].strip() or _is_text(case, last + 1, column)):
         last += 1
-    for indent in sorted(set(indents), key=lambda indent: abs(indent - own))[:6]:
-        edits = []
-        for line in range(number, last + 1):
-            if indent > own:
-                edits.append(Edit(Span.at(Point(line, 0)), " " * (indent - own)))
-            elif indent < own and case.lines[line].strip():
-                edits.append(Edit(Span.on_line(line, 0, own - indent), ""))
-        if edits:
-            yield case.of(f"indent it by {indent}", *edits)
+    while last > header and not case.lines[last].strip():
+        last -= 1
+    edits = [Edit(Span.at(Point(one, 0)), "  ") for one in range(first, last + 1) if case.lines[one].strip()]
+    if edits and last >= number:
+        yield case.of(f'indent the script below "{line.elements[-1].name}"', *edits)
+
+
+def _is_text(case: Case, number: int, column: int) -> bool:
+    """Whether a line begins at a column or deeper, and not with a key or a dash there."""
+    line = case.outline.lines[number]
+    return line.indent >= column and not (line.elements and line.elements[0].column == column)
+
+
+def comment(case: Case) -> Iterable[Repair]:
+    """A comment that begins as in other languages."""
+    match = re.match(r" *(//)(?!\S*:)", case.line)
+    if match:
+        yield case.replace('write "#"', "#", Span.on_line(case.span.start.line, match.start(1), match.end(1)))
+
+
+def near_alias(case: Case) -> Iterable[Repair]:
+    """An alias of a similar anchor."""
+    match = ALIAS.match(case.line, case.span.start.column)
+    if match is None:
+        return
+    for name, is_slip in likely(match[1], dict.fromkeys(ANCHOR.findall(case.text))):
+        span = Span.on_line(case.span.start.line, match.start(1), match.end(1))
+        yield case.replace(f'change to "*{name}"', name, span, is_slip)
+
+
+def plain_spaces(case: Case) -> Iterable[Repair]:
+    """Plain spaces in place of others at the start of the fault's line, or after its key."""
+    for line in (case.span.start.line, case.span.start.line - 1):
+        match = ODD_START.match(case.lines[line]) if line >= 0 else None
+        if match and ODD_SPACE.search(match[0]):
+            changed = ODD_SPACE.sub(" ", match[0])
+            yield case.replace("write plain spaces", changed, Span.on_line(line, 0, match.end()), is_safe=True)
 
 
 def with_space(case: Case) -> Iterable[Repair]:
     """A space after a colon or a dash that has none."""
     for place, match in _after_match(case, COLON_WITHOUT_SPACE, DASH_WITHOUT_SPACE):
-        yield case.replace(f"add a space after the {'colon' if match[0].endswith(':') else 'dash'}", " ", place)
+        yield case.replace(f"add a space after the {'colon' if match[0].endswith(':') else 'dash'}", " ", place, is_safe=True)
 
 
 def with_colon(case: Case) -> Iterable[Repair]:
-    """A colon after a word that is alone on its line, or before the value on it."""
+    """A colon after a word that is alone on its line, or before the value on it, also in place of an equals sign."""
+    for place, match in _after_match(case, EQUALS):
+        line = place.start.line
+        yield case.replace(f'write a colon after "{match[1]}"', ": ", Span.on_line(line, match.end(1), match.end()))
     for place, match in _after_match(case, FIRST_WORD):
         yield case.replace(f'add a colon after "{match[1]}"', ":", place)
 
@@ -228,14 +334,16 @@ def single_quotes(case: Case) -> Iterable[Repair]:
 def without_character(case: Case) -> Iterable[Repair]:
     end = Point(case.span.start.line, case.span.start.column + 1)
     edit = Edit(Span(case.span.start, end), "")
-    yield Repair("delete the character", {case.file: (edit,)}, is_last_resort=True)
+    sign = case.slice(edit.span)
+    title = f'delete the "{sign}"' if sign.isprintable() and sign.strip() else "delete the character"
+    yield Repair(title, {case.file: (edit,)}, is_last_resort=True, deletes=True)
 
 
 def without_line(case: Case) -> Iterable[Repair]:
     """The text without the fault's line, for instance if the line begins a second document or is a directive."""
     number = case.span.start.line
     if number + 1 < len(case.lines):
-        yield case.replace("delete the line", "", Span(Point(number, 0), Point(number + 1, 0)))
+        yield case.replace(f'delete the line "{case.line.strip()[:40]}"', "", Span(Point(number, 0), Point(number + 1, 0)), deletes=True)
 
 
 def text_on_next_line(case: Case) -> Iterable[Repair]:
@@ -259,18 +367,19 @@ def quoted_key(case: Case) -> Iterable[Repair]:
 REPAIRS: dict[str, tuple[Callable[[Case], Iterable[Repair]], ...]] = {
     "Y2": (without_character,),
     "Y3": (spaces_for_tabs,),
-    "Y4": (with_colon, with_space, moved_line, with_quotes),
+    "Y4": (plain_spaces, comment, list_in_line, with_colon, with_space, script_below, moved_line, with_quotes),
     "Y5": (closed_quote,),
     "Y6": (closed_bracket, with_quotes),
     "Y7": (with_quotes, quoted_key),
-    "Y8": (with_quotes, quoted_key),
+    "Y8": (as_expression, with_quotes, quoted_key),
     "Y9": (with_quotes, quoted_key),
     "Y10": (with_quotes, without_line),
     "Y11": (without_line,),
     "Y12": (single_quotes,),
-    "Y13": (as_condition, as_expression, as_schedule, pair_below, script_in_lines, with_quotes, as_block, with_space, with_colon,
-            closed_above, moved_line, without_character),
+    "Y13": (plain_spaces, comment, as_condition, as_expression, as_schedule, list_in_line, closed_above, inner_quotes, pair_below,
+            script_in_lines, script_below, with_quotes, as_block, with_space, with_colon, brackets_closed_above, moved_line,
+            without_character),
     "Y16": (text_on_next_line,),
     "Y17": (as_expression, with_colon, with_quotes, quoted_key),
-    "Y18": (with_quotes,),
+    "Y18": (near_alias, with_quotes),
 }

@@ -10,6 +10,7 @@ from .earlier import Earlier, is_no_yaml
 from .editor import Editor
 from .faults import NO_FAULTS, FileFaults
 from .folder import Folder, Result
+from .ignoring import Ignored
 from .positions import Lines
 from .project import Project
 from .problems import Problem
@@ -67,7 +68,8 @@ class Document:
     def faults_in(self, wanted: Range, with_earlier: bool = False) -> list[tuple[Fault, Range]]:
         """The faults that touch a range, each with its own range."""
         lines = self.lines()
-        faults = self.faults() + (self.earlier().faults if with_earlier else ())
+        shown = self.repository.ignored.without
+        faults = shown(self.found()).faults + (shown(self.earlier()).faults if with_earlier else ())
         with_ranges = [(fault, lines.range_of(fault)) for fault in faults
                        if wanted["start"]["line"] <= fault.line - 1 <= wanted["end"]["line"]]
         return [(fault, one) for fault, one in with_ranges
@@ -82,6 +84,7 @@ class Repository:
     # (off, unless others are given)
     checks: ScriptChecks = field(default_factory=lambda: ScriptChecks(lambda: None))
     result: Result = NOTHING
+    ignored: Ignored = field(default_factory=lambda: Ignored(()))
     documents: dict[str, Document] = field(default_factory=dict)
     _touched: set[str] = field(default_factory=set)
     _shown: dict[str, tuple[object, ...]] = field(default_factory=dict)
@@ -125,6 +128,10 @@ class Repository:
         result = self.folder.refresh()
         paths = self._touched | (self._shown.keys() if result is None else result.changed)
         self.result, self._touched = result or NOTHING, set()
+        ignored = diagnostics.ignored.rules()
+        if ignored is not self.ignored:
+            paths |= self._shown.keys() | self.result.faults.keys()
+            self.ignored = ignored
         for path in sorted(paths):
             self._show(path, editor, diagnostics)
 
@@ -148,7 +155,8 @@ class Repository:
         found, refused, earlier = self.result.faults.get(path, NO_FAULTS), self.result.refused.get(path), NO_FAULTS
         if document and self.shows_earlier and self.result is not NOTHING:
             document.note()
-            earlier = document.earlier()
+            earlier = self.ignored.without(document.earlier())
+        found = self.ignored.without(found)
         is_to_show = found is not NO_FAULTS or refused is not None or document is not None
         notes = self._notes(path, found) if document else ()
         state = (versions, found, earlier, refused, notes, self.folder.data_of(path))

@@ -2,7 +2,7 @@
 from __future__ import annotations
 
 import re
-from typing import BinaryIO
+from typing import TYPE_CHECKING, BinaryIO
 from urllib.parse import quote
 
 from .characters import json_text, shown
@@ -10,6 +10,9 @@ from .entries import explained, markdown_of, plain_text, title_of
 from .forms import Form, Outcome
 from .problems import ERROR, Problem
 from .version import version
+
+if TYPE_CHECKING:
+    from .repair import Edit, Repair
 
 SCHEMA = "https://json.schemastore.org/sarif-2.1.0.json"
 # GitHub refuses a run that has more results.
@@ -40,8 +43,8 @@ class Sarif(Form):
     def end(self, outcome: Outcome) -> None:
         invocation: dict[str, object] = {"executionSuccessful": outcome.is_known(), "exitCode": outcome.status}
         notifications = [{"level": "error", "message": _message(outcome.errors.strip())}] if outcome.errors else []
-        if self.left_out:
-            notifications.append({"level": "warning", "message": _message(left_out_line(self.left_out))})
+        warnings = outcome.warnings + ([left_out_line(self.left_out)] if self.left_out else [])
+        notifications += [{"level": "warning", "message": _message(warning)} for warning in warnings]
         if notifications:
             invocation["toolExecutionNotifications"] = notifications
         driver: dict[str, object] = {"name": "actionlint", "rules": list(self._rules.values())}
@@ -58,13 +61,31 @@ class Sarif(Form):
             self._rules[problem.code] = _rule(problem, self.docs)
         region = {"startLine": fault.line, "startColumn": fault.column, "endLine": fault.line,
                   "endColumn": fault.column + (fault.width or 1)}
-        place = {"artifactLocation": {"uri": quote(fault.path), "uriBaseId": "%SRCROOT%"}, "region": region}
-        return {"ruleId": problem.code, "ruleIndex": list(self._rules).index(problem.code), "level": problem.level,
-                "message": _message(fault.message), "locations": [{"physicalLocation": place}]}
+        place = {"artifactLocation": _artifact(fault.path), "region": region}
+        result = {"ruleId": problem.code, "ruleIndex": list(self._rules).index(problem.code), "level": problem.level,
+                  "message": _message(fault.message), "locations": [{"physicalLocation": place}]}
+        return {**result, "fixes": [_fix(problem.fix)]} if problem.fix and not problem.fix.new_files else result
 
 
 def left_out_line(count: int) -> str:
     return f"{count} more were left out: GitHub takes {MAX_RESULTS} results of a run"
+
+
+def _artifact(path: str) -> dict[str, object]:
+    return {"uri": quote(path), "uriBaseId": "%SRCROOT%"}
+
+
+def _fix(repair: Repair) -> dict[str, object]:
+    """A fix (3.55), which replaces texts of files (3.57)."""
+    changes = [{"artifactLocation": _artifact(path), "replacements": list(map(_replacement, edits))}
+               for path, edits in repair.edits.items()]
+    return {"description": _message(repair.title), "artifactChanges": changes}
+
+
+def _replacement(edit: Edit) -> dict[str, object]:
+    (start, end), text = edit
+    region = {"startLine": start.line + 1, "startColumn": start.column + 1, "endLine": end.line + 1, "endColumn": end.column + 1}
+    return {"deletedRegion": region, "insertedContent": {"text": text}}
 
 
 def _rule(problem: Problem, docs: str | None) -> dict[str, object]:

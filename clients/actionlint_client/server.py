@@ -21,6 +21,7 @@ from .diagnostics import Diagnostics
 from .editor import Editor
 from .folder import Folder, Program
 from .hover import Hover
+from .ignoring import IgnoreFiles
 from .messages import Messages, Wake
 from .navigation import Navigation
 from .protocol import (Capabilities, Feature, FileEvent, Handler, InitializeResult, Message, TextDocumentContentChangeEvent,
@@ -50,7 +51,9 @@ class Server:
         self._endpoint = Endpoint(self, self._send)
         self._editor = Editor(self._endpoint.notify, self._endpoint.request)
         program = Program([options.program], options.timeout)
-        diagnostics = Diagnostics(docs)
+        self._ignored = IgnoreFiles(self._editor.say)
+        self._ignored.files += options.ignore_file
+        diagnostics = Diagnostics(docs, self._ignored)
         shows_earlier = not options.no_earlier_faults
         self._checks = ScriptChecks(self._messages.wake)
         self._checks.is_on = options.shellcheck
@@ -148,9 +151,10 @@ class Server:
 
     def _take_options(self, options: object) -> None:
         """Takes what the editor's settings say; the command line's options stay where these say nothing."""
-        given = options.get("shellcheck") if isinstance(options, dict) else None
-        if isinstance(given, bool):
-            self._checks.is_on = given
+        given = options if isinstance(options, dict) else {}
+        if isinstance(given.get("shellcheck"), bool):
+            self._checks.is_on = given["shellcheck"]
+        self._ignored.files += _texts(given.get("ignoreFiles"))
 
     def _start(self, **_: object) -> None:
         if self._editor.watches():
@@ -180,6 +184,11 @@ class Server:
     def _take_changed_folders(self, event: WorkspaceFoldersChangeEvent, **_: object) -> None:
         self._workspace.add_folders(_paths_of([folder["uri"] for folder in event.get("added") or []]))
         self._workspace.remove_folders(set(_paths_of([folder["uri"] for folder in event.get("removed") or []])))
+
+
+def _texts(value: object) -> list[str]:
+    """The texts of a list in an editor's options, or the only one."""
+    return [value] if isinstance(value, str) else [one for one in value if isinstance(one, str)] if isinstance(value, list) else []
 
 
 def _paths_of(uris: list[str]) -> list[bytes]:

@@ -1,6 +1,8 @@
-"""Where GitHub accepts less than the linter: the keys below an event, and the access levels of a permission scope. Completion offers what
-both accept."""
+"""Where GitHub accepts less than the linter: the keys below an event or beside others, and the access levels of a permission scope.
+Completion and quick fixes offer what both accept."""
 from __future__ import annotations
+
+from typing import Collection
 
 FILTERS = {
     "push": {"branches", "tags", "paths"},
@@ -9,6 +11,11 @@ FILTERS = {
     "workflow_run": {"types", "branches", "workflows"},
 }
 WITHOUT_TYPES = {"create", "delete", "deployment", "deployment_status", "fork", "gollum", "page_build", "public", "status"}
+# For keys of a job and of a step, the keys beside which GitHub refuses them.
+REFUSED_BESIDE = {
+    "job": {"with": {"runs-on", "steps"}, "secrets": {"runs-on", "steps"}},
+    "step": {"with": {"run"}, "shell": {"uses", "with"}, "working-directory": {"uses", "with"}, "run": {"with"}},
+}
 ACCESSES = {"id-token": {"write", "none"}, "models": {"read", "none"}}
 ALL_ACCESSES = {"read", "write", "none"}
 
@@ -21,3 +28,8 @@ def takes_filter(event: str, key: str) -> bool:
 def takes_access(scope: str, access: str) -> bool:
     """Whether a scope of `permissions` can have an access level."""
     return access in ACCESSES.get(scope, ALL_ACCESSES)
+
+
+def is_refused_beside(section: str, key: str, beside: Collection[str]) -> bool:
+    """Whether GitHub refuses a key of a section beside others that are there."""
+    return not REFUSED_BESIDE.get(section, {}).get(key, set()).isdisjoint(beside)

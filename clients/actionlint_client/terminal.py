@@ -5,13 +5,14 @@ import os
 import textwrap
 from typing import BinaryIO
 
+from .advice import fix_line, sentence
 from .characters import terminal_text
 from .forms import Form, Outcome
 from .problems import Problem
 
 LONGEST_LINE = 300
 WIDTH = 100
-COLORS = {"place": "1", "error": "31", "warning": "33", "note": "36", "code": "2", "marks": "32", "near": "36"}
+COLORS = {"place": "1", "error": "31", "warning": "33", "note": "36", "code": "2", "marks": "32", "fix": "36"}
 
 
 def has_color(when: str, is_terminal: bool) -> bool:
@@ -34,9 +35,9 @@ class Text(Form):
         self.write(f"{self._in('place', terminal_text(f'{fault.path}:{fault.line}:{fault.column}'))}: "
                    f"{self._in(problem.level, terminal_text(fault.message))} {self._in('code', f'[{fault.kind}, {code}]')}\n")
         self._snippet(problem)
-        if near := problem.near():
-            self.write("  " + self._in("near", f'did you mean "{near}"?') + "\n")
-        for text in filter(None, (problem.advice(), problem.link_in(self.docs))):
+        if line := fix_line(problem):
+            self.write("  " + self._in("fix", terminal_text(line)) + "\n")
+        for text in filter(None, (sentence(problem), problem.link_in(self.docs))):
             self.write(textwrap.fill(text, WIDTH, initial_indent="  ", subsequent_indent="  ", break_long_words=False,
                                      break_on_hyphens=False) + "\n")
         self.write("\n")

@@ -14,7 +14,7 @@ import sys
 import tempfile
 
 from cases import Cases
-from repositories import CLIENTS, FILE, FILES, TOP, UNDEFINED, WORKFLOWS, reported, write
+from repositories import CALLED, CLIENTS, FILE, FILES, RIGHT, TOP, UNDEFINED, WORKFLOWS, reported, write
 
 CASES = Cases("step")
 FAULT = '.github/workflows/wrong.yml:1:5: unknown event "pussh" [events]'
@@ -28,11 +28,12 @@ class Runner:
         self.root = tempfile.mkdtemp(prefix="actionlint-test-")
         write(self.root, files)
 
-    def step(self, files: str = "", sarif: str = "", path: str = "/usr/bin:/bin") -> tuple[int, list[str]]:
+    def step(self, files: str = "", sarif: str = "", path: str = "/usr/bin:/bin", root: str = "", ignore_file: str = "",
+             shellcheck: str = "false") -> tuple[int, list[str]]:
         """The step's status and the lines of its log."""
         output = self.root + "/output"
-        environment = {"PATH": path, "HERE": self.here, "PROGRAM": self.program, "FILES": files, "SARIF": sarif,
-                       "GITHUB_OUTPUT": output}
+        environment = {"PATH": path, "HERE": self.here, "PROGRAM": self.program, "FILES": files, "SARIF": sarif, "ROOT": root,
+                       "IGNORE_FILE": ignore_file, "SHELLCHECK": shellcheck, "GITHUB_OUTPUT": output}
         done = subprocess.run([self.here + "/clients/github/run"], cwd=self.root, env=environment, stdout=subprocess.PIPE,
                               stderr=subprocess.PIPE, check=False)
         assert not done.stderr, done.stderr
@@ -111,6 +112,58 @@ def lines_that_look_like_commands(program: str) -> None:
     assert status == 1 and all(line.startswith("::error::x/action.yml:") for line in lines[2:-2]) and len(lines) > 4, lines
     status, lines = runner.step(refused, "faults.sarif")
     assert status == 3 and lines[2:-2] == [f"actionlint: {refused}: refused E2"] * 2, lines
+    shutil.rmtree(runner.root)
+
+
+@CASES.case
+def a_root(program: str) -> None:
+    """The folder of a checkout: lines have paths below the current folder, and SARIF those below the root."""
+    runner = Runner(program, {f"my repo/{path}": text for path, text in FILES.items()})
+    expected = [f"my repo/{FILE}:6:30: {UNDEFINED}", f'my repo/{CALLED}:6:15: required input "who" of "A" is missing [action]']
+    for root in ("my repo", "my repo/"):
+        status, lines = runner.step(sarif="faults.sarif", root=root)
+        assert status == 1 and lines[2:-2] == expected, lines
+    with open(runner.root + "/faults.sarif", encoding="utf-8") as opened:
+        (first, _) = json.load(opened)["runs"][0]["results"]
+    assert first["locations"][0]["physicalLocation"]["artifactLocation"]["uri"] == FILE, first
+    status, lines = runner.step(FILE, root="my repo")
+    assert status == 1 and lines[2:-2] == expected[:1], lines
+    status, lines = runner.step(root="none")
+    assert status == 3 and lines[2:-2] == ["actionlint: cannot read .github/workflows"], lines
+    shutil.rmtree(runner.root)
+
+
+@CASES.case
+def ignored_faults(program: str) -> None:
+    """They are neither printed nor in SARIF, and don't count. Paths in the file begin in the root."""
+    runner = Runner(program, {**{f"repo/{path}": text for path, text in FILES.items()}, "known": f"X13:{FILE}\nK1\n", "all": "X13\nC3\n"})
+    status, lines = runner.step(sarif="faults.sarif", root="repo", ignore_file="known")
+    missing = f'repo/{CALLED}:6:15: required input "who" of "A" is missing [action]'
+    assert status == 1 and [line for line in lines[2:-2] if not line.startswith("actionlint-report: ")] == [missing], lines
+    assert "actionlint-report: K1 ignores nothing" in lines, lines
+    with open(runner.root + "/faults.sarif", encoding="utf-8") as opened:
+        assert [one["ruleId"] for one in json.load(opened)["runs"][0]["results"]] == ["C3"]
+    assert runner.step(root="repo", ignore_file="all")[0] == 0
+    status, lines = runner.step(root="repo", ignore_file="none")
+    assert status == 2 and lines[2:-2] == ["actionlint-report: cannot read none: No such file or directory"], lines
+    shutil.rmtree(runner.root)
+
+
+@CASES.case
+def shellcheck(program: str) -> None:
+    """Without shellcheck the step fails; other values than true and false are none."""
+    runner = Runner(program, {FILE: RIGHT})
+    os.mkdir(runner.root + "/bin")
+    for command in ("bash", "sh", "env", "head", "od", "tr", "python3"):
+        os.symlink(shutil.which(command), f"{runner.root}/bin/{command}")
+    status, lines = runner.step(shellcheck="true", path=runner.root + "/bin")
+    assert status == 3 and "shellcheck" in lines[2] and len(lines) == 5, lines
+    os.remove(runner.root + "/bin/python3")
+    write(runner.root, {"bin/shellcheck": "#!/bin/sh\necho '{\"comments\":[]}'\n"})
+    os.chmod(runner.root + "/bin/shellcheck", 0o755)
+    assert runner.step(shellcheck="false", path=runner.root + "/bin")[0] == 0 == runner.step(shellcheck="")[0]
+    status, lines = runner.step(shellcheck="yes")
+    assert status == 2 and lines[2:-2] == ["the input shellcheck is neither true nor false"], lines
     shutil.rmtree(runner.root)
 
 

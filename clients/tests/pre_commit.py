@@ -17,7 +17,7 @@ from clones_and_releases import PATH, carry, commit, copy_few_sources
 from repositories import ACTION, FILE, FILES, git, write
 
 CASES = Cases("pre-commit")
-CONFIGURATION = "repos:\n  - repo: {repository}\n    rev: {revision}\n    hooks:\n      - id: {hook}\n"
+CONFIGURATION = "repos:\n  - repo: {repository}\n    rev: {revision}\n    hooks:\n      - id: {hook}\n        args: {arguments}\n"
 CALLER, REUSABLE = ".github/workflows/caller.yml", ".github/workflows/reusable.yml"
 CALLS = f"on: push\njobs:\n  call:\n    uses: ./{REUSABLE}\n"
 MISSING = f'workflow "./{REUSABLE}" is not in the folder [workflow-call]'
@@ -28,7 +28,7 @@ FAULT = '.github/workflows/a.yml:6:30: property "reff" is not defined [expressio
 class Commits:
     """A repository in which each commit runs a hook."""
 
-    def __init__(self, program: str, hook: str):
+    def __init__(self, program: str, hook: str, arguments: str = "[]"):
         self.top = tempfile.mkdtemp(prefix="actionlint-test-")
         hooks, self.root = self.top + "/hooks", self.top + "/repo"
         os.makedirs(self.root)
@@ -40,7 +40,7 @@ class Commits:
         git(self.root, "init", "-q")
         right = {path: text.replace("reff", "ref").replace("required: true", "required: false") for path, text in FILES.items()}
         write(self.root, {**right, "README": "x\n", ".pre-commit-config.yaml": CONFIGURATION.format(
-            repository=hooks, revision=revision, hook=hook)})
+            repository=hooks, revision=revision, hook=hook, arguments=arguments)})
         subprocess.run(["pre-commit", "install"], cwd=self.root, check=True, env=self.environment, stdout=subprocess.DEVNULL)
 
     def commit(self, files: dict[str, str], status: int = 0) -> str:
@@ -86,6 +86,17 @@ def all_workflows(program: str) -> None:
 @CASES.case
 def changed_files(program: str) -> None:
     check(program, "actionlint-files", False)
+
+
+@CASES.case
+def an_ignore_list(program: str) -> None:
+    """Each hook takes the file that its arguments name."""
+    for hook in ("actionlint", "actionlint-files"):
+        commits = Commits(program, hook, "[--ignore-file=known, --]")
+        assert "Passed" in commits.commit({"known": "X13\n", FILE: FILES[FILE]})
+        said = commits.commit({"known": "K1\n", FILE: FILES[FILE] + "# new\n"}, status=1)
+        assert FAULT in said and ("K1 ignores nothing" in said) == (hook == "actionlint"), said
+        shutil.rmtree(commits.top)
 
 
 if __name__ == "__main__":

@@ -112,8 +112,9 @@ def characters(program: str) -> None:
             status, text, _ = run(program, folder, "--form", form)
             assert status == 1 and not set(text) & set(hidden), (form, text)
             assert "a" + "".join(f"<U+{ord(one):04X}>" for one in hidden) + "b" in json_texts(json.loads(text)), (form, text)
-        status, text, _ = run(program, folder, "--form", "text")
-        assert status == 1 and not set(text) & set(hidden) and "<U+202E>a.yml:3:1" in text and "<U+009B><U+2028>" in text, text
+        for form in ("text", "oneline"):
+            status, text, _ = run(program, folder, "--form", form)
+            assert status == 1 and not set(text) & set(hidden) and "<U+202E>a.yml:3:1" in text and "<U+009B><U+2028>" in text, text
 
 
 def json_texts(value: object) -> str:

@@ -8,6 +8,7 @@ from __future__ import annotations
 import json
 import os
 import pty
+import re
 import subprocess
 import sys
 import tempfile
@@ -17,7 +18,7 @@ from cases import Cases
 from repositories import CLIENTS, FILE, FILES, RIGHT, TOP, WORKFLOWS, write
 
 from actionlint_client.entries import entries, plain_text
-from actionlint_client.problems import SLIPS, first_sentence
+from actionlint_client.advice import SLIPS, first_sentence
 from actionlint_client.sarif import MAX_RESULTS
 
 CASES = Cases("report-forms")
@@ -26,31 +27,36 @@ DOCS = "https://example.org/docs"
 BROKEN = """.github/workflows/release.yml:4:5: unexpected key "branch" [syntax-check, K1]
   4 |     branch: [main]
     |     ^~~~~~
-  did you mean "branches"?
+  Fix: change to "branches"
   Look for the key in its section: it is misspelled, or it is one level too high or too deep.
 
 .github/workflows/release.yml:11:13: condition is always true [if-cond, G18]
   11 |         if: ${{ github.event_name == 'push' }} && success()
      |             ^~~~~~~~~~~~~~~~~~~~~~~~~~~~~~~~~~~~~~~~~~~~~~~
+  Fix: put all of it into one pair of braces
   Put the whole condition into the braces, or leave them out: a condition needs none.
 
 .github/workflows/release.yml:13:13: job "tests" is not defined [job-needs, G8]
   13 |     needs: [tests]
      |             ^~~~~
+  Fix: change to "test"
   Write the key of a job of this file (not its `name`), or delete the entry.
 
 .github/workflows/release.yml:20:30: property "versoin" is not defined [expression, X13]
   20 |           VERSION: ${{ steps.versoin.outputs.number }}
      |                              ^~~~~~~
-  Write a property that the context has here.
+  Fix: change to "version"
+  To read the outputs of a step, give the step an `id`, and read them after it.
 
 .github/workflows/release.yml:21:15: required input "channel" of "Announce" is missing [action, C3]
   21 |       - uses: ./announce
      |               ^~~~~~~~~~
+  Guess: add "channel: ''"
   Set the input under `with`, or give it a `default` in the called file if it can be left out.
 
 5 faults in 1 file
 """
+IS_FIX = re.compile(" +(Fix|Guess): ")
 STEP = "on: push\njobs:\n  a:\n    runs-on: ubuntu-latest\n    steps:\n      - "
 # The most common mistakes, each with the advice shown first.
 ADVICE = {
@@ -58,7 +64,29 @@ ADVICE = {
     "on: push\njobs:\n  a:\n    if: !cancelled()\n": "Y8: Text that begins with `!` needs quotes, such as a pattern",
     "on: push\nname: {x} y\n": "Y13: Text that begins with `[`, `{`, `*`, `@`, `%` or a backtick, or contains `: `, needs quotes, and",
     "on:\n  push:\n    branches:\n      - *\n": "Y13: Text that begins with `[`, `{`, `*`, `@`, `%` or a backtick, or contains `: `, needs",
-    "on: push\nname: a\n  b: c\n": "Y13: Text that begins with `[`, `{`, `*`, `@`, `%` or a backtick, or contains `: `, needs quotes, and",
+    "on: push\nname: a: b\n": "Y13: Text that begins with `[`, `{`, `*`, `@`, `%` or a backtick, or contains `: `, needs quotes, and",
+    "on: push\nname: a\n  b: c\n": "Y13: If the place is the colon of a key, look at the line above: its colon has no space after it, or it",
+    "on: push\njobs:\n  a:\n    runs-on:x\n    steps:\n": "Y13: If the place is the colon of a key, look at the line above: its colon",
+    "on: push\nname: 'a\njobs: {}\nenv: {A: 'b'}\n": "Y13: Text that begins with `[`, `{`, `*`, `@`, `%` or a backtick, or contains",
+    "on: push\n<<<<<<< HEAD\njobs: {}\n": "Y13: Lines that begin with `<<<<<<<`, `=======` or `>>>>>>>` are left from a merge: keep one",
+    "on: push\njobs:\n  a:\n    runs-on: x\n    steps:\n      - run: a\n      -run: b\n": "Y4: A dash before an entry needs a space after it.",
+    "on: push\njobs:\n  a:\n    runs-on: x\n     steps: []\n": "Y13: If the place is the colon of a key, look at the line above: its",
+    "on: push\nname: x\njobs: {}\n  env: {}\n": "Y4: Give the line the same indentation as the entries it belongs with.",
+    "on: push\njobs: {}\nenv:\n  A: {{ github.ref }}\n": "Y17: An expression has a dollar before its braces.",
+    "on: push\njobs: {}\n[a, b]: c\n": "Y17: Write the key as a scalar on one line, and its value after the colon.",
+    "on: push\njobs:\n  a: &a {runs-on: x, steps: []}\n  b: {<<: *a}\n": "K1: `<<` doesn't merge anything; an alias stands for a whole value.",
+    "on: push\njobs:\n  a: {runs-on: x, steps: [], if: always}\n": "X7: A function needs parentheses after its name, as in `always()`.",
+    "on: push\njobs:\n  a: {runs-on: x, steps: [], if: github.ref == main}\n": "X7: Write the name of a context, or put a string in single",
+    STEP + "run: echo ${{ github.run_number + 1 }}\n": "X1: Do arithmetic in a step's script.",
+    STEP + "run: echo ${{ matrix.os }}\n": "X13: `matrix` has only the rows of the job's own matrix and what `include` adds to them: add the",
+    STEP + "run: echo ${{ matrix['os'] || 'x' }}\n": "X13: `matrix` has only the rows of the job's own matrix and what `include` adds",
+    "on: push\njobs: {a: {runs-on: x, strategy: {matrix: {os: [{a: b}]}}, steps: [{run: 'echo ${{ matrix.os.c }}'}]}}\n":
+        "X13: `matrix` has only the rows of the job's own matrix and what `include` adds to them: add the property there,",
+    STEP + "run: echo ${{ steps.x.outputs.y }}\n": "X13: To read the outputs of a step, give the step an `id`, and read them after it.",
+    "on: {workflow_call: {inputs: {x: {type: string}}}}\njobs: {a: {runs-on: x, steps: [{run: 'echo ${{ inputs.y }}'}]}}\n":
+        "X13: An input has to be declared by the event or the action.",
+    "on: push\njobs: {a: {runs-on: x, steps: []}, b: {runs-on: x, needs: a, steps: [{run: 'echo ${{ needs.a.outputs.o }}'}]}}\n":
+        "X13: A job must declare the `outputs` that others read.",
     "on: push\n&x jobs: {}\n": "Y7: Text that begins with `*` or `&` needs quotes.",
     STEP + 'run: echo ${{ github.ref == "a" }}\n': "X1: Write a string in single quotes, a choice as `TEST && THIS || THAT`, and equality as `==`.",
     STEP + "run: echo ${{ needs.build.result }}\n": "X13: A job must list in its own `needs` each job whose results it reads.",
@@ -80,6 +108,8 @@ ADVICE = {
     "on:\njobs: {}\n": "K5: `on` needs an event.",
     "on: {push: {paths: [./src]}}\njobs: {}\n": "G3: Paths begin at the repository's root, without `./` in front.",
     "on: {push: {branches: ['a b']}}\njobs: {}\n": "G3: Write the pattern as in GitHub's cheat sheet: `*` matches any text without a slash,",
+    "name: x\njobs: {}\n": "K2: Add the key to the mapping that begins at this place.",
+    STEP + "run: echo ${{ MATRIX.os }}\n": "X13: `matrix` has only the rows of the job's own matrix and what `include` adds",
     STEP + "name: x\n": "K2: A step needs `run` or `uses`.",
     "on: push\njobs: {a: {steps: []}}\n": "K2: Add the key to the mapping that begins at this place.",
 }
@@ -112,24 +142,15 @@ def text(program: str) -> None:
 def advice(program: str) -> None:
     """For the most common mistakes, the text below the fault's line is the sentence that helps."""
     with tempfile.TemporaryDirectory(prefix="actionlint-test-") as folder:
-        for file, expected in ADVICE.items():
-            write(folder, {FILE: file})
-            paragraphs = run(program, folder, "--form", "text")[1].split("\n\n")[:-1]
-            found = [f"{lines[0].rpartition(', ')[2][:-1]}: " + " ".join(line.strip() for line in lines[3:] if "did you mean" not in line)
-                     for lines in (one.splitlines() for one in paragraphs)]
-            assert any(one.startswith(expected) for one in found), (file, expected, found)
-
-
-@CASES.case
-def near_names(program: str) -> None:
-    """The most similar name of a list, unless none is similar."""
-    with tempfile.TemporaryDirectory(prefix="actionlint-test-") as folder:
-        for condition, near in (("sucess()", "success"), ("failed()", "failure"), ("gihub.ref == 'a'", "github"),
-                                ("github.ref == main", None), ("github.event_nam == 'a'", "event_name"), ("zzzzz()", None)):
-            write(folder, {FILE: STEP + f"{{run: x, if: {condition}}}\n"})
-            said = run(program, folder, "--form", "text")[1]
-            asked = [line.strip() for line in said.splitlines() if "did you mean" in line]
-            assert asked == ([f'did you mean "{near}"?'] if near else []), (condition, said)
+        write(folder, {f"{WORKFLOWS}{number}.yml": file for number, file in enumerate(ADVICE)})
+        found: dict[str, list[str]] = {}
+        for paragraph in run(program, folder, "--form", "text")[1].split("\n\n")[:-1]:
+            head, *lines = paragraph.splitlines()
+            said = " ".join(line.strip() for line in lines[2:] if not IS_FIX.match(line))
+            found.setdefault(head.partition(":")[0], []).append(f"{head.rpartition(', ')[2][:-1]}: {said}")
+        for number, (file, expected) in enumerate(ADVICE.items()):
+            of_file = found.get(f"{WORKFLOWS}{number}.yml", [])
+            assert any(one.startswith(expected) for one in of_file), (file, expected, of_file)
 
 
 @CASES.case
@@ -182,7 +203,7 @@ def github(program: str) -> None:
     lines = said.splitlines()
     assert (status, errors, len(lines), lines[-1]) == (1, "", 6, "5 faults in 1 file"), said
     assert lines[0] == ('::error file=.github/workflows/release.yml,line=4,endLine=4,col=5,endColumn=11,title=K1::unexpected key "branch" '
-                        '[syntax-check]%0Adid you mean "branches"?%0ALook for the key in its section: it is misspelled, or it is one '
+                        '[syntax-check]%0AFix: change to "branches"%0ALook for the key in its section: it is misspelled, or it is one '
                         "level too high or too deep."), lines[0]
 
 
@@ -233,6 +254,7 @@ def explain(program: str) -> None:
     """The entry of a code; any other text is a wrong argument."""
     status, said, errors = run(program, "/", "--explain", "x13")
     assert (status, errors) == (0, "") and said.startswith('X13: property ".." is not defined\n\n'), said
+    assert "(the list in docs/LISTS.md)" in said and max(map(len, said.splitlines())) <= 100, said
     assert "\n\nRepair: Write a property" in said and "\n    on: push\n" in said and "```" not in said and "](" not in said, said
     assert all(run(program, "/", "--explain", code)[0] == 0 for code in ("Y1", "K7", "C9"))
     assert run(program, "/", "--explain", "X99") == (2, "", "actionlint-report: 'X99' is not a fault code\n")
@@ -249,8 +271,9 @@ def ignored_faults(program: str) -> None:
                 (["--ignore-file", "kept"], 1, "1 fault in 1 file, 2 ignored"),
                 (["--ignore-file", "kept", "--ignore", "X13"], 0, "0 faults, 3 ignored"),
                 (["--ignore", "X13:b.yml"], 1, "3 faults in 3 files")):
-            found, said, _ = run(program, folder, "--form", "text", *words)
+            found, said, errors = run(program, folder, "--form", "text", *words)
             assert (found, said.splitlines()[-1]) == (status, count), (words, said)
+            assert errors == ("actionlint-report: X13:b.yml ignores nothing\n" if "X13:b.yml" in words else ""), (words, errors)
         found, said, errors = run(program, folder, "--form", "jsonl", "--ignore-file", "kept")
         assert (found, errors) == (1, "actionlint-report: 1 fault in 1 file, 2 ignored\n") and len(said.splitlines()) == 1, (said, errors)
         # A run that could not go on is reported as such, whatever is ignored.
@@ -262,14 +285,33 @@ def ignored_faults(program: str) -> None:
 
 
 @CASES.case
-def without_libraries(program: str) -> None:
-    """Reports need only python3."""
+def rules_that_ignore_nothing(program: str) -> None:
+    """They are told in each form, if what they are about was looked at, and change no status."""
+    b, said = WORKFLOWS + "b.yml", "ignores nothing"
     with tempfile.TemporaryDirectory(prefix="actionlint-test-") as folder:
-        for module in ("yaml", "pylsp_jsonrpc"):
-            Path(folder, f"{module}.py").write_text("raise ImportError\n", encoding="utf-8")
-        words = [sys.executable, REPORT, "--program", program, "--form", "text", "--root", str(TOP / "examples/broken")]
-        done = subprocess.run(words, stdout=subprocess.PIPE, stderr=subprocess.PIPE, env={**os.environ, "PYTHONPATH": folder}, check=False)
-    assert done.returncode == 1 and b"5 faults in 1 file" in done.stdout and done.stderr == b"", done
+        write(folder, {FILE: FILES[FILE], b: RIGHT, "kept": f"x13:{FILE}\nX13:{b}\nK1\nSC2086\n"})
+        for words, expected in (([], [f"X13:{b}", "K1"]), ([FILE], []), ([b], [f"X13:{b}"]), (["no.yml"], [])):
+            for form in ("text", "jsonl", "oneline", "codequality"):
+                status, _, errors = run(program, folder, "--form", form, "--ignore-file", "kept", "--", *words)
+                told = [line for line in errors.splitlines() if said in line]
+                assert (status, told) == (3 if words == ["no.yml"] else 0, [f"actionlint-report: {rule} {said}" for rule in expected]), errors
+        _, found, errors = run(program, folder, "--form", "github", "--ignore", "K1", "--", FILE)
+        assert said not in found + errors
+        _, found, errors = run(program, folder, "--form", "github", "--ignore", f"K1:{FILE}")
+        assert f"::warning title=actionlint::K1:{FILE} {said}\n" in found and not errors, (found, errors)
+        (log,) = json.loads(run(program, folder, "--ignore", "K1")[1])["runs"]
+        assert log["invocations"] == [{"executionSuccessful": True, "exitCode": 1, "toolExecutionNotifications": [
+            {"level": "warning", "message": {"text": f"K1 {said}"}}]}], log
+
+
+@CASES.case
+def without_libraries(program: str) -> None:
+    """Reports need only python3, and then have no fixes."""
+    # (without its folders of packages, and without looking for a Python that has them)
+    words = [sys.executable, "-S", "-E", REPORT, "--program", program, "--form", "text", "--root", str(TOP / "examples/broken")]
+    done = subprocess.run(words, stdout=subprocess.PIPE, stderr=subprocess.PIPE, check=False)
+    lines = [line for line in BROKEN.splitlines(keepends=True) if not IS_FIX.match(line)]
+    assert (done.returncode, done.stdout.decode(), done.stderr) == (1, "".join(lines), b""), done
 
 
 if __name__ == "__main__":

@@ -102,7 +102,9 @@ def characters(program: str) -> None:
         _, text, _ = run(program, "jsonl", "--root", folder)
         assert json.loads(text) == {"path": path, "line": 6, "column": 28, "end_column": 32, "code": "X13", "kind": "expression", "level": "error",
                                     "message": 'property "reff" is not defined',
-                                    "link": DOCS + "/FAULTS-EXPRESSIONS.md#x13-property-0-is-not-defined"}, text
+                                    "link": DOCS + "/FAULTS-EXPRESSIONS.md#x13-property-0-is-not-defined",
+                                    "advice": "Write a property that the context has here.", "fix": 'change to "ref"',
+                                    "fix_is_safe": True}, text
 
 
 @CASES.case

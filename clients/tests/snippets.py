@@ -27,7 +27,7 @@ CASES = Cases("snippets")
 PAGES = ("README.md", "docs/EDITORS.md", "docs/CI.md", "docs/COMMAND-LINE.md")
 FENCED = re.compile(r"(?:<!-- (?:run: ([\w-]+)|(not run)) -->\n)?^```\w+(?: file=\S+)?\n(.*?)^```$", re.M | re.S)
 SECONDS = 60
-EXPRESSION = re.compile(r"\$\{\{ ([\w.]+) \}\}")
+EXPRESSION = re.compile(r"\$\{\{ ([\w.-]+) \}\}")
 # What each editor does after its snippet: opens the file, waits for the fault, and writes its messages.
 LUA = """
 vim.cmd('filetype on')
@@ -129,7 +129,7 @@ def make(place: Place) -> None:
         assert found[0] == UNDEFINED.removesuffix(" [expression]") and len(found) == 2, found
 
 
-@in_each_clone(CASES)
+@in_each_place(CASES)
 def workflow(place: Place) -> None:
     """The one in clients/github. Like any other, its steps are those of the action, and it has no fault."""
     (text,) = snippets()["workflow"]
@@ -137,12 +137,12 @@ def workflow(place: Place) -> None:
     run_workflow(place, text)
 
 
-@in_each_clone(CASES)
+@in_each_place(CASES)
 def short_workflow(place: Place) -> None:
     run_workflow(place, *snippets()["short-workflow"])
 
 
-@in_each_clone(CASES)
+@in_each_place(CASES)
 def scanning(place: Place) -> None:
     (text,) = snippets()["scanning"]
     run_workflow(place, text, uploaded="actionlint.sarif")
@@ -202,6 +202,25 @@ def run_lines(place: Place, name: str, room: Room, *replaced: tuple[str, str]) -
 
 
 @in_each_place(CASES)
+def ignoring(place: Place) -> None:
+    """The inputs of the action in one step."""
+    (text,) = snippets()["ignore"]
+    (step,) = yaml.safe_load(text)
+    with place.repository({**{f"repository/{path}": text for path, text in FILES.items()}, "known-faults.txt": "C3\n"}) as room:
+        status, said = run_action(place, room, {**step["with"], "shellcheck": "false"})
+        assert step["with"]["shellcheck"] is True and step["with"]["root"] == "repository"
+        assert status == 1 and f"repository/{FILE}:6:30: {UNDEFINED}" in said.splitlines() and "required input" not in said, said
+
+
+@in_each_place(CASES)
+def fix(place: Place) -> None:
+    """What is shown is what is written then."""
+    with place.repository(FILES) as room:
+        assert run_lines(place, "fix", room) == [1, 1]
+        assert Path(room.root, FILE).read_text(encoding="utf-8") == RIGHT
+
+
+@in_each_place(CASES)
 def report(place: Place) -> None:
     with place.repository({f"repository/{path}": text for path, text in FILES.items()}) as room:
         assert run_lines(place, "report", room, ("DIR", "repository")) == [1, 1, 1]
@@ -238,21 +257,27 @@ def finds_a_fault(room: Room, words: list[str], shown: str = UNDEFINED) -> None:
 
 @in_each_clone(CASES)
 def pre_commit(place: Place) -> None:
+    """Hooks are taken from a git repository, which a release isn't."""
     revision = git(str(place.folder), "-c", f"safe.directory={place.folder}", "rev-parse", "HEAD").strip()
     for text in snippets()["pre-commit"]:
         text = text.replace("https://github.com/OWNER/REPOSITORY", str(place.folder)).replace("COMMIT", revision)
         with place.repository({**FILES, ".pre-commit-config.yaml": text}) as room:
             finds_a_fault(room, ["pre-commit", "run", "--all-files"])
+    (text,) = of_page("pre-commit-ignore", place)
+    text = text.replace("https://github.com/OWNER/REPOSITORY", str(place.folder)).replace("COMMIT", revision)
+    with place.repository({FILE: FILES[FILE], "known-faults.txt": "X13\n", ".pre-commit-config.yaml": text}) as room:
+        status, said = room.run(["pre-commit", "run", "--all-files"])
+        assert status == 0 and "Passed" in said, said
 
 
-@in_each_clone(CASES)
+@in_each_place(CASES)
 def local_hook(place: Place) -> None:
     (text,) = of_page("local-hook", place)
     with place.repository({**FILES, ".pre-commit-config.yaml": "repos:\n" + text}) as room:
         finds_a_fault(room, ["pre-commit", "run", "--all-files"])
 
 
-@in_each_clone(CASES)
+@in_each_place(CASES)
 def git_hook(place: Place) -> None:
     (text,) = of_page("git-hook", place)
     with place.repository({**FILES, ".git/hooks/pre-commit": text}) as room:
@@ -269,7 +294,7 @@ def tasks(place: Place) -> None:
         finds_a_fault(room, [task["command"], *task["args"]], "X13")
 
 
-@in_each_clone(CASES)
+@in_each_place(CASES)
 def recipe(place: Place) -> None:
     """A step that stops commands around the report; tests/recipes.py shows what a report can contain."""
     (text,) = of_page("recipe", place)

@@ -16,6 +16,8 @@ from concurrent.futures import ThreadPoolExecutor
 from pathlib import Path
 from typing import NamedTuple
 
+from wrong_fixes import WRONG_FIXES
+
 CLIENTS = Path(__file__).resolve().parent.parent
 SECONDS = 600
 SIDE_BY_SIDE = 4
@@ -23,7 +25,7 @@ RANDOM_EDITS = "random_edits.py 250 1"
 
 
 class WrongVersion(NamedTuple):
-    """A file of actionlint_client, a test with its arguments after PROGRAM, the right text in the file, and the wrong one in its place."""
+    """A file, named from actionlint_client, a test with its arguments after PROGRAM, the right text in the file, and the wrong one in its place."""
 
     file: str
     test: str
@@ -32,6 +34,7 @@ class WrongVersion(NamedTuple):
 
 
 WRONG_VERSIONS = {name: WrongVersion(*row) for name, *row in (
+    *WRONG_FIXES,
     ("only_open_files_are_shown", "repository.py", "promises.py a_renamed_file",
      "for path in sorted(paths):", "for path in sorted(paths & self.documents.keys()):"),
     ("columns_are_characters", "positions.py", "promises.py ranges",
@@ -80,8 +83,6 @@ WRONG_VERSIONS = {name: WrongVersion(*row) for name, *row in (
     ("everything_goes_on_after_shutdown", "server.py", "protocol.py before_and_after",
      "if self._is_shut_down or self._is_initialized and", "if self._is_initialized and"),
     ("a_folder_that_is_gone_is_still_shown", "repository.py", "promises.py several_folders", "editor.publish(uri, None, [])", "pass"),
-    ("fixes_are_not_tried", "fixes.py", "fixes.py random_slips", "if trial.mends(repair, fault):", "if True:"),
-    ("fixes_may_cause_faults", "fixes.py", "fixes.py random_slips", " and not after - self.before - self.earlier", ""),
     ("a_trial_knows_no_callers", "fixes.py", "fixes.py a_trial", "self._include([file, *callers])", "self._include([file])"),
     ("a_folder_has_a_linter_for_ever", "workspace.py", "life.py a_folder_is_let_go",
      "if root not in kept and not repository.documents:", "if False:"),
@@ -171,6 +172,86 @@ WRONG_VERSIONS = {name: WrongVersion(*row) for name, *row in (
      "return () if error.errno in ABSENT else (None, error.errno)", "return ()"),
     ("a_run_that_failed_has_an_empty_report", "convert.py", "report_edges.py the_old_report_stays_whole",
      "if not (outcome.is_known() or form.tells_failure):", "if False:"),
+    ("the_last_fix_is_shown", "advice.py", "first_fixes.py as_in_the_editor",
+     "found.setdefault(fix.fault, fix.repair)", "found[fix.fault] = fix.repair"),
+    ("fixes_are_tried_for_ever", "advice.py", "first_fixes.py how_many", "self._left -= len(first)", "pass"),
+    ("named_files_are_unknown", "advice.py", "first_fixes.py files_that_are_named",
+     'self._files.edit(path.removeprefix("./"), data)', "pass"),
+    ("a_repair_that_fails_takes_the_report", "advice.py", "first_fixes.py a_repair_that_fails", "except Exception as error:", "except OSError as error:"),
+    ("a_guess_looks_safe", "advice.py", "first_fixes.py in_each_form", "'Fix' if problem.fix.is_safe else 'Guess'", "'Fix'"),
+    ("contexts_have_one_case", "advice.py", "report_forms.py advice", "found[1].lower() == context", "found[1] == context"),
+    ("strings_in_brackets_are_no_properties", "advice.py", "report_forms.py advice", r"(?:\.|\[\s*'?)\s*$", r"\.\s*$"),
+    ("every_property_of_needs_is_an_output", "advice.py", "report_forms.py advice",
+     "(not below or tuple(names_between[1:]) == below)", "True"),
+    ("an_entry_of_a_list_is_the_list", "advice.py", "report_forms.py advice",
+     'and (not before or before.endswith(":"))', ""),
+    ("any_key_is_of_a_step", "advice.py", "report_forms.py advice", 'key in ("run", "uses")', 'key in ("run", "on")'),
+    ("every_colon_is_that_of_a_key", "advice.py", "report_forms.py advice",
+     'return _character(problem) == ":" and KEY_BEFORE_COLON.fullmatch(_before(problem)) is not None', 'return _character(problem) == ":"'),
+    ("annotations_have_no_fix", "forms.py", "first_fixes.py in_each_form", "*advice(problem)]))", "sentence(problem)]))"),
+    ("lines_of_json_have_no_fix", "forms.py", "first_fixes.py as_in_the_editor", '"fix": problem.fix and problem.fix.title', '"fix": None'),
+    ("code_quality_has_no_advice", "forms.py", "first_fixes.py in_each_form", "if (said := advice(problem)) else {}", "if (said := []) else {}"),
+    ("the_terminal_obeys_one_line", "forms.py", "report_edges.py characters",
+     'terminal_text(f"{fault.path}:{fault.line}:{fault.column}: {fault.message} [{fault.kind}]")',
+     'f"{fault.path}:{fault.line}:{fault.column}: {fault.message} [{fault.kind}]"'),
+    ("the_terminal_obeys_a_title", "terminal.py", "report_edges.py characters", 'terminal_text(line)) + "\\n")\n        for', 'line) + "\\n")\n        for'),
+    ("annotations_lack_unused_rules", "forms.py", "report_forms.py rules_that_ignore_nothing",
+     "for warning in outcome.warnings:", "for warning in outcome.warnings[:0]:"),
+    ("an_edit_ends_one_character_early", "sarif.py", "first_fixes.py an_edit_of_sarif", "end.column + 1", "end.column"),
+    ("sarif_makes_files", "sarif.py", "first_fixes.py a_new_file", "if problem.fix and not problem.fix.new_files else", "if problem.fix else"),
+    ("notes_that_nobody_asked_for_are_unused", "convert.py", "report_forms.py rules_that_ignore_nothing",
+     "if is_note(rule.code) and not options.shellcheck:", "if False:"),
+    ("rules_of_other_files_are_unused", "convert.py", "report_forms.py rules_that_ignore_nothing",
+     "return not options.files or rule.path in map(path_of_word, options.files)", "return True"),
+    ("what_is_not_written_is_fixed", "convert.py", "applied_fixes.py a_file_that_changes_meanwhile",
+     "return not found.not_written", "return True"),
+    ("a_diff_of_faults_has_none", "convert.py", "applied_fixes.py the_same_bytes", "return 1 if found.faults else 0", "return 0"),
+    ("guesses_need_nothing", "convert.py", "applied_fixes.py runs_that_cannot_go_on",
+     "if options.guesses and not (options.diff or options.fix):", "if False:"),
+    ("every_rule_is_unused", "ignoring.py", "report_forms.py rules_that_ignore_nothing", "self._used |= found", "pass"),
+    ("ignored_faults_are_shown", "ignoring.py", "ignore_files.py by_an_argument", "if not self.has_fault(fault))", ")"),
+    ("rules_are_read_once", "ignoring.py", "ignore_files.py a_file_that_changes", "if stamps != self._stamps:", "if not self._stamps and stamps:"),
+    ("old_rules_outlive_their_file", "ignoring.py", "ignore_files.py a_file_that_changes",
+     "self._rules = Ignored(())\n                self._say", "self._say"),
+    ("a_rule_for_a_file_is_for_all", "ignoring.py", "report_forms.py ignored_faults", "Rule(problem.code, problem.fault.path)} &",
+     "*(rule for rule in self._rules if rule.code == problem.code)} &"),
+    ("ignored_faults_are_explained", "repository.py", "ignore_files.py by_an_argument", "faults = shown(self.found()).faults", "faults = self.faults()"),
+    ("earlier_faults_are_not_ignored", "repository.py", "ignore_files.py by_an_argument",
+     "earlier = self.ignored.without(document.earlier())", "earlier = document.earlier()"),
+    ("files_that_are_not_open_keep_their_faults", "repository.py", "ignore_files.py a_file_that_changes",
+     "paths |= self._shown.keys() | self.result.faults.keys()", "pass"),
+    ("the_setting_is_not_read", "server.py", "ignore_files.py by_a_setting", 'given.get("ignoreFiles")', 'given.get("")'),
+    ("any_program_is_the_linter", "lint_run.py", "applied_fixes.py runs_that_cannot_go_on", "if self.status == 0 and not _is_linter(self._program):", "if False:"),
+    ("ignored_faults_are_fixed", "fixing.py", "applied_fixes.py what_is_left_alone", "if self._choice.takes(fault) and fault", "if fault"),
+    ("files_that_are_not_linted_are_fixed", "applying.py", "applied_fixes.py what_is_left_alone", "fault.path in paths and not", "not"),
+    ("fixes_overlap", "fixing.py", "applied_fixes.py fixes_that_touch", "if not any(_touch(one, other)", "if True or any(_touch(one, other)"),
+    ("fixes_may_cause_other_faults", "fixing.py", "applied_fixes.py fixes_that_do_not_go_together",
+     "and not _messages(after) - _messages(before))", ")"),
+    ("what_fails_together_stays", "fixing.py", "applied_fixes.py fixes_that_do_not_go_together",
+     "for path, data in texts.items():\n                self._folder.edit(path, data)", "pass"),
+    ("fixes_go_round", "fixing.py", "applied_fixes.py fixes_that_never_end", "if may_uncover and _count_hiding(after) < _count_hiding(before):", "if may_uncover:"),
+    ("hidden_faults_forbid_a_fix", "fixing.py", "applied_fixes.py what_a_fault_hides",
+     "if may_uncover and _count_hiding(after) < _count_hiding(before):", "if False:"),
+    ("guesses_come_with_safe_fixes", "fixing.py", "applied_fixes.py what_a_safe_fix_repairs",
+     "(repair.is_safe or self._takes_guesses)", "(repair.is_safe or self._choice.with_guesses)"),
+    ("guesses_are_taken_unasked", "fixing.py", "applied_fixes.py guesses", "(repair.is_safe or self._takes_guesses)", "True"),
+    ("only_the_first_faults_are_fixed", "fixing.py", "applied_fixes.py many_faults_of_a_file",
+     "for start in range(0, len(faults), MAX_FAULTS):", "for start in range(0, min(len(faults), 1), MAX_FAULTS):"),
+    ("links_are_replaced", "fixing.py", "applied_fixes.py modes_and_links", "if is_behind_a_link(self._root, path):", "if False:"),
+    ("folders_may_be_links", "fixing.py", "applied_fixes.py modes_and_links", "for count in range(1, len(parts) + 1))", "for count in (len(parts),))"),
+    ("a_byte_order_mark_is_a_character", "fixing.py", "applied_fixes.py the_same_bytes", "int(data.startswith(BYTE_ORDER_MARK))", "0"),
+    ("new_lines_end_in_one_way", "fixing.py", "applied_fixes.py guesses", 'edit.text.replace("\\n", line_break)', "edit.text"),
+    ("a_last_line_gets_an_end", "unified_diff.py", "applied_fixes.py the_same_bytes", 'if line.endswith(b"\\n") else', "if True else"),
+    ("hunks_overlap", "unified_diff.py", "applied_fixes.py patches_by_chance", "<= 2 * CONTEXT:", "<= CONTEXT:"),
+    ("blanks_end_a_name", "unified_diff.py", "applied_fixes.py a_hunk", 'b"--- a/%s\\t\\n+++ b/%s\\t\\n"', 'b"--- a/%s\\n+++ b/%s\\n"'),
+    ("no_lines_have_a_number", "unified_diff.py", "applied_fixes.py patches_by_chance", "start + 1 if end > start else start", "start + 1"),
+    ("the_terminal_obeys_a_diff", "applying.py", "applied_fixes.py a_terminal", "if to_terminal else line", "if False else line"),
+    ("what_changed_is_overwritten", "rewriting.py", "applied_fixes.py a_file_that_changes_meanwhile",
+     " or file.read(len(before) + 1) != before", ""),
+    ("modes_are_lost", "output.py", "applied_fixes.py modes_and_links", "os.fchmod(handle, stat.S_IMODE(like.st_mode))", "pass"),
+    ("paths_begin_in_the_root", "../github/run", "action_step.py a_root", """printf '%s/%s\\n' "${ROOT%/}" "$line\"""", """printf '%s\\n' "$line\""""),
+    ("the_action_ignores_nothing", "../github/run", "action_step.py ignored_faults", 'if [ ${#extra[@]} != 0 ]; then', "if false; then"),
+    ("the_action_hides_a_status", "../github/run", "action_step.py a_root", 'return "${PIPESTATUS[0]}"', "return 0"),
     # Texts of strangers.
     ("markdown_of_strangers_is_obeyed", "markdown.py", "strangers.py markdown_of_strangers",
      'return SIGNS.sub(r"\\\\\g<0>", shown(text))', "return shown(text)"),
@@ -236,7 +317,7 @@ WRONG_VERSIONS = {name: WrongVersion(*row) for name, *row in (
     ("scripts_are_always_checked", "server.py", "shellcheck_server.py off_unless_asked_for",
      "self._checks.is_on = options.shellcheck", "self._checks.is_on = True"),
     ("settings_turn_nothing_off", "server.py", "shellcheck_server.py off_unless_asked_for",
-     "self._checks.is_on = given", "self._checks.is_on |= given"),
+     "self._checks.is_on = given[", "self._checks.is_on |= given["),
     ("what_is_no_yaml_is_checked", "repository.py", "shellcheck_server.py what_is_no_yaml", " or is_no_yaml(found):\n            return ()",
      ":\n            return ()"),
     ("a_check_outlives_the_server", "server.py", "shellcheck_server.py the_end_of_the_server", "self._checks.end()", "pass"),
@@ -260,7 +341,8 @@ def edited_copy(version: WrongVersion, top: str) -> Path:
     text = file.read_text(encoding="utf-8")
     assert text.count(version.right) == 1, f"{version.file} has this {text.count(version.right)} times: {version.right}"
     wrong = text.replace(version.right, version.wrong)
-    compile(wrong, version.file, "exec")
+    if version.file.endswith(".py"):
+        compile(wrong, version.file, "exec")
     file.write_text(wrong, encoding="utf-8")
     return copy
 

@@ -1,0 +1,317 @@
+"""Repairs of values of another kind or type than their keys take, and of empty files."""
+from __future__ import annotations
+
+import itertools
+import re
+from typing import Callable, Iterable
+
+from .names import misspelled
+from .paths import is_workflow
+from .repair import Case, Edit, Found, Repair, indented, is_within_flow, quoted, tight
+from .repairs_keys import JOB
+from .repairs_yaml import DASH_WITHOUT_SPACE
+from .stricter import takes_filter
+from .syntax import table
+from .text import Point, Span
+from .tree import Node, Path, last_line, walk
+
+WORKFLOW = f"on: push\njobs:\n  {JOB.replace(chr(10), chr(10) + '  ')}\n"
+ACTION = "name: Name\ndescription: Description\nruns:\n  using: composite\n  steps:\n    - run: make\n      shell: bash\n"
+FLAGS = {"yes": "true", "on": "true", "y": "true", "true": "true", "no": "false", "off": "false", "n": "false", "false": "false"}
+OTHER_FLAGS = {"1": "true", "enabled": "true", "enable": "true", "always": "true", "0": "false", "disabled": "false", "disable": "false",
+               "never": "false"}
+NUMBERS = {word: number for number, word in enumerate("zero one two three four five six seven eight nine ten".split())}
+NUMBER = re.compile(r"(-?\d{1,9}(?:\.\d{1,9})?)\s*([A-Za-z]*)\.?")
+MINUTES = {"": 1.0, "m": 1.0, "min": 1.0, "mins": 1.0, "minute": 1.0, "minutes": 1.0, "h": 60.0, "hr": 60.0, "hrs": 60.0, "hour": 60.0,
+           "hours": 60.0, "d": 1440.0, "day": 1440.0, "days": 1440.0, "s": 1 / 60, "sec": 1 / 60, "secs": 1 / 60, "second": 1 / 60,
+           "seconds": 1 / 60}
+CALL = re.compile(r"[\w.-]+/[\w./-]+@[\w./-]+|\./[\w./-]+|docker://\S+")
+COLON_LACKS_SPACE = re.compile(r"([A-Za-z_][\w-]*):(?=[^\s/:])")
+KEY_LACKS_COLON = re.compile(r"([A-Za-z_][\w-]*)(?= +[^\s=])")
+ODD_SPACE = re.compile("[\u00a0\u2000-\u200a\u202f\u3000]")
+
+
+def other_kind(case: Case) -> Iterable[Repair]:
+    """A list if one is expected, a space after dashes, a first job, and an alias in place of `<<`."""
+    here = case.value
+    yield from _spaced_dashes(case)
+    if case.arguments[0] == "jobs":
+        yield from _indented_jobs(case)
+        yield from _first_job(case)
+    if case.arguments[0] == "<<":
+        yield from _without_merge(case)
+    if here is None:
+        return
+    yield from _of_its_section(case, here)
+    value, text = here.value, case.slice(here.value.span)
+    if value.kind == "scalar" and value.style not in ("|", ">") and value.value:
+        with_key = list(_with_key(case, here))
+        yield from with_key
+        if with_key:
+            return
+        yield case.replace("make it a list", f"[{text}]", value.span)
+        if here.path[-2:-1] == ("steps",):
+            name = "uses" if CALL.fullmatch(value.value) else "run"
+            yield case.replace(f'make it a step with "{name}"', f"{name}: {text}", value.span)
+        pair = re.fullmatch(r"([\w-]+)[=:]\s*(.+)", value.value)
+        if pair:
+            yield case.replace("make it a mapping", "{%s: %s}" % (pair[1], quoted(pair[2])), value.span)
+    if value.kind == "mapping":
+        if all(not entry.value and entry.kind == "scalar" for _, entry in value.entries):
+            keys = ", ".join(case.slice(key.span) for key, _ in value.entries)
+            yield case.replace("make it a list", f"[{keys}]", tight(case, value))
+        if not value.is_flow:
+            yield from as_list(case, value)
+    if value.kind == "sequence":
+        yield from as_mapping(case, value)
+        yield from _scalars_as_other(case, here)
+
+
+def _with_key(case: Case, here: Found) -> Iterable[Repair]:
+    """A text that begins with a key, whose colon or the space after it is missing or isn't a plain one."""
+    value = here.value
+    if value.style:
+        return
+    text = case.slice(value.span)
+    keys = table()["shapes"]["Step"]["keys"] if here.path[-2:-1] == ("steps",) else None
+    if ODD_SPACE.search(text):
+        yield case.replace("write plain spaces", ODD_SPACE.sub(" ", text), value.span, is_safe=True)
+    for pattern, sign, title in ((COLON_LACKS_SPACE, " ", "add a space after the colon"), (KEY_LACKS_COLON, ":", "add a colon")):
+        match = pattern.match(text)
+        if match and (keys is None or match[1] in keys):
+            end = Point(value.span.start.line, value.span.start.column + match.end())
+            yield case.replace(title + (f' after "{match[1]}"' if sign == ":" else ""), sign, Span.at(end), is_safe=sign == " ")
+
+
+def _scalars_as_other(case: Case, here: Found) -> Iterable[Repair]:
+    """A list of texts as a mapping, as a script, or as a single text."""
+    items, span = here.value.items, tight(case, here.value)
+    texts = [item.value for item in items if item.kind == "scalar"]
+    if not items or len(texts) != len(items):
+        return
+    if case.arguments[0] == "permissions":
+        yield case.replace("make it a mapping", "{" + ", ".join(f"{scope}: read" for scope in texts) + "}", span)
+    line = case.outline.lines[here.value.span.start.line]
+    if case.arguments[0] == "run" and line.elements:
+        indent = "\n" + " " * (line.elements[-1].column + 2)
+        yield case.replace("write the script as a block", "|" + "".join(indent + text for text in texts), span)
+    pairs = [re.fullmatch(r"([\w-]+)=(.*)", text) for text in texts]
+    if all(pairs):
+        yield case.replace("make it a mapping", "{" + ", ".join(f"{pair[1]}: {quoted(pair[2])}" for pair in pairs if pair) + "}", span)
+    if len(items) == 1:
+        yield case.replace("remove it from the list", case.slice(items[0].span), span)
+
+
+def _of_its_section(case: Case, here: Found) -> Iterable[Repair]:
+    """A schedule, steps, a job or an input, made from the text or the mapping in its place."""
+    value, text, name = here.value, case.slice(here.value.span), case.arguments[0]
+    is_text = value.kind == "scalar" and bool(value.value)
+    column = here.key.span.start.column if here.key else 0
+    if name == "schedule" and is_text:
+        cron = "{cron: %s}" % quoted(value.value)
+        yield case.replace('make it a list of "cron" entries', cron if isinstance(here.path[-1], int) else f"[{cron}]", value.span)
+    elif name == "schedule" and value.is_flow:
+        yield case.replace('make it a list of "cron" entries', f"[{text}]", value.span)
+    elif here.path[:-1] == ("on",) and not value.entries:
+        yield from _settings_of_event(case, here)
+    elif name == "steps" and is_text:
+        yield case.replace("make it a list of steps", "[{run: %s}]" % quoted(value.value), value.span)
+    elif name == "inputs" and value.kind == "sequence" and value.is_flow:
+        entries = ", ".join("%s: {type: string}" % item.value for item in value.items)
+        yield case.replace("make it a mapping", "{" + entries + "}", value.span)
+    elif here.path[-2:-1] == ("inputs",) and is_text:
+        yield case.replace("make it a mapping", "{type: string}", value.span)
+    elif here.path[:-1] == ("jobs",) and here.path[-1] in table()["shapes"]["Job"]["keys"]:
+        yield from _keys_beside_job(case, here)
+    elif here.path[:-1] == ("jobs",) and here.key and value.kind == "scalar":
+        yield from _indented_keys(case, here)
+        run = value.value or "make"
+        lines = JOB.replace("make", run).split("\n")[1:]
+        yield case.replace("make it a job", ":" + "".join("\n" + " " * column + line for line in lines),
+                           Span(here.key.span.end, value.span.end))
+    elif name == "steps" and value.kind == "scalar" and isinstance(here.path[-1], int):
+        line = case.line_at(value.span.start.line)
+        yield case.replace("add a script", (" " if line.rstrip().endswith("-") else "") + "run: echo",
+                           Span.on_line(value.span.start.line, len(line.rstrip()), len(line)))
+
+
+def _settings_of_event(case: Case, here: Found) -> Iterable[Repair]:
+    """The value of an event as its activity types, or as its branches."""
+    event, value = str(here.path[-1]), here.value
+    items = value.items or [value]
+    is_of_types = {item.value for item in items} <= set(table()["activity types"].get(event, []))
+    key = "types" if is_of_types else "branches"
+    if here.key and all(item.value for item in items) and takes_filter(event, key):
+        texts = ", ".join(case.slice(item.span) for item in items)
+        yield case.replace(f'put it below "{key}"', f": {{{key}: [{texts}]}}", Span(here.key.span.end, tight(case, value).end))
+
+
+def _keys_beside_job(case: Case, here: Found) -> Iterable[Repair]:
+    """A key of a job beside it, moved below it with the others."""
+    before = [(key, value) for key, value in here.parent.entries if here.key and key.span.start < here.key.span.start]
+    jobs = [(key, value) for key, value in before if key.value not in table()["shapes"]["Job"]["keys"]]
+    if jobs:
+        yield from _indented_keys(case, Found((*here.path[:-1], jobs[-1][0].value), jobs[-1][0], jobs[-1][1], here.parent))
+
+
+def jobs_below(case: Case) -> Iterable[Repair]:
+    """Jobs that are beside an empty `jobs`, moved below it."""
+    here = case.key
+    if here and len(here.path) == 1 and here.value.kind == "mapping" and here.value.get("steps"):
+        yield from _indented_jobs(case)
+
+
+def _indented_keys(case: Case, here: Found) -> Iterable[Repair]:
+    """The keys of a job, moved below it if they are beside it."""
+    if here.value.value or is_within_flow(case, here.path):
+        return
+    after = [(key, value) for key, value in here.parent.entries if here.key and key.span.start > here.key.span.start]
+    keys = itertools.takewhile(lambda entry: entry[0].value in table()["shapes"]["Job"]["keys"], after)
+    edits = indented(case, keys, "  ")
+    if edits:
+        yield case.of("indent the keys of the job", *edits)
+
+
+def _indented_jobs(case: Case) -> Iterable[Repair]:
+    """The jobs, moved below `jobs` if they are beside it."""
+    tree, jobs = case.tree, case.at("jobs")
+    if tree is None or jobs is None or jobs.kind != "scalar" or jobs.value:
+        return
+    after = tree.entries[tree.names().index("jobs") + 1:]
+    found = itertools.takewhile(lambda entry: entry[0].value not in table()["shapes"]["Workflow"]["keys"], after)
+    edits = indented(case, found, "  ")
+    if edits:
+        yield case.of("indent the jobs", *edits)
+
+
+def as_list(case: Case, mapping: Node) -> Iterable[Repair]:
+    """A block mapping as the only entry of a list, or each of its entries as one."""
+    first, last = mapping.span.start.line, last_line(mapping, case.lines)
+    start = mapping.span.start
+    edits = [Edit(Span.at(start), "- ")]
+    edits += [Edit(Span.at(Point(line, 0)), "  ") for line in range(first + 1, last + 1) if case.lines[line].strip()]
+    yield case.of("make it a list", *edits)
+
+
+def as_mapping(case: Case, sequence: Node) -> Iterable[Repair]:
+    """A list of block mappings without its dashes."""
+    if sequence.is_flow or not sequence.items or any(item.kind != "mapping" or item.is_flow for item in sequence.items):
+        return
+    edits = []
+    for item in sequence.items:
+        line, column = item.span.start
+        dash = case.lines[line].index("-")
+        edits.append(Edit(Span.on_line(line, dash, column), " " * (column - dash)))
+    yield case.of("delete the dashes", *edits)
+
+
+def _spaced_dashes(case: Case) -> Iterable[Repair]:
+    edits = []
+    for number in range(case.span.start.line, len(case.lines)):
+        match = DASH_WITHOUT_SPACE.match(case.lines[number])
+        if match and match.end() - 1 == case.span.start.column:
+            edits.append(Edit(Span.at(Point(number, match.end())), " "))
+    if edits:
+        yield case.of("add a space after the dash", *edits, is_safe=True)
+
+
+def _first_job(case: Case) -> Iterable[Repair]:
+    jobs = case.tree.key("jobs") if case.tree else None
+    value = case.at("jobs")
+    if jobs and value and not value.entries and not value.items:
+        line = jobs.span.start.line
+        span = Span.on_line(line, jobs.span.end.column, len(case.lines[line]))
+        yield case.replace("add a job", ":\n  " + JOB.replace("\n", "\n  "), span)
+
+
+def _without_merge(case: Case) -> Iterable[Repair]:
+    """The alias alone if a mapping has nothing but `<<`, otherwise what the alias stands for in its place."""
+    if case.tree is None:
+        return
+    parents: dict[Path, Node] = {(): case.tree}
+    parents.update((path, value) for path, _, value in walk(case.tree))
+    edits = []
+    for path, key, value in walk(case.tree):
+        parent = parents[path[:-1]]
+        if key is None or key.value != "<<" or value.alias is None:
+            continue
+        if len(parent.entries) == 1 and len(path) > 1:
+            edits.append(_alias_alone(case, parent, value))
+        elif value.entries and all(entry.kind == "scalar" for _, entry in value.entries):
+            entries = [f"{name.value}: {case.slice(entry.span)}" for name, entry in value.entries]
+            between = ", " if parent.is_flow else "\n" + " " * key.span.start.column
+            edits.append(Edit(Span(key.span.start, value.span.end), between.join(entries)))
+    if edits:
+        yield case.of('replace "<<"', *edits)
+
+
+def _alias_alone(case: Case, mapping: Node, alias: Node) -> Edit:
+    if mapping.is_flow:
+        return Edit(mapping.span, f"*{alias.alias}")
+    line = mapping.span.start.line
+    before = case.lines[line - 1].rstrip() if line else ""
+    if case.lines[line][:mapping.span.start.column].strip() or not before.endswith(":"):
+        return Edit(Span(mapping.span.start, alias.span.end), f"*{alias.alias}")
+    return Edit(Span(Point(line - 1, len(before)), alias.span.end), f" *{alias.alias}")
+
+
+def other_type(case: Case) -> Iterable[Repair]:
+    """A flag or a number that is written as a text, or an expression without its braces."""
+    here = case.value
+    if here is None:
+        return
+    text = here.value.value.strip()
+    name = str(here.path[-1]) if here.path else ""
+    yield from as_flag(case, here.value)
+    yield from as_number(case, here.value, MINUTES if name.endswith("minutes") else {})
+    if here.path == ("on",) and not text:
+        key = case.tree.key("on") if case.tree else None
+        if key:
+            span = Span(key.span.end, Point(key.span.end.line, len(case.lines[key.span.end.line])))
+            yield case.replace('add "push"', ": push", span)
+    if re.fullmatch(r"\$?\{.*\}?\}", text) and here.value.kind == "scalar":
+        yield case.replace("write it as an expression", "${{ " + text.strip("${} ") + " }}", here.value.span, is_safe=True)
+    elif re.fullmatch(r"!?[a-z]\w*(?:\.[\w*-]+)+(?: *[=!]= *'[^']*')?", text) and "}" not in text:
+        value = "${{ " + text + " }}"
+        yield case.replace("write it as an expression", quoted(value) if is_within_flow(case, here.path) else value, here.value.span)
+
+
+def as_flag(case: Case, node: Node) -> Iterable[Repair]:
+    """`true` or `false` for a word that means it."""
+    text = node.value.strip().lower()
+    meant = FLAGS.get(text) or misspelled(text, ("true", "false"))
+    if node.kind == "scalar" and (meant or text in OTHER_FLAGS):
+        flag = meant or OTHER_FLAGS[text]
+        yield case.replace(f'change to "{flag}"', flag, node.span, is_safe=meant is not None)
+
+
+def as_number(case: Case, node: Node, units: dict[str, float]) -> Iterable[Repair]:
+    """A number without its quotes, for a word, or in the unit of its key."""
+    text = node.value.strip().lower()
+    match = NUMBER.fullmatch(text)
+    if node.kind != "scalar":
+        return
+    if text in NUMBERS:
+        yield case.replace(f'change to "{NUMBERS[text]}"', str(NUMBERS[text]), node.span, is_safe=True)
+    elif match and not match[2]:
+        yield case.replace(f'change to "{match[1]}"', match[1], node.span, is_safe=True)
+    elif match and match[2] in units:
+        amount = round(float(match[1]) * units[match[2]], 6)
+        whole = max(1, -int(-amount // 1))
+        rounded = "" if whole == amount else ", rounded up"
+        yield case.replace(f'change to "{whole}"{rounded}', str(whole), node.span, is_safe=whole == amount)
+
+
+def skeleton(case: Case) -> Iterable[Repair]:
+    """A file to start from, after its comments."""
+    end = Point(len(case.lines) - 1, len(case.lines[-1]))
+    before = "\n" if case.lines[-1] else ""
+    yield case.replace("insert a skeleton", before + (WORKFLOW if is_workflow(case.file) else ACTION), Span.at(end))
+
+
+REPAIRS: dict[str, tuple[Callable[[Case], Iterable[Repair]], ...]] = {
+    "K1": (jobs_below,),
+    "K4": (other_kind,),
+    "K5": (other_type,),
+    "K7": (skeleton,),
+}

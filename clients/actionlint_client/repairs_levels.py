@@ -1,0 +1,139 @@
+"""Repairs of lines that have the indentation of another level."""
+from __future__ import annotations
+
+from typing import Callable, Iterable, Iterator
+
+from .paths import is_workflow
+from .place import Outline
+from .repair import Case, Edit, Found, Repair, known_keys
+from .syntax import shape_at
+from .text import Point, Span
+from .tree import Node, Path, last_line
+
+MAX_LINES_ABOVE = 30
+MAX_COLUMNS = 6
+# In longer files no section is looked up.
+MAX_LINES = 5_000
+
+
+def moved_line(case: Case) -> Iterable[Repair]:
+    """The line and those below it with the indentation of one of the lines above: first where a section knows its key, and there as deep as
+    possible, since a key usually belongs to what it follows."""
+    number, own = case.span.start.line, _indent(case.line)
+    above = case.outline.lines[max(number - MAX_LINES_ABOVE, 0):number]
+    columns = {column for line in above if line.elements for column in (line.elements[-1].column, line.indent)} - {own}
+    nearest = sorted(columns, key=lambda column: (abs(column - own), -column))[:MAX_COLUMNS]
+    lines = range(number, _last_line(case, number, own) + 1)
+    found = []
+    for column in nearest:
+        path, rank = _section(case, number, column)
+        title = f"move it {_destination(case, path, column)}"
+        found.append((rank, abs(column - own), -column if rank == 0 else 0, moved(case, title, lines, column - own)))
+    # Of those where a section knows it, only the nearest are likely.
+    reach = min((distance for rank, distance, _, _ in found if rank == 0), default=None)
+    likely = [one for one in found if reach is None or one[0] == 0 and one[1] == reach]
+    yield from (repair for *_, repair in sorted(likely, key=lambda one: (one[0], one[2])))
+
+
+def _indent(line: str) -> int:
+    return len(line) - len(line.lstrip(" "))
+
+
+def _last_line(case: Case, number: int, own: int) -> int:
+    """The last line that belongs to a line, without blank ones below it."""
+    last = number
+    for below in range(number + 1, len(case.lines)):
+        if case.lines[below].strip():
+            if _indent(case.lines[below]) <= own:
+                break
+            last = below
+    return last
+
+
+def _section(case: Case, number: int, column: int) -> tuple[Path, int]:
+    """The path of the mapping that a line would be in at a column. With it, 0 if the section has the line's key and it isn't there yet,
+    1 if any key can stand there, 2 otherwise."""
+    elements = case.outline.lines[number].elements
+    if number > MAX_LINES or not elements or elements[0].name is None:
+        return (), 2
+    lines = [*case.lines[:number], " " * column + case.line.lstrip(" ")]
+    place = Outline(lines).place(Point(number, column))
+    levels = (*place.around, place.siblings)
+    if elements[0].name in known_keys(case.file, place.path, levels, set(place.siblings)):
+        return place.path, 0
+    shape = shape_at(case.file, place.path, levels)
+    return place.path, 1 if shape and shape["free"] and "keys" not in shape else 2
+
+
+def _destination(case: Case, path: Path, column: int) -> str:
+    """Where a key is moved, in words."""
+    if path[-1:] and isinstance(path[-1], int):
+        return "to the step above" if path[-2:-1] == ("steps",) else "to the entry above"
+    if is_workflow(case.file) and path[:-1] == ("jobs",):
+        return f'to the job "{path[-1]}"'
+    return f'below "{path[-1]}"' if path else "to the top level" if column == 0 else f"to column {column + 1}"
+
+
+def moved(case: Case, title: str, lines: Iterable[int], by: int) -> Repair:
+    """Lines with more or fewer spaces before them, except blank ones."""
+    edits = [Edit(Span.at(Point(line, 0)), " " * by) if by > 0 else Edit(Span.on_line(line, 0, -by), "")
+             for line in lines if case.lines[line].strip()]
+    return case.of(title, *edits)
+
+
+def another_level(case: Case) -> Iterable[Repair]:
+    """A key that its section doesn't have, moved to a section that has it: one in the value before it, the innermost first, or one around
+    it."""
+    if case.key:
+        yield from (repair for _, repair in moves(case, case.key))
+
+
+def moves(case: Case, here: Found) -> Iterator[tuple[Path, Repair]]:
+    """The sections that have a key, and the repairs that move it there."""
+    if here.key is None or here.parent.is_flow or case.lines[here.key.span.start.line][:here.key.span.start.column].strip():
+        return
+    if here.key.value == "environment" and here.value.entries and here.value.get("name") is None:
+        # variables
+        return
+    lines = range(here.key.span.start.line, last_line(here.value, case.lines) + 1)
+    for path, names, column in (*_sections_before(case, here), *_sections_around(case, here)):
+        if here.key.value in case.known_keys(path, names):
+            title = f'move "{here.key.value}" {_destination(case, path, column)}'
+            yield path, moved(case, title, lines, column - here.key.span.start.column)
+
+
+def _sections_before(case: Case, here: Found) -> list[tuple[Path, list[str], int]]:
+    """The block mappings at the end of the value before a key, or below a key before it that has no value."""
+    number = next(number for number, (key, _) in enumerate(here.parent.entries) if key is here.key)
+    if not number:
+        return []
+    key, node = here.parent.entries[number - 1]
+    path: Path = (*here.path[:-1], key.value)
+    if node.kind == "scalar" and not node.value and not node.style:
+        return [(path, [], key.span.start.column + 2)]
+    return [found for found in _at_the_end(node, path)][::-1]
+
+
+def _at_the_end(node: Node, path: Path) -> Iterator[tuple[Path, list[str], int]]:
+    while node.alias is None and not node.is_flow and (node.entries or node.items):
+        if node.entries:
+            key, below = node.entries[-1]
+            yield path, node.names(), key.span.start.column
+            path = (*path, key.value)
+        else:
+            below = node.items[-1]
+            path = (*path, len(node.items) - 1)
+        node = below
+
+
+def _sections_around(case: Case, here: Found) -> list[tuple[Path, list[str], int]]:
+    """The block mappings around a key's mapping, the innermost first."""
+    around = [(here.path[:depth], case.at(*here.path[:depth])) for depth in range(len(here.path) - 2, -1, -1)]
+    return [(path, node.names(), node.entries[0][0].span.start.column)
+            for path, node in around if node is not None and node.kind == "mapping" and not node.is_flow]
+
+
+REPAIRS: dict[str, tuple[Callable[[Case], Iterable[Repair]], ...]] = {
+    "K1": (another_level,),
+    "G1": (another_level,),
+}

@@ -1,0 +1,134 @@
+"""Repairs of values in expressions: indexes, objects, and the arguments of calls."""
+from __future__ import annotations
+
+import itertools
+import re
+from typing import Callable, Iterable
+
+from .expressions import CHAIN, NAME, links
+from .repair import Case, Repair
+from .repairs_expressions import TWO_QUOTES, arguments_at, expression_of, in_yaml, is_compared, is_in_condition, is_operand, whole_chain
+from .text import Point, Span
+
+PLACEHOLDER = re.compile(r"\{(\d{1,3})\}")
+# What of a job or a step is compared with a text, and of which objects.
+COMPARED = {"needs": "result", "steps": "outcome", "job": "status"}
+
+
+def without_index(case: Case) -> Iterable[Repair]:
+    """The chain up to what can't be indexed, unless that makes a condition constant."""
+    chain, span = whole_chain(case)
+    line = case.line
+    dot = max(line.rfind(sign, span.start.column, case.span.start.column + 1) for sign in (".", "["))
+    here = case.scalar
+    if not chain or dot <= span.start.column or here is None:
+        return
+    is_test = is_in_condition(case) and not is_operand(line[:span.start.column], line[span.end.column:])
+    if not is_test and not line[:span.start.column].rstrip().endswith("!"):
+        index = line[dot:span.end.column]
+        yield case.replace(f'delete "{index}"', "", Span(Point(case.span.start.line, dot), span.end), deletes=True)
+
+
+def compared_part(case: Case) -> Iterable[Repair]:
+    """What of a needed job, a step or an event is compared with a text, in place of all of it."""
+    if case.code == "X18" and not is_in_condition(case):
+        return
+    for match in CHAIN.finditer(case.line):
+        span = Span.on_line(case.span.start.line, match.start(), match.end())
+        if not is_compared(case.line[:match.start()], case.line[match.end():]) and not span.holds(case.span.start):
+            continue
+        here = [name.lower() for name in links(match[0])]
+        if here == ["github", "event"]:
+            yield case.replace("change to github.event_name", "github.event_name", span)
+        elif here[0] in COMPARED and len(here) == (1 if here[0] == "job" else 2):
+            name = COMPARED[here[0]]
+            yield case.replace(f'compare its "{name}"', f"{match[0]}.{name}", span)
+
+
+def all_results(case: Case) -> Iterable[Repair]:
+    """The results of all needed jobs, for `contains`."""
+    chain, span = whole_chain(case)
+    if [name.lower() for name in chain] == ["needs"] and case.line[:span.start.column].lower().rstrip(" ").endswith("contains("):
+        yield case.replace("take the results of all needed jobs", "needs.*.result", span)
+
+
+def as_json(case: Case) -> Iterable[Repair]:
+    """The value as a text, except in a condition, where a text is always true."""
+    chain, span = whole_chain(case)
+    if is_in_condition(case) and case.code == "X18":
+        return
+    if chain:
+        yield case.replace("convert it to JSON", f"toJSON({case.slice(span)})", span)
+        if span.end.column > span.start.column and "*" in chain:
+            expression = expression_of(case)
+            literal = in_yaml("', '", expression) if expression else "', '"
+            yield case.replace("join its entries", f"join({case.slice(span)}, {literal})", span)
+    elif (expression := expression_of(case)) and expression.text.strip():
+        yield case.replace("convert it to JSON", f" toJSON({expression.text.strip()}) ", expression.span)
+
+
+def fewer_arguments(case: Case) -> Iterable[Repair]:
+    """A call without its last arguments, if the function takes as few."""
+    line, column = case.line, case.span.start.column
+    match = re.match(rf"{NAME}\s*\(", line[column:])
+    if not match:
+        return
+    start = column + match.end()
+    arguments, end = arguments_at(line, start)
+    for kept in range(len(arguments) - 1, -1, -1):
+        span = Span.on_line(case.span.start.line, start, end)
+        yield case.replace(f"delete {', '.join(arguments[kept:])}", ", ".join(arguments[:kept]), span, deletes=True)
+
+
+def _format_call(case: Case) -> tuple[list[str], Span] | None:
+    """The arguments of the call of format around the fault, and their place."""
+    start = case.line.rfind("format(", 0, case.span.end.column)
+    if start < 0:
+        return None
+    begin = start + len("format(")
+    parts, end = arguments_at(case.line, begin)
+    return parts, Span.on_line(case.span.start.line, begin, end)
+
+
+def right_format(case: Case) -> Iterable[Repair]:
+    """As many placeholders as arguments, numbered from 0; braces that aren't placeholders doubled."""
+    call = _format_call(case)
+    if call is None or not call[0]:
+        return
+    (text, *arguments), span = call
+    numbers = {int(number) for number in PLACEHOLDER.findall(text)}
+    quote = TWO_QUOTES if text.startswith(TWO_QUOTES) else "'"
+    unused = [number for number in range(len(arguments)) if number not in numbers]
+    places = "".join(f" {{{number}}}" for number in unused)
+    tries = [("number the placeholders", [_numbered(text, len(arguments)), *arguments]),
+             ("write the braces twice", [re.sub(r"\{(?!\d+\})([^{}]*)\}", r"{{\1}}", text), *arguments]),
+             ("put it into the text", [text.removesuffix(quote) + places + quote, *arguments])]
+    for title, changed in tries:
+        if changed != [text, *arguments]:
+            yield case.replace(title, ", ".join(changed), span)
+            if changed[0] == _numbered(text, len(arguments)):
+                return
+    if unused and unused == list(range(unused[0], len(arguments))):
+        yield case.replace(f"delete {', '.join(arguments[unused[0]:])}", ", ".join([text, *arguments[:unused[0]]]), span, deletes=True)
+
+
+def _numbered(text: str, count: int) -> str:
+    """A text with its placeholders numbered: those without a number one after another, or as many different ones as arguments by their
+    order."""
+    used = sorted({int(number) for number in PLACEHOLDER.findall(text)})
+    if used:
+        order = {number: place for place, number in enumerate(used)}
+        return PLACEHOLDER.sub(lambda match: "{%d}" % order[int(match[1])], text) if len(used) == count else text
+    numbers = itertools.count()
+    return re.sub(r"\{\}|%s", lambda match: "{%d}" % next(numbers), text)
+
+
+REPAIRS: dict[str, tuple[Callable[[Case], Iterable[Repair]], ...]] = {
+    "X11": (fewer_arguments,),
+    "X12": (all_results, as_json),
+    "X14": (without_index,),
+    "X15": (compared_part,),
+    "X16": (right_format,),
+    "X17": (right_format,),
+    "X18": (as_json, compared_part),
+}
