@@ -6,6 +6,7 @@ from typing import Iterator, Union
 import yaml  # type: ignore[import]
 
 from .paths import ACTION_NAMES, is_path, is_workflow
+from .readable import readings
 
 Node = Union[str, list, dict]
 MAX_DEPTH = 64
@@ -20,14 +21,29 @@ def callees(path: str, data: bytes) -> frozenset[str] | None:
     """The paths at which the calls of a file look for actions, or None if the file isn't valid YAML."""
     if b"uses" not in data and b"\\" not in data:
         return frozenset()
-    try:
-        events = yaml.parse(data.decode("utf-8"), Loader=yaml.CSafeLoader)
-        root = _root(event for event in events if isinstance(event, (yaml.NodeEvent, yaml.CollectionEndEvent)))
-    except (yaml.YAMLError, UnicodeDecodeError, NotRead):
+    root = _read(data)
+    if root is None:
         return None
     steps = _steps_of_workflow(root) if is_workflow(path) else _steps_of_action(root)
     uses = {text for step in steps if isinstance(text := _under(step, "uses"), str)}
     return frozenset(file for text in uses for file in _action_files(text))
+
+
+def _read(data: bytes) -> Node | None:
+    """The text, or None if it isn't valid YAML."""
+    try:
+        texts = readings(data.decode("utf-8"))
+    except UnicodeDecodeError:
+        return None
+    for text in texts:
+        try:
+            events = yaml.parse(text, Loader=yaml.CSafeLoader)
+            return _root(event for event in events if isinstance(event, (yaml.NodeEvent, yaml.CollectionEndEvent)))
+        except (yaml.YAMLError, ValueError):
+            pass
+        except NotRead:
+            break
+    return None
 
 
 def _root(events: Iterator[yaml.Event]) -> Node:

@@ -6,7 +6,7 @@ import re
 from .asked import asked
 from .characters import shown
 from .completion import Offer, offers
-from .editor import Editor
+from .editor import AS_IT_IS, Editor
 from .markdown import content
 from .protocol import Capabilities, CompletionItem, CompletionList, Handler, Position, Range, TextDocumentIdentifier
 from .workspace import Workspace
@@ -40,6 +40,8 @@ class Completion:
             "sortText": f"{offer.rank}{number:04}", "textEdit": {"range": where, "newText": offer.text}}
         if offer.documentation:
             item["documentation"] = content(self._editor.documentation_format(), offer.documentation)
+        if "\n" in offer.text and self._editor.takes_indentation():
+            item["insertTextMode"] = AS_IT_IS
         if offer.arguments and self._editor.takes_snippets():
             item["insertTextFormat"] = SNIPPET
             item["textEdit"] = {"range": where, "newText": snippet(offer.text)}

@@ -12,16 +12,23 @@ from .names import names
 from .paths import is_workflow
 from .place import Place, Role, outline_of
 from .project import Project
+from .sections import activity_types, can_stand, github
 from .stricter import takes_access, takes_filter
+from .structure import address_of
 from .syntax import Shape, available, is_condition, key_of, meaning, section_at, shape_at, table, value_words
 from .text import Point, Span, end_of
 from .tree import Node, Path
+from .used import Used, used_in
 
 IDENTIFIER = re.compile(r"[\w-]*")
 REST = re.compile(r"[^#,}\]\n]*")
 PLAIN = re.compile(r"[A-Za-z0-9_./][\w./@-]*")
+# The scalars of a shape that takes a mapping or a list, or one expression in place of it.
+NO_SCALARS = ("NoScalar", "Chunks")
+# GitHub has no such context in an action; the linter accepts it.
+NOT_IN_ACTIONS = ("vars",)
 # What is inserted after a key that must have a value.
-FIRST_VALUES = {("workflow", "on"): "push", ("workflow", "jobs"): "\n  build:\n    runs-on: ubuntu-latest\n    steps:\n      - run: make"}
+FIRST_VALUES = {("workflow", "on"): " push", ("workflow", "jobs"): "\n  build:\n    runs-on: ubuntu-latest\n    steps:\n      - run: make"}
 
 
 @dataclass(frozen=True)
@@ -73,7 +80,7 @@ def offers(project: Project, file: str, point: Point, is_strict: bool = True) ->
     """What is allowed at a point, and the characters that it replaces; `is_strict` is that of the cursor."""
     cursor = cursor_at(project, file, point, is_strict)
     place = cursor.place
-    if point < place.span.start:
+    if point < place.span.start or outline_of(project.text(file)).is_in_comment(point):
         return place.span, []
     expression = None
     if place.role is not Role.KEY:
@@ -89,7 +96,7 @@ def offers(project: Project, file: str, point: Point, is_strict: bool = True) ->
         return place.span, []
     found = [] if place.role is Role.VALUE else list(keys(cursor))
     if place.role is not Role.KEY:
-        known = {offer.label for offer in found}
+        known = {*(offer.label for offer in found), *place.entries}
         found += [offer for offer in values(cursor) if offer.label not in known]
     if is_after_sign(project.lines(file)[point.line], place):
         found = [replace(offer, text=" " + offer.text) for offer in found]
@@ -111,9 +118,14 @@ def names_in_expression(cursor: Cursor, before: Before) -> list[Offer]:
         return []
     scope = Scope(cursor.project, cursor.file, cursor.tree, place.path, cursor.levels)
     quote = "''''" if place.before[:1] == "'" else "''"
+    if before.is_compared:
+        return [Offer(value, "value", value, "value") for value in dict.fromkeys(scope.values(before.chain))]
+    if before.chain == ("secrets",):
+        declared = [_offer_of(one) for one in scope.properties(before.chain)]
+        return declared + _used_secrets(cursor, before.typed, {offer.label.lower() for offer in declared})
     if before.chain:
         return [_offer_of(one) for one in scope.properties(before.chain)]
-    found = [_offer_of(one) for one in scope.contexts()]
+    found = [_offer_of(one) for one in scope.contexts() if not (cursor.is_strict and one.name in NOT_IN_ACTIONS and not is_workflow(cursor.file))]
     for name in scope.functions():
         signature = table()["functions"][name]
         count = sum(1 for word in signature["takes"].split(", ") if word and not word.startswith("optional") and not word.endswith(".."))
@@ -132,31 +144,31 @@ def keys(cursor: Cursor) -> Iterable[Offer]:
     yield from _named_keys(cursor)
     shape = shape_at(cursor.file, place.path, cursor.levels)
     if shape is not None and shape["items"] and not place.in_flow:
-        yield from _first_keys(place, table()["shapes"][shape["items"]])
+        yield from _first_keys(cursor, table()["shapes"][shape["items"]])
     if shape is None or "keys" not in shape:
         return
     section, fields = shape["section"], shape["keys"]
     if section == "event" and cursor.is_strict:
         fields = {key: row for key, row in fields.items() if takes_filter(str(place.path[-1]), key)}
-    barred = {row["clash"] for key, row in fields.items() if key in place.siblings}
     for key, row in fields.items():
-        if key in place.siblings or key in barred or row["clash"] in place.siblings:
+        if key in place.siblings or cursor.is_strict and not can_stand(section, key, place.siblings):
             continue
         is_needed = row["need"] is True or row["need"] is not None and row["need"] not in place.siblings
-        takes = value_words(table()["shapes"].get(row["shape"]))
-        yield Offer(key, "key", _key_text(place, section, key), takes + (", required" if is_needed else ""), meaning(section, key),
-                    0 if is_needed else 1)
+        of_value = table()["shapes"].get(row["shape"])
+        yield Offer(key, "key", _key_text(cursor, section, key, of_value), value_words(of_value) + (", required" if is_needed else ""),
+                    meaning(section, key), 0 if is_needed else 1)
     if shape["others"] == "events":
-        yield from (Offer(event, "event", _key_text(place, section, event), "event", meaning("events", event))
+        yield from (Offer(event, "event", _key_text(cursor, section, event), "event", meaning("events", event))
                     for event in names()["events"] if event not in place.siblings and event not in fields)
 
 
-def _first_keys(place: Place, shape: Shape) -> Iterable[Offer]:
+def _first_keys(cursor: Cursor, shape: Shape) -> Iterable[Offer]:
     """The keys with which an entry of a list begins, each after a dash."""
     section = shape.get("section", "")
     for key, row in (shape["keys"] if section else {}).items():
-        takes = value_words(table()["shapes"].get(row["shape"]))
-        text = "- " + _key_text(place, section, key)
+        of_value = table()["shapes"].get(row["shape"])
+        takes = value_words(of_value)
+        text = "- " + _key_text(cursor, section, key, of_value, len("- "))
         yield Offer(key, "key", text, f"{takes}, begins an entry", meaning(section, key), 1 if row["need"] is None else 0)
 
 
@@ -167,7 +179,7 @@ def _named_keys(cursor: Cursor) -> Iterable[Offer]:
     section = cursor.section(around)
     if key == "permissions" and section in ("workflow", "job"):
         for scope in (one for one in names()["permission scopes"] if one not in place.siblings):
-            text = _key_text(place, key, scope)
+            text = _key_text(cursor, key, scope)
             access = "read" if takes_access(scope, "read") else "write"
             yield Offer(scope, "key", text if place.has_colon else text + access, "scope", meaning("permissions", scope))
     if key in ("with", "secrets") and section in ("step", "job"):
@@ -181,7 +193,7 @@ def _named_keys(cursor: Cursor) -> Iterable[Offer]:
         dash = "" if isinstance(place.path[-1], int) else "- "
         for row in files.matrix_rows(cursor.tree, str(place.path[1])):
             if row not in place.siblings:
-                yield Offer(row, "key", dash + _key_text(place, key, row), "row of the matrix")
+                yield Offer(row, "key", dash + _key_text(cursor, key, row), "row of the matrix")
 
 
 def _declared_key(place: Place, one: files.Declaration) -> Offer:
@@ -193,13 +205,20 @@ def _declared_key(place: Place, one: files.Declaration) -> Offer:
                  escaped_or_none(one.value.text("description")), 0 if one.is_required else 1)
 
 
-def _key_text(place: Place, section: str, key: str) -> str:
+def _key_text(cursor: Cursor, section: str, key: str, shape: Shape | None = None, further: int = 0) -> str:
+    """A key with its colon. A value that can only be a mapping or a list begins on a line of its own, indented from the key, which begins some
+    characters after the cursor's word."""
+    place = cursor.place
     if place.has_colon:
         return key
-    value = FIRST_VALUES.get((section, key), "")
-    if value.startswith("\n") and place.span.start.column:
-        value = ""
-    return f"{key}:{value}" if value.startswith("\n") else f"{key}: {value}"
+    column, first = place.span.start.column, FIRST_VALUES.get((section, key))
+    if first and not column:
+        return f"{key}:{first}"
+    if place.in_flow or shape is None or shape["scalars"] not in NO_SCALARS:
+        return f"{key}: "
+    is_after = is_after_sign(cursor.project.lines(cursor.file)[place.span.start.line], place)
+    indent = " " * (column + further + is_after + len("  "))
+    return f"{key}:\n{indent}" + ("- " if shape["items"] else "")
 
 
 def values(cursor: Cursor) -> list[Offer]:
@@ -213,8 +232,9 @@ def values(cursor: Cursor) -> list[Offer]:
 def _fixed_values(cursor: Cursor, section: str, key: str | None, around: Path) -> list[Offer]:
     """Values from the linter's lists."""
     if key == "types" and section == "event":
-        types = table()["activity types"].get(str(around[-1]), [])
-        return [Offer(name, "value", name, "activity type") for name in types]
+        return [Offer(name, "value", name, "activity type") for name in activity_types(str(around[-1]))]
+    if section == "branding" or around == ("branding",) or cursor.place.path[:1] == ("branding",):
+        return [Offer(name, "value", name, str(key)) for name in github()["branding"].get(key or "", [])]
     permissions = table()["permission values"]
     lists: dict[tuple[str, str | None], tuple[Iterable[str], str, str]] = {
         ("workflow", "on"): (names()["events"], "events", "event"),
@@ -247,6 +267,7 @@ def _names_of_file(cursor: Cursor, section: str, key: str | None) -> list[Offer]
     """Values that name something in the file or in the folder."""
     ways: dict[tuple[str, str | None], Callable[[Cursor], list[Offer]]] = {
         ("job", "needs"): _jobs, ("job", "uses"): _workflows, ("step", "uses"): _actions, ("event", "workflows"): _workflow_names,
+        ("job", "runs-on"): _labels, ("runs on", "labels"): _labels, ("dispatch input", "default"): _choices,
         ("job", "secrets"): lambda _: [Offer("inherit", "value", "inherit", "all secrets of the caller")]}
     return ways[section, key](cursor) if (section, key) in ways else []
 
@@ -261,27 +282,61 @@ def _jobs(cursor: Cursor) -> list[Offer]:
             if name not in barred]
 
 
+def _others(cursor: Cursor, files_of: Iterable[str]) -> list[tuple[str, Used]]:
+    """What other files use and are called."""
+    return list(used_in(cursor.project, [file for file in files_of if file != cursor.file]))
+
+
 def _workflows(cursor: Cursor) -> list[Offer]:
-    """The workflows of the folder that jobs can call."""
-    trees = {file: cursor.project.good_tree(file) for file in cursor.project.paths() if is_workflow(file) and file != cursor.file}
-    return [Offer("./" + file, "file", "./" + file, "workflow", escaped_or_none(tree.text("name") if tree else None))
-            for file, tree in sorted(trees.items()) if files.is_callable(tree)]
+    """The workflows that jobs can call: those of the folder, and others that it calls."""
+    own = [Offer("./" + file, "file", "./" + file, "workflow", escaped_or_none(used.name))
+           for file, used in _others(cursor, filter(is_workflow, cursor.project.paths())) if used.is_callable]
+    return own + _calls(cursor, lambda call: "/.github/workflows/" in call)
 
 
 def _actions(cursor: Cursor) -> list[Offer]:
-    """The actions of the folder."""
+    """The actions of the folder, and others that it calls, with their versions."""
     found = []
-    for file in sorted(set(cursor.project.actions()) - {cursor.file}):
-        tree = cursor.project.good_tree(file)
+    for file, used in _others(cursor, set(cursor.project.actions())):
         path = "./" + file.rpartition("/")[0]
-        found.append(Offer(path, "file", path, "action", escaped_or_none(tree.text("description") if tree else None)))
-    return found
+        found.append(Offer(path, "file", path, "action", escaped_or_none(used.description)))
+    return found + _calls(cursor, lambda call: "/.github/workflows/" not in call)
+
+
+def _calls(cursor: Cursor, is_meant: Callable[[str], bool]) -> list[Offer]:
+    """The calls of other repositories that the folder has."""
+    return _used(cursor, lambda used: [call for call in used.calls if address_of(call) and is_meant(call)], 2)
+
+
+def _labels(cursor: Cursor) -> list[Offer]:
+    """The labels that the folder has besides GitHub's."""
+    known = table()["meanings"]["runners"]
+    return _used(cursor, lambda used: [label for label in used.labels if label not in known], 1)
+
+
+def _used(cursor: Cursor, texts: Callable[[Used], Iterable[str]], rank: int, typed: str | None = None) -> list[Offer]:
+    """Some texts of all files, except the one that is being typed, by default the word at the cursor."""
+    typed = cursor.place.word if typed is None else typed
+    found = {text for file, used in used_in(cursor.project, [*cursor.project.paths()])
+             for text in texts(used) if file != cursor.file or text != typed}
+    return [Offer(text, "value", text, "used in this repository", rank=rank) for text in sorted(found)]
+
+
+def _choices(cursor: Cursor) -> list[Offer]:
+    """The options of the input."""
+    options = cursor.tree.texts(*cursor.place.path[:-1], "options") if cursor.tree else []
+    return [Offer(option, "value", option, "option") for option in dict.fromkeys(options)]
+
+
+def _used_secrets(cursor: Cursor, typed: str, known: set[str]) -> list[Offer]:
+    """The secrets that the folder uses besides those that are declared here."""
+    found = _used(cursor, lambda used: used.secrets, 1, typed)
+    return [replace(one, kind="property") for one in found if one.label.lower() not in known]
 
 
 def _workflow_names(cursor: Cursor) -> list[Offer]:
-    trees = [cursor.project.good_tree(file) for file in cursor.project.paths() if is_workflow(file) and file != cursor.file]
-    named = sorted({tree.text("name") or "" for tree in trees if tree} - {""})
-    return [Offer(name, "value", name, "workflow") for name in named]
+    named = {used.name for _, used in _others(cursor, filter(is_workflow, cursor.project.paths())) if used.name}
+    return [Offer(name, "value", name, "workflow") for name in sorted(named)]
 
 
 def _flags(cursor: Cursor) -> list[Offer]:

@@ -5,6 +5,8 @@ from .characters import terminal_text
 from .protocol import Ask, Capabilities, Diagnostic, Notify, PublishDiagnosticsParams
 
 WARNING = 2
+# InsertTextMode of the protocol: further lines are indented as in the text, and not by the line's indentation besides.
+AS_IT_IS = 1
 WATCHED = ("**/.github/workflows/*.{yml,yaml}", "**/action.{yml,yaml}")
 
 
@@ -36,13 +38,20 @@ class Editor:
         """Whether a completion can contain tab stops."""
         return bool(self._completion_item().get("snippetSupport"))
 
+    def takes_indentation(self) -> bool:
+        """Whether a completion can tell that its lines are indented already."""
+        return AS_IT_IS in ((self._completion_item().get("insertTextModeSupport") or {}).get("valueSet") or [])
+
     def _completion_item(self) -> Capabilities:
         return self._capability("textDocument", "completion").get("completionItem") or {}
 
+    def takes_versions(self) -> bool:
+        """Whether an edit can tell for which versions of the files it is."""
+        return bool(self._capability("workspace", "workspaceEdit").get("documentChanges"))
+
     def makes_files(self) -> bool:
         """Whether an edit can create files."""
-        edit = self._capability("workspace", "workspaceEdit")
-        return bool(edit.get("documentChanges")) and "create" in (edit.get("resourceOperations") or [])
+        return self.takes_versions() and "create" in (self._capability("workspace", "workspaceEdit").get("resourceOperations") or [])
 
     def ask_to_watch(self) -> None:
         """Asks for changes on disk, which come as `workspace/didChangeWatchedFiles`."""

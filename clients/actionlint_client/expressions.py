@@ -6,29 +6,30 @@ from dataclasses import dataclass
 from typing import Iterator, NamedTuple
 
 from . import project as files
+from .chains import ChainReader
+from .names import names as known_names
 from .markdown import Markdown, escaped_or_none
 from .paths import is_workflow
 from .project import Declaration, Project
+from .sections import github
 from .syntax import available, meaning, table
 from .tree import Node, Path
 
 NAME = r"[A-Za-z_][\w-]*"
-CHAIN = re.compile(rf"(?<![\w.'-]){NAME}(?:\s*\.\s*(?:{NAME}|\*)|\[\s*'[^']*'\s*\]|\[[^\]']*\])*")
-LINK = re.compile(rf"({NAME}|\*)|\[\s*'([^']*)'\s*\]|\[[^\]']*\]")
-BEFORE_DOT = re.compile(rf"({CHAIN.pattern})\s*\.\s*({NAME})?$")
-BEFORE_WORD = re.compile(rf"(?<![\w.'-])({NAME})?$")
-# After an operand comes an operator, not another operand.
-AFTER_OPERAND = re.compile(r"[\w')\].*-]\s*$")
-IN_BRACKET = re.compile(rf"({CHAIN.pattern})\[\s*'([^']*)$")
-MAX_LOOKED_AT = 2_000
-STRING = re.compile(r"'(?:[^']|'')*'")
+CHAIN = re.compile(rf"(?<![\w.'-]){NAME}(?:\s*\.\s*(?:{NAME}|\*)|\[\s*'[^']*'\s*\]|\[[^\[\]']*\])*")
+LINK = re.compile(rf"({NAME}|\*)|\[\s*'([^']*)'\s*\]|\[[^\[\]']*\]")
+STRING = re.compile(r"'[^']*(?:''[^']*)*'")
+STRING_OR_END = re.compile(r"'[^']*(?:''[^']*)*'|\}\}")
+# The linter refuses longer ones.
+MAX_EXPRESSION_BYTES = 21_000
 
 
 class Before(NamedTuple):
-    """The chain of names before a cursor, and what is typed after its last dot or bracket."""
+    """The chain of names before a cursor, and what is typed after its last dot or bracket, or in a string that it is compared with."""
 
     chain: tuple[str, ...]
     typed: str
+    is_compared: bool = False
 
 
 class Property(NamedTuple):
@@ -40,36 +41,43 @@ class Property(NamedTuple):
 
 
 def expression_before(text: str, is_condition: bool) -> str | None:
-    """The open expression at the end of a text, up to the end, or None if there is none."""
+    """The open expression at the end of a text, up to the end, or None if there is none or it is too long."""
     start = text.rfind("${{")
-    if start >= 0:
-        expression = text[start + len("${{"):]
-        return None if "}}" in STRING.sub("", expression) else expression
-    return text.lstrip("'\"") if is_condition else None
+    if start < 0 and not is_condition:
+        return None
+    expression = text.lstrip("'\"") if start < 0 else text[start + len("${{"):]
+    if len(expression) > MAX_EXPRESSION_BYTES or start >= 0 and "}}" in STRING.sub("", expression):
+        return None
+    return expression
 
 
 def chain_before(expression: str) -> Before | None:
-    """The chain at the end of an expression, searched for in its last 2,000 characters. None inside a string, and where an operator is
+    """The chain at the end of an expression. None inside a string that is neither an index nor compared, and where an operator is
     expected."""
-    bare = STRING.sub(lambda match: "'" + "_" * (len(match[0]) - 2) + "'", expression)
-    expression = expression[-MAX_LOOKED_AT:]
-    if bare.count("'") % 2:
-        match = IN_BRACKET.search(expression)
-        return Before(links(match[1]), match[2]) if match else None
-    dotted = BEFORE_DOT.search(expression)
-    if dotted:
-        return Before(links(dotted[1]), dotted[2] or "")
-    word = BEFORE_WORD.search(bare[-MAX_LOOKED_AT:])
-    if word is None or AFTER_OPERAND.search(bare[-MAX_LOOKED_AT:][:word.start()]):
-        return None
-    return Before((), word[1] or "")
+    reader = ChainReader(expression)
+    if reader.open_text is not None:
+        before = reader.indexed() or reader.compared()
+        return Before(tuple(link.name for link in before), reader.open_text, reader.indexed() is None) if before else None
+    names = tuple(link.name for link in reader.chain or ())
+    if reader.is_after_dot:
+        return Before(names, "") if names else None
+    if names and reader.ends_in_name:
+        is_first = len(names) == 1
+        return None if is_first and reader.begins_after_operand else Before(names[:-1], names[-1])
+    return None if reader.is_after_operand else Before((), "")
 
 
 def expressions_in(text: str) -> Iterator[tuple[int, str]]:
-    """The expressions in braces of a text, and the offset of each."""
+    """The expressions in braces of a text, and the offset of each. Braces in their strings don't end them."""
     end = 0
-    while (start := text.find("${{", end)) >= 0 and (end := text.find("}}", start)) >= 0:
+    while (start := text.find("${{", end)) >= 0 and (end := _end_of_expression(text, start)) >= 0:
         yield start + len("${{"), text[start + len("${{"):end]
+
+
+def _end_of_expression(text: str, start: int) -> int:
+    """The offset of the closing braces, -1 without any."""
+    found = next((token for token in STRING_OR_END.finditer(text, start) if token[0] == "}}"), None)
+    return found.start() if found else -1
 
 
 def links(chain: str) -> tuple[str, ...]:
@@ -112,6 +120,21 @@ class Scope:
         if fixed is None or len(chain) > 1:
             return []
         return [Property(name, kind, meaning(f"properties of {context}", name)) for name, kind in fixed["properties"].items()]
+
+    def values(self, chain: tuple[str, ...]) -> list[str]:
+        """The texts that the value of a chain can be, as far as they are known."""
+        names = [name.lower() for name in chain]
+        if names == ["github", "event_name"]:
+            return known_names()["events"]
+        if names[:1] == ["inputs"] and len(names) == 2 or names[:3] == ["github", "event", "inputs"] and len(names) == 4:
+            return next((one.value.texts("options") for one in files.declarations(self.file, self.tree, "inputs")
+                         if one.name.lower() == names[-1]), [])
+        if names[:1] == ["matrix"] and len(names) == 2 and self.job:
+            row = next((row for name, row in files.matrix_rows(self.tree, self.job).items() if name.lower() == names[1]), None)
+            return [item.value for item in row.items if item.kind == "scalar" and "${{" not in item.value] if row else []
+        if names[:1] in (["needs"], ["steps"]) and len(names) == 3:
+            names[1] = "*"
+        return github()["values"].get(".".join(names), [])
 
     def _needs(self, names: tuple[str, ...]) -> list[Property]:
         if self.tree is None:

@@ -34,7 +34,6 @@ MODULES = (repairs_yaml, repairs_levels, repairs_keys, repairs_kinds, repairs_ru
 REPAIRS: dict[str, tuple[Callable[[Case], Iterable[Repair]], ...]] = {
     code: tuple(each for module in MODULES for each in module.REPAIRS.get(code, ())) for found in MODULES for code in found.REPAIRS}
 
-
 # How often each file has each message.
 Counted = Counter[Tuple[str, str]]
 

@@ -51,7 +51,15 @@ def likely(wrong: str, known: Iterable[str]) -> list[tuple[str, bool]]:
     """The names that may be meant by a wrong one, and whether it is a slip of that name alone. Then no other is likely."""
     names_ = list(islice(known, MAX_NAMES))
     meant = misspelled(wrong, names_)
-    return [(meant, True)] if meant is not None else [(name, False) for name in near(wrong, names_)]
+    if meant is not None:
+        return [(meant, True)]
+    found = near(wrong, names_) or [name for name in names_ if _begins_with(wrong, name) or _begins_with(name, wrong)]
+    return [(name, False) for name in found]
+
+
+def _begins_with(name: str, words: str) -> bool:
+    """Whether a name has some words before others."""
+    return len(words) > 2 and bool(SEPARATORS.match(name, len(words))) and name.startswith(words)
 
 
 def _bare(name: str) -> str:

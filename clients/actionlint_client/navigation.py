@@ -3,28 +3,35 @@ from __future__ import annotations
 
 from pylsp_jsonrpc.exceptions import JsonRpcException
 
-from .actions import workspace_edit
 from .asked import Asked, asked
 from .characters import shown
+from .editor import Editor
+from .edits import add_edit, workspace_edit
 from .folder import Program
-from .protocol import (Capabilities, DocumentHighlight, Handler, Location, Position, PrepareRenameResult, ReferenceContext,
+from .moving import changed_calls, moved_files
+from .protocol import (Capabilities, DocumentHighlight, FileRename, Handler, Location, Position, PrepareRenameResult, ReferenceContext,
                        TextDocumentIdentifier, WorkspaceEdit)
 from .references import Occurrence, all_of, occurrence_at, occurrences
 from .renaming import Refusal, renamable_at, rename
 from .text import Point, Span
+from .uris import path_of
 from .workspace import Workspace
 
 START = Span.at(Point(0, 0))
 WRITE, READ = 3, 2
 REQUEST_FAILED = -32803
+# The moves that the server wants to know before they are done: those of workflows and actions, and of the folders around them.
+MOVES = {"willRename": {"filters": [
+    {"scheme": "file", "pattern": {"glob": "**/*.{yml,yaml}", "matches": "file"}},
+    {"scheme": "file", "pattern": {"glob": "**", "matches": "folder"}}]}}
 
 
 class Navigation:
     capabilities: Capabilities = {"definitionProvider": True, "referencesProvider": True, "documentHighlightProvider": True,
                     "renameProvider": {"prepareProvider": True}}
 
-    def __init__(self, workspace: Workspace, program: Program):
-        self._workspace, self._program = workspace, program
+    def __init__(self, workspace: Workspace, editor: Editor, program: Program):
+        self._workspace, self._editor, self._program = workspace, editor, program
 
     def handlers(self) -> dict[str, Handler]:
         return {
@@ -33,6 +40,7 @@ class Navigation:
             "textDocument/documentHighlight": self.highlights,
             "textDocument/prepareRename": self.prepare_rename,
             "textDocument/rename": self.rename,
+            "workspace/willRenameFiles": self.will_rename_files,
         }
 
     def _name(self, document: TextDocumentIdentifier, position: Position) -> tuple[Asked | None, Occurrence | None]:
@@ -77,6 +85,19 @@ class Navigation:
         if place is None:
             return None
         try:
-            return workspace_edit(place.repository, rename(self._program, place.project, place.file, place.point, newName))
+            edits = rename(self._program, place.project, place.file, place.point, newName)
         except Refusal as refusal:
             raise JsonRpcException(f"actionlint: {shown(str(refusal))}", REQUEST_FAILED) from refusal
+        return workspace_edit(place.repository, edits, is_versioned=self._editor.takes_versions())
+
+    def will_rename_files(self, files: list[FileRename], **_: object) -> WorkspaceEdit | None:
+        """The calls of what is moved, as they are to be afterwards."""
+        moves = [(old, new) for old, new in ((path_of(file["oldUri"]), path_of(file["newUri"])) for file in files) if old and new]
+        edit: WorkspaceEdit = {}
+        for repository in self._workspace.repositories():
+            moved: dict[str, str] = {}
+            for old, new in moves:
+                moved.update(moved_files(repository.project, repository.root, old, new))
+            edits = changed_calls(repository.project, moved)
+            add_edit(edit, workspace_edit(repository, edits, is_versioned=self._editor.takes_versions()))
+        return edit if any(edit.values()) else None

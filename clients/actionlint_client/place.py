@@ -13,14 +13,17 @@ from .tree import Path
 
 DASH = re.compile(r"-(?= |$)")
 KEY = re.compile(r"""(?:"((?:[^"\\]|\\.)*)" *|'((?:[^']|'')*)' *|([^\s\[\]{},"'|>%@`#&*!-][^#]*?|-[^\s#][^#]*?)):(?=\s|$)""")
+# A quoted scalar, or the start of a comment.
+QUOTED_OR_COMMENT = re.compile(r"""(?:^|(?<=[\s\[{,:]))(?:"(?:[^"\\]|\\.)*"?|'[^']*(?:''[^']*)*'?)|(?:^|(?<=\s))\#""")
 # What can follow a key whose value is in the lines below.
-NO_VALUE = re.compile(r"(?:[&!]\S+\s*)*(?:#.*)?")
+NO_VALUE = re.compile(r"(?:[&!]\S+(?:\s+|$))*(?:#.*)?")
 BLOCK_SCALAR = re.compile(r"(?:[&!]\S+ +)*[|>][-+0-9]*\s*(?:#.*)?$")
 FLOW_TOKEN = re.compile(r"""\s+|\#[^\n]*|"(?:[^"\\]|\\.)*"?|'(?:[^']|'')*'?|[\[\]{},]|:(?=[\s,\[\]{}]|$)"""
                         r"""|(?:[^\s,\[\]{}:"'\#]|:(?=[^\s,\[\]{}]))(?:[^,\[\]{}:\n]|:(?=[^\s,\[\]{}]))*""")
 WORD = re.compile(r"(?:[^\s,\[\]{}'\":]|:(?!\s|$))*")
 COLON = re.compile(r"['\"]? *:(?:\s|$)")
 MAX_FLOW_LINES = 100
+MAX_CHARACTERS_AFTER = 10_000
 # No file that the linter accepts is as deep.
 MAX_DEPTH = 100
 UNKNOWN: tuple[Path, tuple[dict[str, str], ...]] = ("",), ({},)
@@ -35,8 +38,8 @@ class Role(Enum):
 @dataclass(frozen=True)
 class Place:
     """What the cursor is on: a key of the mapping at `path`, or its value. `typed` is the part of it before the cursor, and `before` the
-    value's whole text up to there. `siblings` are the other keys of the mapping with the texts of their values, or the other entries of the
-    list, and `around` has the same for each key of the path. Below a key with a value on its own line nothing can begin: the place is
+    value's whole text up to there. `siblings` are the other keys of the mapping with the texts of their values, and `around` has
+    the same for each key of the path. `entries` are the texts of the other entries of the list that the cursor is in. Below a key with a value on its own line nothing can begin: the place is
     `taken`, though text may continue there."""
 
     path: Path
@@ -50,6 +53,7 @@ class Place:
     has_colon: bool = False
     in_flow: bool = False
     taken: bool = False
+    entries: tuple[str, ...] = ()
 
 
 class Element(NamedTuple):
@@ -91,6 +95,21 @@ class Outline:
             self.lines.append(Line(indent, elements, rest))
             is_block = bool(elements) and BLOCK_SCALAR.match(rest) is not None
             block = (number, elements[-1].column) if is_block else None
+        self._next, self._end = self._links()
+
+    def _links(self) -> tuple[list[int], list[int]]:
+        """For each line the next one with a dash or a key, and the next one of these that doesn't begin further right."""
+        count = len(self.lines)
+        following, ends, latest = [count] * count, [count] * count, count
+        for number in range(count - 1, -1, -1):
+            following[number] = latest
+            elements = self.lines[number].elements
+            if elements:
+                below = latest
+                while below < count and self.lines[below].elements[0].column > elements[0].column:
+                    below = ends[below]
+                ends[number], latest = below, number
+        return following, ends
 
     def place(self, point: Point) -> Place:
         """The place of a point in the text."""
@@ -98,6 +117,13 @@ class Outline:
         if line.owner is not None and (self.texts[point.line].strip() or point.column > self.lines[line.owner].elements[-1].column):
             return self._place_in_block_scalar(line.owner, point)
         return self._place_in_flow(point) or self._place_in_lines(point)
+
+    def is_in_comment(self, point: Point) -> bool:
+        """Whether a point is behind the sign of a comment. Block scalars have none."""
+        if self.lines[point.line].owner is not None:
+            return False
+        signs = (found.start() for found in QUOTED_OR_COMMENT.finditer(self.texts[point.line]) if found[0] == "#")
+        return next(signs, point.column) < point.column
 
     def _place_in_block_scalar(self, owner: int, point: Point) -> Place:
         elements = self.lines[owner].elements
@@ -128,7 +154,8 @@ class Outline:
         span, word, typed = self._word(point, start)
         has_colon = COLON.match(text, span.end.column) is not None
         role = Role.KEY if siblings or has_colon else Role.EITHER
-        return Place(path, role, span, word, typed, text[start:point.column], siblings, around, has_colon)
+        entries = self._entries_beside(point.line, before[-1].column) if before else ()
+        return Place(path, role, span, word, typed, text[start:point.column], siblings, around, has_colon, entries=entries)
 
     def _value(self, point: Point, elements: list[Element]) -> Place:
         """A value after a key on the same line."""
@@ -183,7 +210,8 @@ class Outline:
         has_colon = role is Role.KEY and COLON.match(self.texts[point.line], end) is not None
         siblings = {name: value for name, value in (last.keys or {}).items() if role is Role.KEY and name != word}
         return Place(full, role, Span.on_line(point.line, column, end), word, typed, flow.value_before,
-                     siblings, (*around, *beside)[:len(full)], has_colon, True)
+                     siblings, (*around, *beside)[:len(full)], has_colon, True,
+                     entries=tuple(text for step, text in last.entries.items() if step != last.step))
 
     def _way(self, number: int, elements: list[Element], depth: int = 0) -> tuple[Path, tuple[dict[str, str], ...]]:
         """The path to the last of a line's elements, and what is beside each of its keys. UNKNOWN if there are too many levels."""
@@ -247,12 +275,27 @@ class Outline:
         for above in range(number - 1, -1, -1) if not is_first else ():
             if not self._add_key(above, column, found):
                 break
-        for below in range(number if with_own else number + 1, len(self.lines)):
-            line = self.lines[below]
-            if below > number and line.elements and line.elements[0].column < column:
-                break
-            found.update((element.name, line.rest) for element in line.elements if element.name is not None and element.column == column)
+        if with_own:
+            found.update((element.name, own.rest) for element in own.elements if element.name is not None and element.column == column)
+        below = self._next[number]
+        while below < len(self.lines) and (first := self.lines[below].elements[0]).column >= column:
+            if first.column == column and first.name is not None:
+                found[first.name] = self.lines[below].rest
+            below = self._end[below]
         return found
+
+    def _entries_beside(self, number: int, column: int) -> tuple[str, ...]:
+        """The scalars of the list whose dashes are at a column around a line, without that line's."""
+        found = []
+        below, above = self._next[number], number - 1
+        while below < len(self.lines) and self.lines[below].elements[0].column >= column:
+            found.append(below)
+            below = self._end[below]
+        while above >= 0 and (not self.lines[above].elements or self.lines[above].elements[0].column >= column):
+            found.append(above)
+            above -= 1
+        return tuple(line.rest.split(" #")[0].strip().strip("'\"") for line in map(self.lines.__getitem__, found)
+                     if len(line.elements) == 1 and line.elements[0].name is None and line.elements[0].column == column)
 
     def _add_key(self, number: int, column: int, found: dict[str, str]) -> bool:
         """Whether the mapping may begin further above."""
@@ -265,15 +308,17 @@ class Outline:
 
 @dataclass
 class Frame:
-    """An open sequence with the index of its entry, or an open mapping with its key, and the keys so far with the texts of their values."""
+    """An open sequence with the index of its entry, or an open mapping with its key, and the keys so far with the texts of their values.
+    `entries` are the scalars of a sequence by their indices."""
 
     step: str | int
     keys: dict[str, str] | None
     has_value: bool = False
+    entries: dict[int, str] = field(default_factory=dict)
 
 
 class FlowReader:
-    """Reads a text that begins with a bracket to the end of its last line, and notes what is open at the cursor."""
+    """Reads a text that begins with a bracket, some way past the cursor, and notes what is open there."""
 
     def __init__(self, cursor: int):
         self.cursor = cursor
@@ -291,7 +336,7 @@ class FlowReader:
                     return
                 self._find(text[match.start():self.cursor] if inside else "", match.start())
             self._take(token)
-            if not self._open:
+            if not self._open or self.found and match.start() > self.cursor + MAX_CHARACTERS_AFTER:
                 return
         if self.found is None and 0 < len(self._open) <= MAX_DEPTH:
             self._find("", len(text))
@@ -301,7 +346,7 @@ class FlowReader:
         role = Role.VALUE if frame.keys is None or frame.has_value else Role.KEY
         self.value_before = typed
         # Steps are those at the cursor. Keys after it are still added to the mappings.
-        self.found = ([Frame(open_.step, open_.keys) for open_ in self._open], role, typed[1:] if typed[:1] in ("'", '"') else typed)
+        self.found = ([Frame(open_.step, open_.keys, entries=open_.entries) for open_ in self._open], role, typed[1:] if typed[:1] in ("'", '"') else typed)
 
     def _take(self, token: str) -> None:
         if token in ("[", "{"):
@@ -323,7 +368,9 @@ class FlowReader:
         else:
             self._last = token.strip().strip("'\"")
             frame = self._open[-1]
-            if frame.keys is not None and frame.has_value:
+            if frame.keys is None:
+                frame.entries[int(frame.step)] = self._last
+            elif frame.has_value:
                 frame.keys[str(frame.step)] = self._last
 
 

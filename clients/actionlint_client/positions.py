@@ -4,6 +4,7 @@ from __future__ import annotations
 import re
 from bisect import bisect_left
 from dataclasses import dataclass
+from functools import lru_cache
 
 from .protocol import Position, Range
 from .report import Fault
@@ -61,7 +62,7 @@ class Lines:
         if self._last is None or self._last.index != index:
             data = self._lines[index] if index < len(self._lines) else b""
             text = (data[len(BYTE_ORDER_MARK):] if index == 0 and self._has_mark else data).decode("utf-8", "replace")
-            two_units = [] if text.isascii() else [found.start() for found in TWO_UNITS.finditer(text)]
+            two_units = [] if text.isascii() else _two_units(text)
             self._last = Line(index, text, two_units)
         return self._last
 
@@ -83,11 +84,14 @@ def range_of_span(lines: list[str], span: Span) -> Range:
 
 def _position_of(lines: list[str], point: Point) -> Position:
     line = lines[point.line] if point.line < len(lines) else ""
-    return {"line": point.line, "character": _utf16_length(line[:point.column])}
+    column = min(point.column, len(line))
+    return {"line": point.line, "character": column if line.isascii() else column + bisect_left(_two_units(line), column)}
 
 
-def _utf16_length(text: str) -> int:
-    return len(text) if text.isascii() else len(text.encode("utf-16-le", "surrogatepass")) // 2
+@lru_cache(maxsize=64)
+def _two_units(line: str) -> list[int]:
+    """The characters of a line that take two units. Many places may be on one long line."""
+    return [found.start() for found in TWO_UNITS.finditer(line)]
 
 
 def _word_length(text: str, first: int) -> int:

@@ -52,8 +52,11 @@ def problem_of(fault: Fault, snippet: tuple[bytes, ...] = ()) -> Problem:
 
 
 def level_of(code: str, fault: Fault) -> str:
-    """WARNING for what GitHub only warns of, in each run: a command that still works, or an input that a step's action doesn't have. ERROR
-    for the rest: GitHub refuses the file, or a step or a job fails or goes on without what was meant, and nobody else says so."""
+    """WARNING for what GitHub only warns of, in each run: a command that still works, or an input that a step's action doesn't have; and
+    for an action without `description`, which runs. ERROR for the rest: GitHub refuses the file, or a step or a job fails or goes on
+    without what was meant, and nobody else says so."""
     if code == "G17":
         return WARNING if argument_of(fault.message) in ("set-output", "save-state") else ERROR
+    if (code, argument_of(fault.message)) == ("K2", "description"):
+        return WARNING
     return WARNING if (code, fault.kind) == ("C2", "action") else ERROR

@@ -3,12 +3,14 @@ from __future__ import annotations
 
 import re
 from dataclasses import dataclass
-from typing import Callable, Iterable, NamedTuple
+from typing import Callable, Collection, Iterable, NamedTuple
 
 from .paths import ACTION_NAMES, is_action, is_path, is_workflow
 from .text import LINE_BREAK
 from .tree import Node, Path, read_tree
 
+# Files whose texts and trees are held, besides those that are open.
+MAX_HELD = 64
 OUTPUT_NAME = re.compile(r"""(?:^|[\s"'{(;&|])([A-Za-z_][\w-]*)(?:=|<<)""")
 
 
@@ -36,16 +38,27 @@ class _Known:
     good: Node | None = None
 
 
+NO_FILE = _Known(b"", "", [""], is_read=True)
+
+
 class Project:
-    """`read` returns the current bytes of a file, `paths` the linted workflows and actions, and `actions` all actions."""
+    """`read` returns the current bytes of a file, `paths` the linted workflows and actions, `actions` all actions. `is_open` tells whether a
+    file is open in the editor, and `is_too_large` whether the linter refuses it as too large; such a file has no tree."""
 
     def __init__(self, read: Callable[[str], bytes | None], paths: Callable[[], Iterable[str]],
-                 actions: Callable[[], Iterable[str]] | None = None):
-        self.read, self.paths = read, paths
+                 actions: Callable[[], Iterable[str]] | None = None, is_open: Callable[[str], bool] = lambda _: False,
+                 is_too_large: Callable[[str], bool] = lambda _: False):
+        self.read, self.paths, self.is_too_large, self._is_open = read, paths, is_too_large, is_open
         self.actions = actions or (lambda: (path for path in paths() if is_action(path)))
         # What other modules remember about a file, each by a name of its own.
         self.memory: dict[tuple[str, str], object] = {}
+        # Those used last are at the end.
         self._known: dict[str, _Known] = {}
+
+    def keep(self, files: Collection[str]) -> None:
+        """Forgets all files but these."""
+        self._known = {file: known for file, known in self._known.items() if file in files}
+        self.memory = {key: known for key, known in self.memory.items() if key[1] in files}
 
     def text(self, file: str) -> str:
         """The text with line feeds only and without a byte order mark. Empty if there is no such file."""
@@ -68,7 +81,7 @@ class Project:
     def tree_around(self, file: str, line: int) -> Node | None:
         """The tree of a file. While it isn't valid YAML, that of the file without the line, or else its last valid one."""
         known = self._read(file)
-        if known.tree:
+        if known.tree or known is NO_FILE:
             return known.tree
         lines = [*self.lines(file)]
         if line < len(lines):
@@ -93,14 +106,27 @@ class Project:
         if known is None or known.data is not data and known.data != data:
             text = LINE_BREAK.sub("\n", data.decode("utf-8", "replace").removeprefix("\ufeff"))
             known = self._known[file] = _Known(data, text, good=known.good if known else None)
+            self._let_go()
         return known
+
+    def _let_go(self) -> None:
+        """Forgets the files that were used least lately."""
+        too_many = len(self._known) - MAX_HELD
+        if too_many > 0:
+            for file in [file for file in self._known if not self._is_open(file)][:too_many]:
+                del self._known[file]
 
     def _read(self, file: str) -> _Known:
         """The file with its tree."""
         known = self._look(file)
+        if file in self._known:
+            self._known[file] = self._known.pop(file)
+        if self.is_too_large(file):
+            return NO_FILE
         if not known.is_read:
-            known.tree, known.is_read = read_tree(known.text), True
-            known.good = known.tree or known.good
+            tree = read_tree(known.text)
+            known.good = tree or known.good
+            known.tree, known.is_read = tree, True
         return known
 
 

@@ -129,6 +129,7 @@ class CompletionItem(TypedDict):
     textEdit: TextEdit
     documentation: NotRequired[MarkupContent]
     insertTextFormat: NotRequired[int]
+    insertTextMode: NotRequired[int]
 
 
 class CompletionList(TypedDict):

@@ -5,15 +5,17 @@ import re
 from typing import Iterator, NamedTuple
 
 from . import project as files
-from .expressions import CHAIN, LINK, expressions_in
+from .chains import Link, chains_in
+from .expressions import MAX_EXPRESSION_BYTES, expressions_in
 from .paths import is_workflow
 from .project import Project
 from .syntax import CONDITIONS
 from .text import Places, Point, Span, end_of
 from .tree import Node, Path, walk
 
-# Strings in expressions. Those in square brackets are names.
-TEXT = re.compile(r"(?<!\[)'(?:[^']|'')*'")
+# Two quotes for one in single quotes, and the start of an expression; escapes in double quotes.
+DOUBLED = re.compile(r"''|\$\{\{")
+ESCAPE = re.compile(r"\\.")
 ANCHOR = re.compile(r"[&*]([^\s,\[\]{}]+)")
 PROPERTY = re.compile(r"&\S+\s+|")
 CONDITION_KEYS = {key for keys in CONDITIONS.values() for key in keys}
@@ -38,23 +40,22 @@ class Occurrence(NamedTuple):
 
 
 class _Known(NamedTuple):
-    """The names of a tree, and the calls with the files that they led to."""
+    """The names of a text, and its calls with the files that they led to."""
 
-    tree: Node
+    data: bytes
     calls: dict[tuple[str | None, bool], str | None]
     found: list[Occurrence]
 
 
 def occurrences(project: Project, file: str) -> list[Occurrence]:
     """All places of names in a file, none while it isn't valid YAML."""
-    tree = project.tree(file)
-    if tree is None:
-        return []
+    data = project.read(file) or b""
     known = project.memory.get(("names", file))
-    if not isinstance(known, _Known) or known.tree is not tree or any(project.callee(*call) != callee for call,
-                                                                      callee in known.calls.items()):
-        finder = _Finder(project, file, tree)
-        known = project.memory["names", file] = _Known(tree, finder.calls, list(finder.find()))
+    if not isinstance(known, _Known) or known.data != data or any(project.callee(*call) != callee for call, callee in known.calls.items()):
+        tree = project.tree(file)
+        finder = _Finder(project, file, tree) if tree else None
+        found = list(finder.find()) if finder else []
+        known = project.memory["names", file] = _Known(data, finder.calls if finder else {}, found)
     return known.found
 
 
@@ -71,8 +72,8 @@ def all_of(project: Project, symbol: Symbol) -> list[Occurrence]:
 
 def callers(project: Project, file: str) -> list[str]:
     """The files that call a file."""
-    name = "./" + (file if is_workflow(file) else file.rpartition("/")[0])
-    return [path for path in project.paths() if path != file and name in project.text(path)
+    name = ("./" + (file if is_workflow(file) else file.rpartition("/")[0])).encode("utf-8")
+    return [path for path in project.paths() if path != file and name in (project.read(path) or b"")
             and any(one.symbol == Symbol("file", file, "", "") for one in occurrences(project, path))]
 
 
@@ -85,7 +86,6 @@ class _Finder:
         self._anchors: dict[str, int] = {}
         self._jobs = {name.lower(): name for name in tree.names("jobs")}
         self._steps: dict[str | None, dict[str, Node]] = {}
-        self._secrets = {one.name.lower() for one in files.declarations(file, tree, "secrets")}
 
     def _callee(self, uses: str | None, of_job: bool) -> str | None:
         if (uses, of_job) not in self.calls:
@@ -168,23 +168,22 @@ class _Finder:
             yield from self._of_expressions(value, job, key in CONDITION_KEYS)
 
     def _of_expressions(self, value: Node, job: str | None, is_condition: bool) -> Iterator[Occurrence]:
-        start, end = self._places.offset(value.span.start), self._places.offset(value.span.end)
-        written = self.text[start:end]
+        if "${{" not in value.value and not is_condition:
+            return
+        start, end = self._content(value)
+        written = _without_escapes(self.text[start:end], value.style)
         parts = list(expressions_in(written))
         if not parts and is_condition and "${{" not in written:
-            parts = [(0, written)]
+            first = 1 if value.style in ("'", '"') else 0
+            parts = [(first, written[first:len(written) - first])]
         for at, text in parts:
-            masked = TEXT.sub(lambda match: " " * len(match[0]), text)
-            for chain in CHAIN.finditer(masked):
-                yield from self._of_chain(chain[0], start + at + chain.start(), job)
+            for chain in chains_in(text) if len(text) <= MAX_EXPRESSION_BYTES else ():
+                yield from self._of_chain(chain, start + at, job)
 
-    def _of_chain(self, chain: str, start: int, job: str | None) -> Iterator[Occurrence]:
-        links = [(link[1] or link[2] or "*", link.start(1) if link[1] else link.start(2)) for link in LINK.finditer(chain)]
-        names = [name.lower() for name, _ in links]
-        for number, symbol in self._symbols_of(names, job):
-            if number < len(links):
-                begin = start + links[number][1]
-                yield Occurrence(symbol, self.file, self._places.span(begin, begin + len(links[number][0])), False)
+    def _of_chain(self, chain: list[Link], start: int, job: str | None) -> Iterator[Occurrence]:
+        for number, symbol in self._symbols_of([link.name.lower() for link in chain], job):
+            begin = start + chain[number].start
+            yield Occurrence(symbol, self.file, self._places.span(begin, begin + len(chain[number].name)), False)
 
     def _symbols_of(self, names: list[str], job: str | None) -> Iterator[tuple[int, Symbol]]:
         """The indices of the names of a chain that refer to something, each with its symbol."""
@@ -205,7 +204,7 @@ class _Finder:
             yield 1, Symbol("input", self.file, "", names[1])
         elif names[:3] == ["github", "event", "inputs"] and len(names) > 3 and is_workflow(self.file):
             yield 3, Symbol("input", self.file, "", names[3])
-        elif context == "secrets" and names[1] in self._secrets:
+        elif context == "secrets":
             yield 1, Symbol("secret", self.file, "", names[1])
         elif context == "matrix" and job is not None:
             yield 1, Symbol("row", self.file, scope, names[1])
@@ -222,6 +221,30 @@ class _Finder:
 
     def _inner(self, node: Node) -> Span:
         """The place of a scalar without its anchor and its quotes."""
-        start, end = self._places.offset(node.span.start), self._places.offset(node.span.end)
-        start = end_of(PROPERTY, self.text, start, end) if node.anchor else start
+        start, end = self._content(node)
         return self._places.span(start + 1, end - 1) if node.style in ("'", '"') else self._places.span(start, end)
+
+    def _content(self, node: Node) -> tuple[int, int]:
+        """The offsets of a scalar without its anchor."""
+        start, end = self._places.offset(node.span.start), self._places.offset(node.span.end)
+        begun = PROPERTY.match(self.text, start, end) if node.anchor else None
+        return (begun.end() if begun else start), end
+
+
+def _without_escapes(written: str, style: str) -> str:
+    """A scalar with a space outside of the expression's strings beside each quote that single quotes have doubled, and with spaces in place of
+    the escapes of double quotes, so that all names stay where they are."""
+    if style == '"':
+        return ESCAPE.sub("  ", written)
+    return written[:1] + DOUBLED.sub(_Doubled().spaced, written[1:-1]) + written[-1:] if style == "'" else written
+
+
+class _Doubled:
+    """Whether the last doubled quote of an expression opened a string."""
+
+    def __init__(self) -> None:
+        self.is_open = False
+
+    def spaced(self, found: re.Match[str]) -> str:
+        self.is_open = found[0] == "''" and not self.is_open
+        return str(found[0]) if found[0] != "''" else " '" if self.is_open else "' "

@@ -386,8 +386,11 @@ def one_pair(case: Case) -> Iterable[Repair]:
     in_flow = is_within_flow(case, here.path)
     text = " ".join(here.value.value.split())
     outside = operators(BRACES.sub("x", text))
-    beside = ("&&", "||") if set(outside) <= {"&&", "||"} else (*COMPARISONS, "&&", "||")
-    whole = BRACES.sub(lambda match: grouped(match[1].strip(), beside), text).strip()
+
+    def inner(match: re.Match[str]) -> str:
+        is_operand = re.search(r"(?:[=!<>]=?)\s*$", text[:match.start()]) or re.match(r"\s*(?:[=!]=|[<>])", text[match.end():])
+        return grouped(match[1].strip(), (*COMPARISONS, "&&", "||") if is_operand else ("&&", "||"))
+    whole = BRACES.sub(inner, text).strip()
     if outside:
         # a flag isn't equal to the text `true`
         is_safe = "'true'" not in whole and "'false'" not in whole

@@ -1,8 +1,8 @@
 """Repairs of keys that a section doesn't have, lacks, or has twice."""
 from __future__ import annotations
 
+import itertools
 import re
-from itertools import islice
 from typing import Callable, Iterable
 
 from .names import likely, misspelled
@@ -114,6 +114,26 @@ def moved_below(case: Case, here: Found) -> Iterable[Repair]:
         yield case.of(f'put it below "{target}"', without_entry(case, here.parent, here.key), added)
 
 
+def below_empty(case: Case) -> Iterable[Repair]:
+    """Consecutive keys that the section doesn't have, moved below an empty key before them that can have any."""
+    here = case.key
+    if here is None or here.key is None or here.parent.is_flow:
+        return
+    shape = shape_at(case.file, here.path[:-1], case.levels((*here.path[:-1], "")))
+    known = shape["keys"] if shape and "keys" in shape else {}
+    entries = here.parent.entries
+    number = next(number for number, (key, _) in enumerate(entries) if key is here.key)
+    first = number
+    while first and entries[first - 1][0].value not in known:
+        first -= 1
+    key, value = entries[first - 1] if first else entries[0]
+    below = table()["shapes"].get(known[key.value]["shape"], {}) if key.value in known else {}
+    takes_any = key.value != "jobs" and (below.get("free") or below.get("others") == "unchecked")
+    if first and takes_any and value.kind == "scalar" and not value.value and not value.style:
+        moved = itertools.takewhile(lambda entry: entry[0].value not in known, entries[first:])
+        yield case.of(f'move it below "{key.value}"', *indented(case, moved, "  "))
+
+
 def _as_step(case: Case, here: Found) -> Iterable[Repair]:
     """Consecutive keys of a job without steps that only a step has, as its step."""
     known = table()["shapes"]["Job"]["keys"]
@@ -193,7 +213,7 @@ def _merged(case: Case, here: Found, first: Node) -> Iterable[Repair]:
     assert here.key
     removed = without_entry(case, here.parent, here.key)
     title = f'merge it with the first "{here.key.value}"'
-    if first.alias or second.alias:
+    if first.alias or second.alias or here.path[:-1] == ("jobs",):
         return
     if first.kind == second.kind == "mapping" and first.entries and second.entries:
         is_plain = first.is_flow == second.is_flow or all(_fits_anywhere(value) for _, value in second.entries)
@@ -260,7 +280,7 @@ def _moved_here(case: Case, path: Path, wanted: list[str]) -> Iterable[Repair]:
     """A missing key that stands in another section, which doesn't have it."""
     others = (found for found in case.nodes.keys.values() if found.path[-1] in wanted and found.path[:-1] != path)
     near = (found for found in others if len(found.path) < 3 or found.path[:2] == path[:2])
-    for found in islice(near, MAX_PLACES):
+    for found in itertools.islice(near, MAX_PLACES):
         if found.path[-1] not in case.known_keys(found.path[:-1]):
             yield from (repair for goal, repair in moves(case, found) if goal == path)
 
@@ -329,9 +349,8 @@ def new_step(case: Case) -> Iterable[Repair]:
         return
     keys = [key for key, _ in here.parent.entries]
     number = next(number for number, key in enumerate(keys) if key is here.key)
-    start = number
-    while start > 1 and keys[start - 1].value in STEP_STARTS:
-        start -= 1
+    begun = max((one for one in range(number) if keys[one].value in ("uses", "run", "with")), default=0)
+    start = next((one for one in range(begun + 1, number) if keys[one].value in STEP_STARTS), number)
     first = here.parent.span.start
     dash = case.lines[first.line][:first.column]
     for one in dict.fromkeys([start, number]):
@@ -358,7 +377,7 @@ def excluded_patterns(case: Case) -> Iterable[Repair]:
 
 
 REPAIRS: dict[str, tuple[Callable[[Case], Iterable[Repair]], ...]] = {
-    "K1": (near_key, below_inputs, one_level_deeper, step_of_keys, part_of_value, deleted),
+    "K1": (near_key, below_empty, below_inputs, one_level_deeper, step_of_keys, part_of_value, deleted),
     "K2": (missing_key,),
     "K3": (new_step, another_job, repeated),
     "K6": (new_step, excluded_patterns, deleted),

@@ -9,6 +9,7 @@ from .names import misspelled
 from .paths import is_workflow
 from .repair import Case, Edit, Found, Repair, indented, is_within_flow, quoted, tight
 from .repairs_keys import JOB
+from .repairs_levels import moved
 from .repairs_yaml import DASH_WITHOUT_SPACE
 from .stricter import takes_filter
 from .syntax import table
@@ -157,8 +158,15 @@ def _keys_beside_job(case: Case, here: Found) -> Iterable[Repair]:
 def jobs_below(case: Case) -> Iterable[Repair]:
     """Jobs that are beside an empty `jobs`, moved below it."""
     here = case.key
-    if here and len(here.path) == 1 and here.value.kind == "mapping" and here.value.get("steps"):
-        yield from _indented_jobs(case)
+    if here is None or here.key is None or len(here.path) != 1 or here.value.kind != "mapping":
+        return
+    if not {"steps", "runs-on", "uses"} & set(here.value.names()):
+        return
+    yield from _indented_jobs(case)
+    jobs = case.at("jobs")
+    if jobs and jobs.entries and not jobs.is_flow and not here.value.is_flow and here.value.alias is None:
+        lines = range(here.key.span.start.line, last_line(here.value, case.lines) + 1)
+        yield moved(case, f'move "{here.key.value}" below "jobs"', lines, jobs.entries[0][0].span.start.column)
 
 
 def _indented_keys(case: Case, here: Found) -> Iterable[Repair]:

@@ -75,9 +75,12 @@ def _destination(case: Case, path: Path, column: int) -> str:
 
 
 def moved(case: Case, title: str, lines: Iterable[int], by: int) -> Repair:
-    """Lines with more or fewer spaces before them, except blank ones."""
+    """Lines with more or fewer spaces before them, except blank ones. The first alone if the others fit it then."""
+    first, *others = lines
+    if min((_indent(case.lines[line]) for line in others if case.lines[line].strip()), default=0) == _indent(case.lines[first]) + by + 2:
+        others = []
     edits = [Edit(Span.at(Point(line, 0)), " " * by) if by > 0 else Edit(Span.on_line(line, 0, -by), "")
-             for line in lines if case.lines[line].strip()]
+             for line in (first, *others) if case.lines[line].strip()]
     return case.of(title, *edits)
 
 

@@ -6,8 +6,8 @@ from typing import Callable, Iterable
 
 from . import project as files
 from .expressions import Scope, chain_before
-from .names import likely
-from .operators import parts
+from .names import likely, misspelled
+from .operators import grouped, parts
 from .paths import is_workflow
 from .report import Fault
 from .repair import Case, Edit, Found, Repair, first_entry, levels_of, next_entry, quoted, without_entry, without_key
@@ -88,7 +88,7 @@ def declared_row(case: Case) -> Iterable[Repair]:
     added to the new row's only value."""
     chain, _ = whole_chain(case)
     job = case.at("jobs", case.job) if case.job else None
-    if job is None or len(chain) != 2 or chain[0].lower() != "matrix" or likely(chain[1], _properties_before(case)):
+    if job is None or job.get("matrix") or len(chain) != 2 or chain[0].lower() != "matrix" or likely(chain[1], _properties_before(case)):
         return
     value = "ubuntu-latest" if chain[1] == "os" else ""
     row = f"{chain[1]}: [{value or quoted('')}]"
@@ -174,7 +174,12 @@ def needed_job(case: Case) -> Iterable[Repair]:
         return
     free = [name for name in tree.names("jobs") if name not in files.dependents(tree, job) and name not in files.needed(tree, job)]
     name = next((name for name in free if name.lower() == case.arguments[0].lower()), None)
-    if name:
+    needs = case.at("jobs", job, "needs")
+    wrong = [item for item in (needs.items or [needs]) if item.value not in tree.names("jobs")] if needs else []
+    slip = next((item for item in wrong if name and misspelled(item.value, [name])), None)
+    if name and slip:
+        yield case.replace(f'change "{slip.value}" to "{name}" in "needs"', name, slip.span)
+    elif name:
         yield case.of(f'add "{name}" to "needs"', _need(case, job, name))
     elif not likely(case.arguments[0], files.needed(tree, job)):
         yield from (case.of(f'change to "{one}", and add it to "needs"', Edit(case.span, one), _need(case, job, one))
@@ -358,7 +363,10 @@ def _moved_to_steps(case: Case, chain: tuple[str, ...], span: Span) -> Iterable[
     has no such context stays."""
     job = case.at("jobs", case.job or "")
     value, steps = (job.get("if"), job.get("steps")) if job else (None, None)
-    if not job or value is None or steps is None or any(step.get("if") or step.kind != "mapping" for step in steps.items):
+    if not job or value is None or steps is None or any(step.kind != "mapping" for step in steps.items):
+        return
+    conditions = [condition for step in steps.items if (condition := step.get("if"))]
+    if any(condition.style or "${{" in condition.value or condition.span.start.line != condition.span.end.line for condition in conditions):
         return
     text, whole = value.value.strip().removeprefix("${{").removesuffix("}}").strip(), case.slice(span)
     moved = [part for part in parts(text, "&&") if re.search(rf"\b{re.escape(chain[0])}\b", part)]
@@ -371,7 +379,8 @@ def _moved_to_steps(case: Case, chain: tuple[str, ...], span: Span) -> Iterable[
         new = new.replace(whole, f"env.{name}")
         variable = [next_entry(case, job, "runs-on", f"env: {{{entry}}}" if job.is_flow else f"env:\n  {entry}")]
     kept = Edit(value.span, _as_condition(" && ".join(stays))) if stays else without_key(case, job, "if")
-    edits = [first_entry(case, step, f"if: {_as_condition(new, step.is_flow)}") for step in steps.items]
+    edits = [first_entry(case, step, f"if: {_as_condition(new, step.is_flow)}") for step in steps.items if step.get("if") is None]
+    edits += [Edit(one.span, f"{grouped(new, ('||',))} && {grouped(one.value, ('||',))}") for one in conditions]
     yield case.of("put the condition on the steps" if not stays else f'put "{new}" on the steps', kept, *variable, *edits)
 
 

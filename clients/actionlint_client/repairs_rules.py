@@ -95,8 +95,12 @@ def _listed(case: Case) -> list[str]:
 
 
 def access_to_all(case: Case) -> Iterable[Repair]:
-    """One access level for all scopes, as a text in place of the scopes."""
+    """One access level for all scopes, as a text in place of the scopes; or a scope and its level, with a colon between them."""
     here = case.value
+    scope, _, access = case.arguments[0].partition(" ")
+    if here and scope in names()["permission scopes"] and access and not here.value.style:
+        end = Point(here.value.span.start.line, here.value.span.start.column + len(scope))
+        yield case.replace(f'add a colon after "{scope}"', ":", Span.at(end))
     meant = WORDS_OF_SCALARS.get(case.arguments[0].lower())
     if here and here.path[-1:] == ("permissions",) and here.value.kind == "scalar" and meant:
         yield in_its_quotes(case, meant)

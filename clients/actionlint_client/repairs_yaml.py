@@ -194,6 +194,11 @@ def _open_signs(text: str) -> list[str]:
 
 def spaces_for_tabs(case: Case) -> Iterable[Repair]:
     """Spaces in place of each tab at the start of lines. The text doesn't tell how many columns a tab has."""
+    tabs = [line for line in case.lines if "\t" in line[:len(line) - len(line.lstrip(" \t-"))]]
+    indent = next((len(line) - len(line.lstrip(" ")) for line in reversed(case.lines[:case.span.start.line]) if line.strip()), 0)
+    start = Span.on_line(case.span.start.line, 0, len(case.line) - len(case.line.lstrip(" \t")))
+    for spaces in (indent, indent + 2) if len(tabs) == 1 else ():
+        yield case.replace("replace tabs by spaces", " " * spaces, start)
     for width in (2, 4, 8, 1):
         edits = []
         for number, line in enumerate(case.lines):
@@ -202,10 +207,6 @@ def spaces_for_tabs(case: Case) -> Iterable[Repair]:
                 edits.append(Edit(Span.on_line(number, 0, len(head)), head.replace("\t", " " * width)))
         if edits:
             yield case.of("replace tabs by spaces", *edits)
-    indent = next((len(line) - len(line.lstrip(" ")) for line in reversed(case.lines[:case.span.start.line]) if line.strip()), 0)
-    start = Span.on_line(case.span.start.line, 0, len(case.line) - len(case.line.lstrip(" \t")))
-    for spaces in (indent, indent + 2):
-        yield case.replace("replace tabs by spaces", " " * spaces, start)
 
 
 def script_in_lines(case: Case) -> Iterable[Repair]:
@@ -216,16 +217,23 @@ def script_in_lines(case: Case) -> Iterable[Repair]:
     line = case.outline.lines[number] if number >= 0 else None
     if line is None or not line.elements or line.elements[-1].name != "run" or not line.rest or line.rest[0] in "|>":
         return
-    if case.outline.lines[case.span.start.line].elements:
+    column = line.elements[-1].column
+    if not _is_script(case, case.span.start.line, column):
         return
-    indent = " " * (line.elements[-1].column + 2)
+    indent = " " * (column + 2)
     last = case.span.start.line
-    while last + 1 < len(case.lines) and case.lines[last + 1].strip() and not case.outline.lines[last + 1].elements:
+    while last + 1 < len(case.lines) and case.lines[last + 1].strip() and _is_script(case, last + 1, column):
         last += 1
     texts = [line.rest, *(text.strip() for text in case.lines[number + 1:last + 1])]
     start = Point(number, line.elements[-1].end)
     yield case.replace("write the script as a block", " |" + "".join("\n" + indent + text for text in texts),
                        Span(start, Point(last, len(case.lines[last]))))
+
+
+def _is_script(case: Case, number: int, column: int) -> bool:
+    """Whether a line looks like one of a script whose key begins at a column: it has no key or dash, or is below that key."""
+    line = case.outline.lines[number]
+    return not line.elements or line.indent > column and line.elements[0].name is not None
 
 
 def as_expression(case: Case) -> Iterable[Repair]:
@@ -258,15 +266,17 @@ def script_below(case: Case) -> Iterable[Repair]:
         last += 1
     while last > header and not case.lines[last].strip():
         last -= 1
-    edits = [Edit(Span.at(Point(one, 0)), "  ") for one in range(first, last + 1) if case.lines[one].strip()]
+    lines = [one for one in range(first, last + 1) if case.lines[one].strip()]
+    more = column + 2 - min((case.outline.lines[one].indent for one in lines), default=0)
+    edits = [Edit(Span.at(Point(one, 0)), " " * more) for one in lines if more > 0]
     if edits and last >= number:
         yield case.of(f'indent the script below "{line.elements[-1].name}"', *edits)
 
 
 def _is_text(case: Case, number: int, column: int) -> bool:
-    """Whether a line begins at a column or deeper, and not with a key or a dash there."""
+    """Whether a line has no key or dash, unless it is deeper than a column."""
     line = case.outline.lines[number]
-    return line.indent >= column and not (line.elements and line.elements[0].column == column)
+    return not line.elements or line.indent > column
 
 
 def comment(case: Case) -> Iterable[Repair]:
@@ -335,6 +345,8 @@ def without_character(case: Case) -> Iterable[Repair]:
     end = Point(case.span.start.line, case.span.start.column + 1)
     edit = Edit(Span(case.span.start, end), "")
     sign = case.slice(edit.span)
+    if case.code == "Y13" and sign not in (",", ";", "]", "}", ")", "\u200b", "\ufeff"):
+        return
     title = f'delete the "{sign}"' if sign.isprintable() and sign.strip() else "delete the character"
     yield Repair(title, {case.file: (edit,)}, is_last_resort=True, deletes=True)
 

@@ -9,7 +9,7 @@ from .diagnostics import Diagnostics
 from .earlier import Earlier, is_no_yaml
 from .editor import Editor
 from .faults import NO_FAULTS, FileFaults
-from .folder import Folder, Result
+from .folder import REASONS, TOO_LARGE, Folder, Result
 from .ignoring import Ignored
 from .positions import Lines
 from .project import Project
@@ -20,6 +20,8 @@ from .script_checks import ScriptChecks
 from .uris import uri_of
 
 NOTHING = Result({}, {}, set())
+# The faults Y14, Y15 and X5.
+OF_SIZE = {"nesting is too deep", "too many nodes", "expression is too long"}
 
 
 @dataclass
@@ -89,16 +91,32 @@ class Repository:
     _touched: set[str] = field(default_factory=set)
     _shown: dict[str, tuple[object, ...]] = field(default_factory=dict)
     _told: set[str] = field(default_factory=set)
+    # The faults that were looked at for those of size, and whether there was one.
+    _too_large: dict[str, tuple[FileFaults, bool]] = field(default_factory=dict)
 
     @cached_property
     def project(self) -> Project:
         """The files for features that look up names."""
-        return Project(self.folder.read, self.folder.paths, lambda: actions_below(self.root))
+        return Project(self.folder.read, self.folder.paths, lambda: actions_below(self.root), self.documents.__contains__, self.is_too_large)
+
+    def is_too_large(self, path: str) -> bool:
+        """Whether the linter refuses a file since it is too large or too deep, or has an expression that is too long."""
+        if self.result.refused.get(path) == REASONS[TOO_LARGE]:
+            return True
+        found = self.result.faults.get(path, NO_FAULTS)
+        if path not in self._too_large or self._too_large[path][0] is not found:
+            self._too_large[path] = found, not OF_SIZE.isdisjoint(fault.message for fault in found.faults)
+        return self._too_large[path][1]
 
     def uri(self, path: str) -> str:
         """The URI under which the editor has a file open, or else one of its path."""
         document = self.documents.get(path)
         return next(iter(document.versions)) if document and document.versions else uri_of(self.root, path)
+
+    def version(self, path: str) -> int | None:
+        """The version of an open file under the URI above."""
+        document = self.documents.get(path)
+        return next(iter(document.versions.values()), None) if document else None
 
     def open(self, path: str) -> Document:
         """The open file. `edit` sets its text."""
@@ -132,6 +150,10 @@ class Repository:
         if ignored is not self.ignored:
             paths |= self._shown.keys() | self.result.faults.keys()
             self.ignored = ignored
+        if paths:
+            kept = {*self.folder.paths(), *self.documents}
+            self.project.keep(kept)
+            self._too_large = {path: known for path, known in self._too_large.items() if path in kept}
         for path in sorted(paths):
             self._show(path, editor, diagnostics)
 

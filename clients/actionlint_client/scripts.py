@@ -10,7 +10,8 @@ from typing import Callable, Iterator
 
 from .shells import command_of, default_shell, ends_at_failure, name_of
 from .text import Places
-from .tree import NO_BREAKS, Node, NotYaml, parse_tree
+from .readable import NO_BREAKS
+from .tree import Node, NotYaml, parse_tree
 
 BLANKS = frozenset(" \t\n\r")
 BREAKS = frozenset("\n\r")

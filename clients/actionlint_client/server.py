@@ -2,6 +2,7 @@
 from __future__ import annotations
 
 import argparse
+import gc
 import logging
 import os
 import queue
@@ -22,8 +23,9 @@ from .editor import Editor
 from .folder import Folder, Program
 from .hover import Hover
 from .ignoring import IgnoreFiles
+from .limit import LIMIT, TooSlow
 from .messages import Messages, Wake
-from .navigation import Navigation
+from .navigation import MOVES, Navigation
 from .protocol import (Capabilities, Feature, FileEvent, Handler, InitializeResult, Message, TextDocumentContentChangeEvent,
                        TextDocumentIdentifier, TextDocumentItem, VersionedTextDocumentIdentifier, WorkspaceFolder,
                        WorkspaceFoldersChangeEvent)
@@ -36,6 +38,11 @@ from .workspace import Workspace
 
 FULL_TEXT = 1
 SERVER_NOT_INITIALIZED = -32002
+REQUEST_FAILED = -32803
+# The processor time that a request of a feature can take.
+MAX_SECONDS = 2.0
+# How many new objects, and how many collections of them, there are before older objects are looked at too.
+COLLECTED = (50_000, 20)
 
 
 class Server:
@@ -64,7 +71,7 @@ class Server:
             Completion(self._workspace, self._editor),
             Hover(self._workspace, self._editor, docs),
             CodeActions(self._workspace, diagnostics, self._editor, program),
-            Navigation(self._workspace, program),
+            Navigation(self._workspace, self._editor, program),
             Symbols(self._workspace),
         ]
         self._named: list[bytes] = []
@@ -80,8 +87,9 @@ class Server:
             "workspace/didChangeWatchedFiles": self._take_changed_files,
             "workspace/didChangeWorkspaceFolders": self._take_changed_folders,
         }
+        self._requests: dict[str, Handler] = {}
         for feature in self._features:
-            self._handlers.update(feature.handlers())
+            self._requests.update(feature.handlers())
 
     def run(self) -> int:
         """Serves until the editor says `exit` or its input ends. The status is 0 if it said `shutdown` before, else 1."""
@@ -128,6 +136,8 @@ class Server:
             raise JsonRpcServerError(f"{method} comes before initialize", SERVER_NOT_INITIALIZED)
         if self._is_shut_down or self._is_initialized and method == "initialize":
             raise JsonRpcInvalidRequest(f"{method} comes too late")
+        if method in self._requests:
+            return _limited(partial(self._requests[method], **(parameters or {})))
         if method not in self._handlers:
             raise JsonRpcMethodNotFound.of(method)
         return self._handlers[method](**(parameters or {}))
@@ -142,7 +152,7 @@ class Server:
         self._take_options(initializationOptions)
         told: Capabilities = {
             "textDocumentSync": {"openClose": True, "change": FULL_TEXT, "save": {"includeText": False}},
-            "workspace": {"workspaceFolders": {"supported": True, "changeNotifications": True}},
+            "workspace": {"workspaceFolders": {"supported": True, "changeNotifications": True}, "fileOperations": MOVES},
         }
         for feature in self._features:
             told.update(feature.capabilities)
@@ -191,6 +201,14 @@ def _texts(value: object) -> list[str]:
     return [value] if isinstance(value, str) else [one for one in value if isinstance(one, str)] if isinstance(value, list) else []
 
 
+def _limited(request: Callable[[], object]) -> object:
+    """The answer to a request. Raises JsonRpcException if it takes too long."""
+    try:
+        return LIMIT.call(MAX_SECONDS, request)
+    except TooSlow:
+        raise JsonRpcException("actionlint: not answered, since it takes too long", REQUEST_FAILED) from None
+
+
 def _paths_of(uris: list[str]) -> list[bytes]:
     return [path for path in map(path_of, uris) if path]
 
@@ -221,6 +239,8 @@ def _take_all_descriptors() -> None:
 
 def main(options: argparse.Namespace) -> int:
     _take_all_descriptors()
+    # The tree of a large file has many objects, none of which refers to itself.
+    gc.set_threshold(*COLLECTED)
     try:
         logging.basicConfig(filename=options.log, level=logging.ERROR)
     except OSError as error:

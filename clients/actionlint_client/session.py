@@ -8,6 +8,7 @@ import subprocess
 import time
 from typing import Iterator, NoReturn
 
+from .limit import LIMIT
 from .program import cannot_start
 
 READ_BYTES = 65_536
@@ -40,36 +41,43 @@ class Session:
         self.oneline = oneline
         self._timeout = timeout
         words = program + ["--session"] + (["--oneline"] if oneline else [])
-        try:
-            self._child = subprocess.Popen(words, stdin=subprocess.PIPE, stdout=subprocess.PIPE, cwd="/", bufsize=0,
-                                           start_new_session=True)
-        except OSError as error:
-            raise LinterMissing(cannot_start(program[0], error)) from error
+        with LIMIT.uninterrupted():
+            self._child = _started(words)
         assert self._child.stdin and self._child.stdout
         self._stdin, self._stdout = self._child.stdin, self._child.stdout
         os.set_blocking(self._stdin.fileno(), False)
         self._unread = b""
         self._is_reporting = False
 
+    def __del__(self) -> None:
+        """Stops the linter if nobody has, since what used it was cut short."""
+        if hasattr(self, "_unread"):
+            self.stop()
+
     def put(self, path: str, data: bytes) -> str:
         """The reply: `ok N` or `refused EN`. The path must fit in a command's line."""
-        self._send(b"put %s %d\n" % (path.encode("utf-8"), len(data)), data, b"\n")
-        return self._reply()
+        return self._answer_to(b"put %s %d\n" % (path.encode("utf-8"), len(data)), data, b"\n")
 
     def delete(self, path: str) -> str:
         """The reply: `ok N` or `refused EN`."""
-        self._send(b"delete %s\n" % path.encode("utf-8"))
-        return self._reply()
+        return self._answer_to(b"delete %s\n" % path.encode("utf-8"))
+
+    def _answer_to(self, *parts: bytes) -> str:
+        """The reply to a command. Nothing comes between the two."""
+        with LIMIT.uninterrupted():
+            self._send(*parts)
+            return self._reply()
 
     def report(self, max_bytes: int) -> list[bytes]:
         """The lines of the report before its status."""
         read, size = [], 0
-        for block in self.report_blocks():
-            read.append(block)
-            size += len(block)
-            if size > max_bytes:
-                self.stop()
-                raise ReportTooLong(str(size))
+        with LIMIT.uninterrupted():
+            for block in self.report_blocks():
+                read.append(block)
+                size += len(block)
+                if size > max_bytes:
+                    self.stop()
+                    raise ReportTooLong(str(size))
         return b"".join(read).split(b"\n")[:-1]
 
     def report_blocks(self) -> Iterator[bytes]:
@@ -90,6 +98,10 @@ class Session:
     def stop(self) -> int:
         """Stops the linter and returns its status. The end of its input is enough, except during a report, where it would complain that it
         can't write the rest."""
+        with LIMIT.uninterrupted():
+            return self._stop()
+
+    def _stop(self) -> int:
         if self._child.returncode is not None:
             return self._child.returncode
         if self._is_reporting and self._child.poll() is None:
@@ -136,6 +148,13 @@ class Session:
 
     def _fail(self, why: str, kind: type[LinterEnded] = LinterEnded) -> NoReturn:
         raise kind(f"{why} (status {self.stop()})")
+
+
+def _started(words: list[str]) -> subprocess.Popen[bytes]:
+    try:
+        return subprocess.Popen(words, stdin=subprocess.PIPE, stdout=subprocess.PIPE, cwd="/", bufsize=0, start_new_session=True)
+    except OSError as error:
+        raise LinterMissing(cannot_start(words[0], error)) from error
 
 
 def _ends_report(report: bytes) -> bool:

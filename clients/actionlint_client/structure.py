@@ -1,6 +1,7 @@
 """The structure of a file: its jobs and steps, its links, and the lines that belong together."""
 from __future__ import annotations
 
+import re
 from typing import Iterator, NamedTuple
 from urllib.parse import quote
 
@@ -10,6 +11,11 @@ from .text import Point, Span
 from .tree import Node, last_line, walk
 
 MAX_NAME_CHARACTERS = 80
+# The name of a step that has nothing to be named by.
+UNNAMED = "step"
+# A scalar in double quotes with an escape, or what looks like one.
+ESCAPED = re.compile(rb'(?:^|[:,\[{-])[ \t]*(?:[&!]\S+[ \t]+)?"[^"\\]*\\', re.M)
+BETWEEN_WORDS = re.compile(r"[\s'\"]+")
 
 
 class Part(NamedTuple):
@@ -20,6 +26,22 @@ class Part(NamedTuple):
     span: Span
     naming: Span
     parts: tuple[Part, ...]
+
+
+class Named(NamedTuple):
+    """A part without its place in the file's structure: its name, its kind, the name of what is around it, and the span of its name."""
+
+    name: str
+    kind: str
+    around: str
+    naming: Span
+
+
+class _Known(NamedTuple):
+    """The parts of a text."""
+
+    data: bytes
+    found: tuple[Named, ...]
 
 
 class Link(NamedTuple):
@@ -47,16 +69,46 @@ def part_of(project: Project, file: str) -> Part | None:
     return Part(tree.text("name") or file.rpartition("/")[2], kind, Span(start, end), name.span if name else Span.at(start), parts)
 
 
+def parts_with(project: Project, file: str, query: str, may_read: bool) -> list[Named]:
+    """The parts of a file whose names contain a text in lower case. If the file may not be read, only those that are known already."""
+    data = project.read(file) or b""
+    known = project.memory.get(("parts", file))
+    if not isinstance(known, _Known) or known.data != data:
+        if not may_read or not _may_name(data, file, query):
+            return []
+        known = project.memory["parts", file] = _Known(data, tuple(_named(part_of(project, file), file)))
+    return [part for part in known.found if query in part.name.lower()]
+
+
+def _may_name(data: bytes, file: str, query: str) -> bool:
+    """Whether a part of the file can have a name with a text in lower case. Names are words of the file, which may be on several lines, have
+    quotes twice and escapes."""
+    if query in file.lower() or query in UNNAMED or b"\\" in data and ESCAPED.search(data):
+        return True
+    text = data.decode("utf-8", "replace").lower()
+    return all(word in text for word in BETWEEN_WORDS.split(query))
+
+
+def _named(part: Part | None, around: str) -> Iterator[Named]:
+    """A part and those in it."""
+    if part is not None:
+        yield Named(part.name, part.kind, around, part.naming)
+        for inner in part.parts:
+            yield from _named(inner, part.name)
+
+
 def _job(key: Node, value: Node, lines: list[str]) -> Part:
-    return Part(key.value, "job", Span(key.span.start, _end(value, lines)), key.span, tuple(_steps(value.get("steps"), lines)))
+    """A job. One that is an alias has no parts, since they are elsewhere."""
+    steps = value.get("steps") if value.alias is None else None
+    return Part(key.value, "job", Span(key.span.start, _end(value, lines)), key.span, tuple(_steps(steps, lines)))
 
 
 def _steps(steps: Node | None, lines: list[str]) -> Iterator[Part]:
-    for step in steps.items if steps else ():
+    for step in steps.items if steps and steps.alias is None else ():
         if step.kind != "mapping" or step.alias is not None:
             continue
         naming = next((node for key in ("name", "id", "uses", "run") if (node := step.get(key)) and node.kind == "scalar"), None)
-        name = (naming.value.strip().split("\n")[0] if naming else "")[:MAX_NAME_CHARACTERS] or "step"
+        name = (naming.value.strip().split("\n")[0] if naming else "")[:MAX_NAME_CHARACTERS] or UNNAMED
         yield Part(name, "step", Span(step.span.start, _end(step, lines)), _within(naming or step, step, lines), ())
 
 

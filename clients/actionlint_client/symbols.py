@@ -1,17 +1,20 @@
 """Symbols, links and folds for editors."""
 from __future__ import annotations
 
+import time
+
 from .asked import Asked, asked
 from .characters import shown
 from .protocol import (Capabilities, DocumentLink, DocumentSymbol, FoldingRange, Handler, SymbolInformation,
                        TextDocumentIdentifier)
-from .structure import Part, folds, links, part_of
+from .structure import Part, folds, links, part_of, parts_with
 from .text import Point
 from .workspace import Workspace
 
 # SymbolKind of the protocol.
 KINDS = {"workflow": 2, "action": 2, "job": 5, "step": 6}
 MAX_SYMBOLS = 1_000
+READING_SECONDS = 1.0
 START = Point(0, 0)
 
 
@@ -37,14 +40,16 @@ class Symbols:
         return [_symbol(place, part)] if place and part else []
 
     def of_workspace(self, query: str = "", **_: object) -> list[SymbolInformation]:
-        """The first 1,000 workflows, jobs and steps whose names contain the text, in any case."""
+        """The first 1,000 workflows, jobs and steps whose names contain the text, in any case. After a second no more files are read; those
+        that were are known the next time."""
         found: list[SymbolInformation] = []
+        end = time.thread_time() + READING_SECONDS
         for repository in self._workspace.repositories():
             for path in sorted(repository.folder.paths()):
                 place = Asked(repository, path, START)
-                found += [{"name": shown(part.name), "kind": KINDS[part.kind], "containerName": shown(around),
+                found += [{"name": shown(part.name), "kind": KINDS[part.kind], "containerName": shown(part.around),
                            "location": place.location(part.naming, path)}
-                          for part, around in _all(part_of(place.project, path), path) if query.lower() in part.name.lower()]
+                          for part in parts_with(place.project, path, query.lower(), time.thread_time() < end)]
                 if len(found) >= MAX_SYMBOLS:
                     return found[:MAX_SYMBOLS]
         return found
@@ -63,9 +68,3 @@ def _symbol(place: Asked, part: Part) -> DocumentSymbol:
     return {"name": shown(part.name), "detail": part.kind, "kind": KINDS[part.kind], "range": place.range(part.span),
             "selectionRange": place.range(part.naming), "children": [_symbol(place, inner) for inner in part.parts]}
 
-
-def _all(part: Part | None, around: str) -> list[tuple[Part, str]]:
-    """A part and those in it, each with the name of the one around it."""
-    if part is None:
-        return []
-    return [(part, around), *(found for inner in part.parts for found in _all(inner, part.name))]

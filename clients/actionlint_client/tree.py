@@ -7,12 +7,10 @@ from typing import Any, Iterator, Union
 
 import yaml  # type: ignore[import]
 
+from .readable import readings
 from .text import Point, Span
 
 MAX_DEPTH = 200
-# PyYAML takes these for line breaks; YAML 1.2 and the linter don't.
-NO_BREAKS = str.maketrans("\x85\u2028\u2029", "???")
-
 STARTS = {yaml.MappingStartEvent: "mapping", yaml.SequenceStartEvent: "sequence"}
 ENDS = (yaml.MappingEndEvent, yaml.SequenceEndEvent)
 # The entries and the items of scalars.
@@ -94,10 +92,13 @@ def read_tree(text: str) -> Node | None:
 
 def parse_tree(text: str) -> Node | None:
     """The tree of the first document, or None if the text is empty. Raises `NotYaml`."""
-    try:
-        return _built(yaml.parse(text.translate(NO_BREAKS), Loader=yaml.CSafeLoader))
-    except (yaml.YAMLError, ValueError) as error:
-        raise NotYaml from error
+    why: Exception | None = None
+    for reading in readings(text):
+        try:
+            return _built(yaml.parse(reading, Loader=yaml.CSafeLoader))
+        except (yaml.YAMLError, ValueError) as error:
+            why = error
+    raise NotYaml from why
 
 
 def walk(node: Node, path: Path = ()) -> Iterator[tuple[Path, Node | None, Node]]:

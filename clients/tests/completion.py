@@ -12,13 +12,17 @@ import re
 import sys
 
 from cases import Cases
+from promises import end, start
 from repositories import FILE, WORKFLOWS
 
+from actionlint_client import used
 from actionlint_client.completion import Offer, offers
 from actionlint_client.project import Project
 from actionlint_client.report import Fault, parse_report
+from actionlint_client.sections import can_stand
 from actionlint_client.session import Session
 from actionlint_client.text import Point, Span
+from actionlint_client.used import used_in
 
 CASES = Cases("completion")
 CALLED, ACTION = WORKFLOWS + "called.yml", "greet/action.yml"
@@ -239,6 +243,44 @@ PLACES: dict[str, tuple[str, set[str], set[str]]] = {
     "below an anchor": (JOB + "    steps: &a\n      - &b\n        |", {"run", "name"}, set()),
     "no expressions in uses": (JOB + "    steps:\n      - uses: x@${{ |", set(), {"github"}),
     "keys after a script with a bracket": (JOB + "    steps:\n      - run: |\n          a: [\n        |", {"shell", "env"}, {"run"}),
+    "entries that aren't there yet": ("on: [push, |, issues]\njobs: {}\n", {"pull_request"}, {"push", "issues"}),
+    "entries in lines that aren't there yet": ("on:\n  - push # first\n  - |\n  - 'issues'\njobs: {}\n", {"pull_request"},
+                                               {"push", "issues"}),
+    "activity types that aren't there yet": ("on:\n  issues:\n    types:\n      - opened\n      - cl|\n", {"closed"}, {"opened"}),
+    "labels that aren't there yet": (JOB + "    runs-on: [self-hosted, ubuntu-latest, |]\n", {"windows-latest"}, {"ubuntu-latest"}),
+    "entries of another list": ("on: push\njobs:\n  b:\n    needs: [a]\n  c:\n    needs: [|]\n  a:\n    runs-on: u\n", {"a", "b"}, {"c"}),
+    "keys of a step with a script": (JOB + "    steps:\n      - run: x\n        |", {"shell", "env", "working-directory"},
+                                     {"uses", "with", "run"}),
+    "keys of a step with a call": (JOB + "    steps:\n      - uses: x\n        |", {"with", "env", "if"},
+                                   {"run", "shell", "working-directory"}),
+    "keys of a step with inputs": (JOB + "    steps:\n      - with: {a: b}\n        |", {"uses"}, {"run", "shell"}),
+    "keys of a job with steps": (JOB + "    steps: []\n    |", {"runs-on", "env"}, {"uses", "with", "secrets"}),
+    "keys of a job with secrets": (JOB + "    secrets: inherit\n    |", {"uses", "with"}, {"runs-on", "steps", "env"}),
+    "nothing in a comment": (JOB + "    # |", set(), {"runs-on", "uses"}),
+    "nothing in a comment behind a value": (JOB + "    runs-on: u # |", set(), {"ubuntu-latest"}),
+    "nothing in a comment of a list": ("on:\n  - push\n  - # |\njobs: {}\n", set(), {"issues"}),
+    "nothing in a comment behind quotes": ("on: 'push' # '|\njobs: {}\n", set(), {"issues"}),
+    "no comment in quotes": ("on: ' # |'\njobs: {}\n", {"issues"}, set()),
+    "no comment in a script": (JOB + "    steps:\n      - run: |\n          # ${{ github.r|", {"ref"}, set()),
+    "no comment in a word": (JOB + "    steps:\n      - run: it's#${{ github.r|", {"ref"}, set()),
+    "activity types that the linter doesn't check": ("on:\n  check_run:\n    types: [created, |]\n", {"rerequested", "requested_action"},
+                                                     {"created", "opened"}),
+    "activity types of a merge queue": ("on:\n  merge_group:\n    types: |\n", {"checks_requested"}, set()),
+    "options of an input": ("on:\n  workflow_dispatch:\n    inputs:\n      a:\n        type: choice\n        options: [low, high]\n"
+                            "        default: |\n", {"low", "high"}, set()),
+    "a choice in an expression": ("on:\n  workflow_dispatch:\n    inputs:\n      a: {type: choice, options: [low, high]}\n"
+                                  "jobs:\n  b:\n    if: inputs.a == '|'\n", {"low", "high"}, {"github"}),
+    "results": (JOB + "    if: needs.a.result != 'f|", {"failure", "success", "skipped"}, {"github"}),
+    "no results for what isn't compared": (JOB + "    if: contains(needs.a.result, '|", set(), {"failure"}),
+    "events in an expression": (JOB + "    if: github.event_name == '|' && x", {"push", "pull_request"}, {"github"}),
+    "values of a row": (JOB + "    strategy: {matrix: {os: [a1, b2]}}\n    steps:\n      - if: matrix['os'] == '|'\n", {"a1", "b2"},
+                        {"os"}),
+    "versions that are used": (JOB + "    steps:\n      - uses: actions/checkout@v4\n      - uses: actions/ch|", {"actions/checkout@v4"},
+                               {"actions/ch"}),
+    "labels that are used": ("on: push\njobs:\n  x:\n    runs-on: [big-one]\n    steps: []\n  y:\n    runs-on: |\n",
+                             {"big-one", "ubuntu-latest"}, set()),
+    "secrets that are used": ("on: push\njobs:\n  x:\n    env: {A: '${{ secrets.DEPLOY_KEY }}'}\n    steps:\n      - run: ${{ secrets.|\n",
+                              {"DEPLOY_KEY", "GITHUB_TOKEN"}, set()),
     "nothing in a script": (JOB + "    steps:\n      - run: |\n          na|", set(), {"name", "github"}),
 }
 
@@ -315,6 +357,8 @@ def in_actions(program: str) -> None:
         head + "runs:\n  using: composite\n  |": {"steps"},
         head + "runs:\n  using: composite\n  steps:\n    - run: x\n      |": {"shell", "id"},
         head + "inputs:\n  a:\n    |": {"description", "required", "default"},
+        head + "branding:\n  color: |": {"gray-dark", "blue"},
+        head + "branding:\n  icon: ar|": {"arrow-up-right", "zoom-out"},
         head + "outputs:\n  a:\n    value: ${{ steps.| }}\nruns:\n  using: composite\n  steps:\n    - id: s\n": {"s"},
     }
     for text, wanted in places.items():
@@ -336,6 +380,63 @@ def texts_and_order(program: str) -> None:
     assert cron.text == "'*/15 * * * *'" and cron.documentation
     call = next(offer for offer in offered(JOB + "    if: |") if offer.label == "contains")
     assert call.text == "contains('', '')" and call.detail.endswith("bool")
+
+
+@CASES.case
+def values_on_lines_of_their_own(program: str) -> None:
+    """What can only be a mapping or a list begins on the next line, further to the right, and a list with a dash."""
+    for text, label, inserted in (
+            ("|", "env", "env:\n  "), ("jobs:\n  a:\n    |", "steps", "steps:\n      - "),
+            ("jobs:\n  a:\n    |", "strategy", "strategy:\n      "),
+            (JOB + "    steps:\n      - |", "env", "env:\n          "), (JOB + "    steps:\n      -|", "env", " env:\n          "),
+            (JOB + "    steps:\n      |", "name", "- name: "), (JOB + "    steps:\n      |", "env", "- env:\n          "),
+            (JOB + "    steps: [{|}]\n", "env", "env: "), ("jobs:\n  a:\n    |: x", "steps", "steps"),
+            ("jobs:\n  a:\n    |", "permissions", "permissions: ")):
+        found = {offer.label: offer.text for offer in offered(text)}
+        assert found[label] == inserted, (text, label, found[label])
+
+
+@CASES.case
+def indentation(program: str) -> None:
+    """An editor that would indent further lines itself is told not to."""
+    for takes in (False, True):
+        item = {"insertTextModeSupport": {"valueSet": [1, 2]}} if takes else {}
+        editor = start(program, {}, capabilities={"textDocument": {"completion": {"completionItem": item}}})
+        editor.open(FILE, "on: push\n")
+        found = editor.request("textDocument/completion", {"textDocument": {"uri": editor.uri(FILE)},
+                                                           "position": {"line": 1, "character": 0}})
+        modes = {one["label"]: one.get("insertTextMode") for one in found["result"]["items"]}
+        assert modes["env"] == (1 if takes else None) and modes["name"] is None, modes
+        end(editor)
+
+
+@CASES.case
+def in_a_large_folder(program: str) -> None:
+    """What other files use is read once, and only as long as there is time for it."""
+    texts = {f"{WORKFLOWS}w{number}.yml": f"name: W{number}\non: workflow_call\njobs:\n  a: {{runs-on: l{number}, steps: []}}\n"
+             for number in range(30)}
+    project, read = project_of(texts), []
+    good_tree = project.good_tree
+    project.good_tree = lambda file: (read.append(file), good_tree(file))[1]
+    for _ in range(3):
+        assert dict(used_in(project, list(texts))).keys() == texts.keys()
+    assert sorted(read) == sorted(texts)
+    before, used.READING_SECONDS = used.READING_SECONDS, -1.0
+    try:
+        assert dict(used_in(project, list(texts))).keys() == texts.keys(), "they are known"
+        assert not dict(used_in(project_of(texts), list(texts)))
+    finally:
+        used.READING_SECONDS = before
+
+
+@CASES.case
+def excluded_keys(program: str) -> None:
+    """No key can stand beside one that excludes it, whichever comes first, nor twice; others can."""
+    assert not can_stand("step", "run", {"uses"}) and not can_stand("step", "uses", {"shell"}) and not can_stand("step", "with", {"run"})
+    assert not can_stand("job", "secrets", {"name", "steps"}) and not can_stand("job", "services", {"with"})
+    assert not can_stand("event", "tags", {"tags-ignore"}) and not can_stand("step", "env", {"env"})
+    assert can_stand("step", "env", {"run"}) and can_stand("step", "with", {"uses"}) and can_stand("job", "concurrency", {"uses"})
+    assert can_stand("event", "tags", {"branches-ignore"}) and can_stand("no section", "run", {"uses"})
 
 
 class Linter:

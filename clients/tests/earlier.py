@@ -13,7 +13,7 @@ from repositories import ACTION, CALLED, FILE, FILES
 
 from actionlint_client.earlier import Earlier
 from actionlint_client.faults import FileFaults
-from actionlint_client.problems import ERROR as ERROR_LEVEL, level_of
+from actionlint_client.problems import ERROR as ERROR_LEVEL, WARNING as WARNING_LEVEL, level_of
 from actionlint_client.report import Fault
 
 CASES = Cases("earlier")
@@ -166,6 +166,9 @@ def severities(program: str) -> None:
     assert all(found[undefined(number)] == ERROR for number in range(11)), found
     assert found['input "x" is not defined in "A" [action]'] == WARNING, found
     assert found['input "y" is not defined in "./.github/workflows/b.yml" [workflow-call]'] == ERROR, found
+    levels = {key: level_of("K2", Fault("a/action.yml", 1, 1, f'key "{key}" is missing', "syntax-check", 1))
+              for key in ("description", "runs")}
+    assert levels == {"description": WARNING_LEVEL, "runs": ERROR_LEVEL}, levels
     assert level_of("X13", Fault("a", 1, 1, 'property "set-output" is not defined', "expression", 1)) == ERROR_LEVEL
     end(editor)
 

@@ -142,7 +142,7 @@ def random_slips(program: str) -> None:
             text = chance.choice([text[:at] + chance.choice(TYPED) + text[at:], text[:at] + text[at + chance.randrange(1, 4):]])
         folder = Folder(program, {**texts, file: text})
         faults = folder.faults()
-        for fault, repair in fixes([program], SECONDS, folder.project, faults[:3])[:4]:
+        for fault, repair in fixes([program], SECONDS, folder.project, faults[:3], seconds=SECONDS)[:4]:
             offered += 1
             check_fix(program, folder, faults, fault, repair)
     assert offered > EDITS / 3, offered

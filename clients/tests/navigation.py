@@ -19,7 +19,7 @@ from actionlint_client.completion import offers
 from actionlint_client.explanations import explanation
 from actionlint_client.folder import Program
 from actionlint_client.references import all_of, occurrence_at, occurrences
-from actionlint_client.renaming import Refusal, rename
+from actionlint_client.renaming import rename
 from actionlint_client.repair import replaced
 from actionlint_client.structure import address_of, folds, links, part_of
 from actionlint_client.text import Point
@@ -119,35 +119,6 @@ def names_in_texts(program: str) -> None:
     project = project_of({FILE: text})
     found = occurrence_at(project, FILE, Point(5, 12))
     assert [one.span.start for one in all_of(project, found.symbol)] == [Point(5, 12), Point(7, 43)]
-
-
-@CASES.case
-def a_rename(program: str) -> None:
-    """In a called file it changes the callers; a name that would cause a fault is refused with the text of the fault, and so is anything
-    that isn't a name."""
-    linter, project = Program([program], SECONDS), project_of(FOLDER)
-    edits = rename(linter, project, ACTION, Point(3, 3), "whom")
-    assert set(edits) == {ACTION, FILE}
-    assert "          whom: ${{ github.actor }}" in replaced(FOLDER[FILE], edits[FILE]).split("\n")
-    for file, marked, name, why in (
-            (FILE, "  pl|an:", "test", 'key "test" is repeated'), (FILE, "      - id: li|st", "greet", 'id "greet" is repeated'),
-            (ACTION, "  wh|o:", "loud", "is repeated"), (FILE, "  pl|an:", "a b", "is not a name"), (FILE, "  pl|an:", "1",
-                                                                                                     "is not a name"),
-            (FILE, "name: Bui|ld", "x", "no name here")):
-        try:
-            rename(linter, project, file, point_in(FOLDER[file], marked), name)
-            raise AssertionError(f"{marked} became {name}")
-        except Refusal as refusal:
-            assert why in str(refusal), refusal
-
-
-@CASES.case
-def faults_that_were_there(program: str) -> None:
-    """A fault whose message contains the name doesn't prevent a new one."""
-    text = "on: push\njobs:\n  a:\n    needs: a\n    runs-on: u\n"
-    project = project_of({FILE: text})
-    edits = rename(Program([program], SECONDS), project, FILE, Point(2, 2), "b")
-    assert replaced(text, edits[FILE]) == text.replace(" a\n", " b\n").replace("  a:", "  b:")
 
 
 @CASES.case

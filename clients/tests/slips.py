@@ -20,8 +20,7 @@ from typing import Iterator
 from cases import Cases
 from repositories import CLIENTS
 
-from actionlint_client import fixes as quick_fixes
-from actionlint_client.fixes import Fix
+from actionlint_client.fixes import Fix, fixes
 from actionlint_client.project import Project
 from actionlint_client.repair import replaced
 from actionlint_client.report import Fault, parse_report
@@ -35,8 +34,6 @@ SECONDS = 60.0
 MAX_ROUNDS = 20
 SHORT = {"%steps": "on: [push, pull_request]\njobs:\n  b:\n    runs-on: ubuntu-latest\n    steps:",
          "%jobs": "jobs: {b: {runs-on: ubuntu-latest, steps: [{run: make}]}}"}
-# Each fix is tried; nothing here depends on how long that takes.
-quick_fixes.MAX_SECONDS = SECONDS
 
 
 @dataclass
@@ -114,7 +111,7 @@ class Folder:
             session.stop()
 
     def fixes(self, fault: Fault) -> list[Fix]:
-        return quick_fixes.fixes(self.program, SECONDS, self.project, [fault])
+        return fixes(self.program, SECONDS, self.project, [fault], seconds=SECONDS)
 
     def after(self, fix: Fix) -> dict[str, str]:
         made = {path: replaced(self.texts[path], edits) for path, edits in fix.repair.edits.items()}
@@ -175,7 +172,14 @@ def calls_and_names(program: str) -> None:
         check(program, slip)
 
 
-def every_text(suffix: str = "") -> Iterator[tuple[str, dict[str, str]]]:
+@CASES.case
+def in_a_workflow(program: str) -> None:
+    """Mistakes in a workflow of several jobs."""
+    for slip in read_slips(SLIPS / "workflow.txt"):
+        check(program, slip)
+
+
+def every_text() -> Iterator[tuple[str, dict[str, str]]]:
     """The texts of all slips, and those of the examples of all faults."""
     for path in sorted(SLIPS.glob("*.txt")):
         yield from ((slip.name, slip.texts) for slip in read_slips(path))

@@ -1,0 +1,281 @@
+#!/usr/bin/env python3
+"""The limits of the language server: the processor time of a request, and what it holds of the files of a folder.
+
+    limits.py PROGRAM [NAME...]
+"""
+from __future__ import annotations
+
+import itertools
+import os
+import signal
+import sys
+import tempfile
+import threading
+import time
+from pathlib import Path
+
+from cases import Cases
+from completion import project_of
+from editor import Editor, children
+from promises import end, start
+from repositories import CALLED, CLIENTS, FILE, FILES, RIGHT, UNDEFINED, WORKFLOWS, WRONG, write
+
+from actionlint_client import project as files
+from actionlint_client.diagnostics import Diagnostics
+from actionlint_client.folder import Folder, Program
+from actionlint_client.limit import LIMIT, TimeLimit, TooSlow
+from actionlint_client.project import MAX_HELD, Project
+from actionlint_client.references import callers, occurrences
+from actionlint_client.repository import Repository
+from actionlint_client.session import LinterEnded, Session
+from actionlint_client.structure import parts_with
+
+CASES = Cases("limits")
+TOO_LONG = "actionlint: not answered, since it takes too long"
+# A server with a function that never ends.
+SERVER = """import sys
+sys.path.insert(0, {clients!r})
+from actionlint_client import library
+library.missing()
+from actionlint_client import {module}
+from actionlint_client.options import options
+from actionlint_client.server import main
+
+def endless(*_, **__):
+    while True:
+        try:
+            sum(range(1_000))
+        except Exception:
+            pass
+
+{module}.{function} = endless
+sys.exit(main(options()))
+"""
+
+
+def burn(seconds: float) -> None:
+    """Uses the processor time, and lets no usual exception end that."""
+    until = time.thread_time() + seconds
+    while time.thread_time() < until:
+        try:
+            sum(range(1_000))
+        except Exception:
+            pass
+
+
+def is_cut(limit: TimeLimit, seconds: float, function) -> bool:
+    try:
+        limit.call(seconds, function)
+    except TooSlow:
+        return True
+    return False
+
+
+@CASES.case
+def calls(_: str) -> None:
+    """A call that takes longer ends by an exception, others return what they return or raise what they raise, and nothing comes later."""
+    limit = TimeLimit()
+    assert limit.call(5.0, lambda: "a") == "a"
+    assert is_cut(limit, 0.1, lambda: burn(60))
+    assert signal.getitimer(signal.ITIMER_PROF) == (0.0, 0.0)
+    try:
+        limit.call(5.0, lambda: [][1])
+        raise AssertionError("no error")
+    except IndexError:
+        pass
+    burn(0.5)
+    assert not is_cut(limit, 5.0, lambda: burn(0.1))
+    assert signal.getitimer(signal.ITIMER_PROF) == (0.0, 0.0)
+
+
+@CASES.case
+def a_call_that_goes_on(_: str) -> None:
+    """If the exception is lost, it comes again."""
+    seen = []
+
+    def stubborn() -> None:
+        for _ in range(2):
+            try:
+                burn(60)
+            except TooSlow:
+                seen.append(1)
+        burn(60)
+
+    assert is_cut(TimeLimit(), 0.1, stubborn) and len(seen) == 2
+
+
+@CASES.case
+def what_is_not_interrupted(_: str) -> None:
+    """The exception comes after what must not be interrupted, not in it."""
+    limit, done = TimeLimit(), []
+
+    def careful() -> None:
+        with limit.uninterrupted():
+            with limit.uninterrupted():
+                burn(0.5)
+            burn(0.5)
+            done.append(1)
+        burn(60)
+        done.append(2)
+
+    assert is_cut(limit, 0.1, careful) and done == [1]
+
+
+@CASES.case
+def other_threads(_: str) -> None:
+    """Their time isn't the call's, and they go on."""
+    limit, ended = TimeLimit(), []
+    other = threading.Thread(target=lambda: (burn(1.5), ended.append(1)))
+
+    def waiting() -> str:
+        other.start()
+        other.join()
+        return "a"
+
+    assert limit.call(0.5, waiting) == "a" and ended == [1]
+
+
+@CASES.case
+def sessions(program: str) -> None:
+    """A session with the linter is never cut: each command has its reply, however often the time is over."""
+    session, large = Session([program], True, 20.0), (RIGHT + "#" * 200_000).encode()
+
+    def puts() -> None:
+        for number in itertools.count():
+            session.put(FILE, large)
+            burn(0.001 if number % 10 == 0 else 0)
+
+    try:
+        for number in range(5):
+            assert is_cut(LIMIT, 0.01, puts)
+            assert session.put(FILE, f"{WRONG}#{number}".encode()) == "ok 1"
+            assert [line for line in session.report(1 << 20) if b"reff" in line], number
+    except LinterEnded as error:
+        raise AssertionError("the session was cut") from error
+    session.stop()
+
+
+def endless_server(folder: str, module: str, function: str) -> Path:
+    file = Path(folder) / f"{module}-{function}"
+    file.write_text(SERVER.format(clients=str(CLIENTS), module=module, function=function), encoding="utf-8")
+    return file
+
+
+def asks(editor: Editor, method: str, line: int, character: int, **more) -> dict:
+    return editor.request(method, {"textDocument": {"uri": editor.uri(FILE)}, "position": {"line": line, "character": character}, **more})
+
+
+@CASES.case
+def requests_that_never_end(program: str) -> None:
+    """They are answered with an error, wherever they were; the server goes on, with one linter."""
+    with tempfile.TemporaryDirectory(prefix="actionlint-test-") as folder:
+        for module, function, method, more in (
+                ("hover", "explanation", "textDocument/hover", {}),
+                ("fixes", "parse_report", "textDocument/rename", {"newName": "b"})):
+            editor = start(program, FILES, server=endless_server(folder, module, function))
+            editor.open(FILE, RIGHT)
+            answer = asks(editor, method, 2, 3, **more)
+            assert answer.get("error") == {"code": -32803, "message": TOO_LONG}, (module, answer)
+            assert asks(editor, "textDocument/definition", 2, 3)["result"], module
+            editor.change(FILE, WRONG)
+            editor.settle()
+            assert editor.texts(FILE) == [UNDEFINED], module
+            assert len(children(editor.child.pid)) == 1, module
+            end(editor)
+
+
+def many(count: int) -> dict[str, str]:
+    return {f"{WORKFLOWS}w{number}.yml": f"name: Flow {number}\non: push\njobs:\n  a:\n    runs-on: u\n    steps:\n      - uses: ./a\n"
+            for number in range(count)}
+
+
+@CASES.case
+def symbols_of_a_folder(_: str) -> None:
+    """No file is read that can't have the name, and each other one once; few are held."""
+    texts, read = many(300), []
+    project = project_of(texts)
+    read_tree, files.read_tree = files.read_tree, lambda text: (read.append(text), read_tree(text))[1]
+    try:
+        # 57 of the numbers have a 7, and 11 begin with it.
+        for query, count, reads in (("nowhere", 0, 0), ("flow 7", 11, 57), ("flow 7", 11, 57), ("flow", 300, 300)):
+            found = [part.name for file in texts for part in parts_with(project, file, query, True)]
+            assert len(found) == count and len(read) == reads, (query, len(found), len(read))
+        assert len(project._known) <= MAX_HELD
+        assert not parts_with(project_of(texts), next(iter(texts)), "flow", False)
+    finally:
+        files.read_tree = read_tree
+
+
+@CASES.case
+def names_that_are_written_otherwise(_: str) -> None:
+    """A name is found however it is written: over lines, with quotes that are doubled, with escapes."""
+    for written, query in (("a\n      b c", "a b"), ("'it''s'", "it's"), ('"\\u0041bc"', "abc"), ('"a\\\n        bc"', "abc"), (">-\n    a\n    b", "a b"),
+                           ("ÉCOLE", "école")):
+        text = f"name: {written}\non: push\n"
+        assert [part.name for part in parts_with(project_of({FILE: text}), FILE, query, True)], (written, query)
+    steps = "on: push\njobs:\n  a:\n    runs-on: u\n    steps:\n      - {}\n"
+    assert [part.name for part in parts_with(project_of({FILE: steps}), FILE, "step", True)] == ["step"]
+    assert [part.name for part in parts_with(project_of({FILE: "on: push\n"}), FILE, "a.yml", True)] == ["a.yml"]
+
+
+@CASES.case
+def open_files_are_kept(_: str) -> None:
+    """Others are forgotten first, and then read again."""
+    texts = {**many(MAX_HELD * 2), CALLED: RIGHT, "a/action.yml": "name: a\n"}
+    data = {file: text.encode() for file, text in texts.items()}
+    project = Project(data.get, lambda: list(data), is_open=lambda file: file == CALLED)
+    tree = project.tree(CALLED)
+    assert len(callers(project, "a/action.yml")) == MAX_HELD * 2
+    assert project.tree(CALLED) is tree and len(project._known) <= MAX_HELD + 1
+    data[CALLED] = b"a: ["
+    assert project.tree(CALLED) is None and project.good_tree(CALLED) is tree
+
+
+class Silent:
+    """An editor that ignores everything."""
+
+    def publish(self, *_) -> None:
+        pass
+
+    def say(self, *_) -> None:
+        pass
+
+
+@CASES.case
+def files_that_are_gone(program: str) -> None:
+    """Nothing is remembered of a file that is no longer in the folder."""
+    root = tempfile.mkdtemp(prefix="actionlint-test-")
+    write(root, {FILE: RIGHT, CALLED: WRONG})
+    folder = Folder(os.fsencode(root), Program([program], 20.0), print)
+    repository = Repository(os.fsencode(root), folder, True)
+    repository.refresh(Silent(), Diagnostics(None))
+    for file in (FILE, CALLED):
+        assert occurrences(repository.project, file) and parts_with(repository.project, file, "a", True)
+        assert not repository.is_too_large(file)
+    os.remove(os.path.join(root, CALLED))
+    folder.rescan()
+    repository.refresh(Silent(), Diagnostics(None))
+    assert {file for _, file in repository.project.memory} == set(repository.project._known) == set(repository._too_large) == {FILE}
+    folder.close()
+
+
+@CASES.case
+def files_that_are_too_large(program: str) -> None:
+    """Where the linter refuses a file for its size, only its faults are shown."""
+    head = "on: push\njobs:\n  a:\n    runs-on: u\n    steps:\n      - run: x\n"
+    for what, text in (("too many nodes", head + "x: [" + "a," * 100_000 + "]\n"), ("nesting is too deep", head + "x: " + "[" * 65 + "]" * 65 + "\n"),
+                       ("expression is too long", head + "      - run: ${{ '" + "a" * 21_000 + "' }}\n"), ("", head + "#" * 1_048_576 + "\n")):
+        editor = start(program, {FILE: text, CALLED: RIGHT})
+        editor.open(FILE, text)
+        assert any(what in one for one in editor.texts(FILE)), what
+        for method in ("definition", "documentSymbol", "foldingRange", "completion"):
+            assert not asks(editor, "textDocument/" + method, 2, 2).get("result"), (what, method)
+        assert not any(FILE in one["location"]["uri"] for one in editor.request("workspace/symbol", {"query": "a"})["result"]), what
+        editor.change(FILE, head)
+        for method in ("definition", "documentSymbol", "foldingRange", "completion"):
+            assert asks(editor, "textDocument/" + method, 2, 2).get("result"), (what, method)
+        end(editor)
+
+
+if __name__ == "__main__":
+    sys.exit(CASES.run(sys.argv[1:]))
