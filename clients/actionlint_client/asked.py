@@ -30,7 +30,8 @@ class Asked:
 
 
 def asked(workspace: Workspace, document: TextDocumentIdentifier, position: Position | None = None) -> Asked | None:
-    """The document of a request's parameters, if it is open and not too large for the linter, and the position in it, by default its start."""
+    """The document of a request's parameters, if it is open and not too large for the linter, and the position in it, by default its
+    start."""
     found = workspace.document(document["uri"])
     if found is None or found.repository.is_too_large(found.path):
         return None

@@ -88,7 +88,8 @@ def offers(project: Project, file: str, point: Point, is_strict: bool = True) ->
     if expression is not None:
         before = chain_before(expression)
         line = project.lines(file)[point.line]
-        end = end_of(IDENTIFIER, line, point.column)
+        closing = line.find("'", point.column) if before and before.is_compared else -1
+        end = closing if closing >= 0 else _end_of_name(line, point.column)
         typed = len(before.typed) if before else 0
         span = Span.on_line(point.line, point.column - typed, end)
         return span, names_in_expression(cursor, before) if before else []
@@ -102,8 +103,14 @@ def offers(project: Project, file: str, point: Point, is_strict: bool = True) ->
         found = [replace(offer, text=" " + offer.text) for offer in found]
     if key_of(place.path)[1] == "cron" and place.before[:1] not in ("'", '"'):
         line = project.lines(file)[point.line]
-        return Span(place.span.start, Point(point.line, end_of(REST, line, point.column))), found
+        rest = REST.match(line, point.column)
+        return Span(place.span.start, Point(point.line, rest.end() if rest else point.column)), found
     return place.span, found
+
+
+def _end_of_name(line: str, start: int) -> int:
+    found = IDENTIFIER.match(line, start)
+    return found.end() if found else start
 
 
 def is_after_sign(line: str, place: Place) -> bool:
@@ -125,7 +132,8 @@ def names_in_expression(cursor: Cursor, before: Before) -> list[Offer]:
         return declared + _used_secrets(cursor, before.typed, {offer.label.lower() for offer in declared})
     if before.chain:
         return [_offer_of(one) for one in scope.properties(before.chain)]
-    found = [_offer_of(one) for one in scope.contexts() if not (cursor.is_strict and one.name in NOT_IN_ACTIONS and not is_workflow(cursor.file))]
+    refused = NOT_IN_ACTIONS if cursor.is_strict and not is_workflow(cursor.file) else ()
+    found = [_offer_of(one) for one in scope.contexts() if one.name not in refused]
     for name in scope.functions():
         signature = table()["functions"][name]
         count = sum(1 for word in signature["takes"].split(", ") if word and not word.startswith("optional") and not word.endswith(".."))
@@ -206,8 +214,8 @@ def _declared_key(place: Place, one: files.Declaration) -> Offer:
 
 
 def _key_text(cursor: Cursor, section: str, key: str, shape: Shape | None = None, further: int = 0) -> str:
-    """A key with its colon. A value that can only be a mapping or a list begins on a line of its own, indented from the key, which begins some
-    characters after the cursor's word."""
+    """A key with its colon. A value that can only be a mapping or a list begins on a line of its own, indented from the key, which begins
+    some characters after the cursor's word."""
     place = cursor.place
     if place.has_colon:
         return key

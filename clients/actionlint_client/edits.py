@@ -14,7 +14,8 @@ START = Span.at(Point(0, 0))
 
 def workspace_edit(repository: Repository, edits: Mapping[str, tuple[Edit, ...]], new_files: Mapping[str, str] = {},
                    is_versioned: bool = False) -> WorkspaceEdit:
-    """Edits and new files as a WorkspaceEdit, which with `is_versioned` holds only for the versions of the open files that it was made for."""
+    """Edits and new files as a WorkspaceEdit, which with `is_versioned` holds only for the versions of the open files that it was made
+    for."""
     changes = {path: [text_edit(repository, path, edit) for edit in some] for path, some in edits.items()}
     if not new_files and not is_versioned:
         return {"changes": {repository.uri(path): some for path, some in changes.items()}}

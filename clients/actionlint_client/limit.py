@@ -2,6 +2,7 @@
 from __future__ import annotations
 
 import signal
+import threading
 import time
 from contextlib import contextmanager
 from types import FrameType
@@ -20,8 +21,8 @@ class TooSlow(BaseException):
 
 
 class TimeLimit:
-    """Counts the processor time of the main thread, which alone can be limited, and by one call at a time: signals are handled there, whichever
-    thread used the time."""
+    """Counts the processor time of the main thread, which alone can be limited, and by one call at a time: signals are handled there,
+    whichever thread used the time."""
 
     def __init__(self) -> None:
         self._is_running = False
@@ -39,7 +40,10 @@ class TimeLimit:
 
     @contextmanager
     def uninterrupted(self) -> Iterator[None]:
-        """Within this the exception isn't raised; it is afterwards."""
+        """Within this the exception isn't raised; it is afterwards. Other threads have no limit."""
+        if threading.current_thread() is not threading.main_thread():
+            yield
+            return
         self._shields += 1
         try:
             yield

@@ -14,15 +14,13 @@ PLAIN = re.compile(r"[\w./@-]+")
 
 
 def moved_files(project: Project, root: bytes, old: bytes, new: bytes) -> dict[str, str]:
-    """The linted files that move with a file or a folder, each with its new path. Those that leave the repository are left out."""
+    """The linted files that move with a file or a folder, each with its new path from the root. That of one that leaves it begins with
+    dots."""
     found = {}
     for file in project.paths():
         whole = os.path.join(root, file.encode("utf-8"))
-        if not is_below(whole, old):
-            continue
-        target = os.path.normpath(new + whole[len(old):])
-        if is_below(target, root):
-            found[file] = os.path.relpath(target, root).decode("utf-8", "replace")
+        if is_below(whole, old):
+            found[file] = os.path.relpath(new + whole[len(old):], root).decode("utf-8", "replace")
     return found
 
 

@@ -38,9 +38,9 @@ class Role(Enum):
 @dataclass(frozen=True)
 class Place:
     """What the cursor is on: a key of the mapping at `path`, or its value. `typed` is the part of it before the cursor, and `before` the
-    value's whole text up to there. `siblings` are the other keys of the mapping with the texts of their values, and `around` has
-    the same for each key of the path. `entries` are the texts of the other entries of the list that the cursor is in. Below a key with a value on its own line nothing can begin: the place is
-    `taken`, though text may continue there."""
+    value's whole text up to there. `siblings` are the other keys of the mapping with the texts of their values, and `around` has the same
+    for each key of the path. `entries` are the texts of the other entries of the list that the cursor is in. Below a key with a value on
+    its own line nothing can begin: the place is `taken`, though text may continue there."""
 
     path: Path
     role: Role
@@ -173,7 +173,7 @@ class Outline:
             closing = text.find(text[start - 1], point.column)
             end = closing if closing >= 0 else len(text)
         else:
-            end = end_of(WORD, text, point.column)
+            end = _end_of_word(text, point.column)
         return Span.on_line(point.line, start, end), text[start:end], text[start:point.column]
 
     def _place_in_flow(self, point: Point) -> Place | None:
@@ -205,7 +205,7 @@ class Outline:
         full = (*path, *below) if role is Role.VALUE else (*path, *below[:-1])
         last = frames[-1]
         closing = self.texts[point.line].find(flow.value_before[:1], point.column) if flow.value_before[:1] in ("'", '"') else -1
-        end = closing if closing >= 0 else end_of(WORD, self.texts[point.line], point.column)
+        end = closing if closing >= 0 else _end_of_word(self.texts[point.line], point.column)
         word = self.texts[point.line][column:end]
         has_colon = role is Role.KEY and COLON.match(self.texts[point.line], end) is not None
         siblings = {name: value for name, value in (last.keys or {}).items() if role is Role.KEY and name != word}
@@ -346,7 +346,8 @@ class FlowReader:
         role = Role.VALUE if frame.keys is None or frame.has_value else Role.KEY
         self.value_before = typed
         # Steps are those at the cursor. Keys after it are still added to the mappings.
-        self.found = ([Frame(open_.step, open_.keys, entries=open_.entries) for open_ in self._open], role, typed[1:] if typed[:1] in ("'", '"') else typed)
+        frames = [Frame(open_.step, open_.keys, entries=open_.entries) for open_ in self._open]
+        self.found = frames, role, typed[1:] if typed[:1] in ("'", '"') else typed
 
     def _take(self, token: str) -> None:
         if token in ("[", "{"):
@@ -377,6 +378,11 @@ class FlowReader:
 @lru_cache(maxsize=8)
 def outline_of(text: str) -> Outline:
     return Outline(text.split("\n"))
+
+
+def _end_of_word(text: str, start: int) -> int:
+    found = WORD.match(text, start)
+    return found.end() if found else start
 
 
 def _elements(text: str, indent: int) -> tuple[list[Element], str]:

@@ -42,8 +42,8 @@ NO_FILE = _Known(b"", "", [""], is_read=True)
 
 
 class Project:
-    """`read` returns the current bytes of a file, `paths` the linted workflows and actions, `actions` all actions. `is_open` tells whether a
-    file is open in the editor, and `is_too_large` whether the linter refuses it as too large; such a file has no tree."""
+    """`read` returns the current bytes of a file, `paths` the linted workflows and actions, `actions` all actions. `is_open` tells whether
+    a file is open in the editor, and `is_too_large` whether the linter refuses it as too large; such a file has no tree."""
 
     def __init__(self, read: Callable[[str], bytes | None], paths: Callable[[], Iterable[str]],
                  actions: Callable[[], Iterable[str]] | None = None, is_open: Callable[[str], bool] = lambda _: False,

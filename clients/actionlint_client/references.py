@@ -232,8 +232,8 @@ class _Finder:
 
 
 def _without_escapes(written: str, style: str) -> str:
-    """A scalar with a space outside of the expression's strings beside each quote that single quotes have doubled, and with spaces in place of
-    the escapes of double quotes, so that all names stay where they are."""
+    """A scalar with a space outside of the expression's strings beside each quote that single quotes have doubled, and with spaces in place
+    of the escapes of double quotes, so that all names stay where they are."""
     if style == '"':
         return ESCAPE.sub("  ", written)
     return written[:1] + DOUBLED.sub(_Doubled().spaced, written[1:-1]) + written[-1:] if style == "'" else written

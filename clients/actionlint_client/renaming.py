@@ -49,8 +49,8 @@ def rename(program: Program, project: Project, file: str, point: Point, name: st
 
 
 def _refuse_names(project: Project, symbol: Symbol, name: str) -> None:
-    """Raises `Refusal` if a text is no name, means something else, or is the name of another thing of this kind, whether that is declared or
-    only used."""
+    """Raises `Refusal` if a text is no name, means something else, or is the name of another thing of this kind, whether that is declared
+    or only used."""
     is_anchor = symbol.kind == "anchor"
     if not (ANCHOR_NAME if is_anchor else IDENTIFIER).fullmatch(name):
         raise Refusal(f'"{name}" is not a name: letters, digits, "_" and "-", the first no digit and no "-"')
@@ -78,8 +78,8 @@ def _refuse_faults(program: Program, project: Project, symbol: Symbol, edits: di
     except (LinterEnded, ReportTooLong) as error:
         raise Refusal("the linter can't be asked whether the name makes a fault") from error
     named = re.compile(rf"(?<=[\"./]){re.escape(symbol.name)}(?=[\"./])", re.I)
-    renamed: Counted = before | Counter({(path, named.sub(lambda _: name, message)): count for (path, message), count in before.items()})
-    gained = sorted(after - renamed)
+    renamed = before | Counter({(path, named.sub(lambda _: name, message)): count for (path, message), count in before.items()})
+    gained = sorted(after - Counter(renamed))
     if gained:
         path, message = gained[0]
         raise Refusal(f"{path} would have a fault: {message}")

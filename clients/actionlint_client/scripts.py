@@ -8,9 +8,9 @@ from __future__ import annotations
 from dataclasses import dataclass
 from typing import Callable, Iterator
 
+from .readable import NO_BREAKS
 from .shells import command_of, default_shell, ends_at_failure, name_of
 from .text import Places
-from .readable import NO_BREAKS
 from .tree import Node, NotYaml, parse_tree
 
 BLANKS = frozenset(" \t\n\r")

@@ -42,5 +42,5 @@ def _pairs(section: str) -> list[tuple[str, str]]:
 
 def activity_types(event: str) -> list[str]:
     """The activity types of an event, by the linter's list or else by GitHub's."""
-    found: list[str] = table()["activity types"].get(event) or github()["activity types"].get(event, [])
-    return found
+    found: list[str] = table()["activity types"].get(event) or github()["activity types"].get(event) or []
+    return list(found)

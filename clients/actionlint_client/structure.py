@@ -81,8 +81,8 @@ def parts_with(project: Project, file: str, query: str, may_read: bool) -> list[
 
 
 def _may_name(data: bytes, file: str, query: str) -> bool:
-    """Whether a part of the file can have a name with a text in lower case. Names are words of the file, which may be on several lines, have
-    quotes twice and escapes."""
+    """Whether a part of the file can have a name with a text in lower case. Names are words of the file, which may be on several lines,
+    have quotes twice and escapes."""
     if query in file.lower() or query in UNNAMED or b"\\" in data and ESCAPED.search(data):
         return True
     text = data.decode("utf-8", "replace").lower()

@@ -12,6 +12,7 @@ import re
 import sys
 
 from cases import Cases
+from completion_places import JOB, PLACES
 from promises import end, start
 from repositories import FILE, WORKFLOWS
 
@@ -21,6 +22,7 @@ from actionlint_client.project import Project
 from actionlint_client.report import Fault, parse_report
 from actionlint_client.sections import can_stand
 from actionlint_client.session import Session
+from actionlint_client.syntax import available
 from actionlint_client.text import Point, Span
 from actionlint_client.used import used_in
 
@@ -168,121 +170,6 @@ branding:
 # Faults at the start of a mapping or at a call, about what is still to be written there.
 STILL_LACKING = (" is missing", " is required here")
 TOKEN = re.compile(r"[\w./-]+")
-# Places with what must be offered there, the first offer first, and what must not be.
-JOB = "on: push\njobs:\n  a:\n    runs-on: u\n    steps:\n      - {id: one, run: make}\n      - {id: two, run: make}\n  b:\n    needs: a\n"
-PLACES: dict[str, tuple[str, set[str], set[str]]] = {
-    "keys of a workflow, needed ones first": ("|", {"on", "jobs", "name", "permissions"}, {"runs-on", "steps"}),
-    "those that aren't there yet": ("on: push\n|\njobs: {}\n", {"env", "defaults"}, {"on", "jobs"}),
-    "keys of a job": (JOB + "    |", {"runs-on", "uses", "strategy"}, {"needs", "on", "run"}),
-    "keys beside uses": (JOB + "    uses: ./x\n    |", {"with", "secrets"}, {"runs-on", "steps", "env"}),
-    "keys of a step": (JOB + "    steps:\n      - |", {"run", "uses", "name"}, {"runs-on"}),
-    "keys of a first step without a dash": (JOB + "    steps:\n      |", {"run", "uses", "name"}, {"runs-on"}),
-    "keys of a next step without a dash": (JOB + "    steps:\n      - run: x\n      us|", {"run", "uses"}, {"runs-on"}),
-    "keys of schedules without a dash": ("on:\n  schedule:\n    |\njobs: {}\n", {"cron"}, {"types"}),
-    "keys of a step half typed": (JOB + "    steps:\n      - name: x\n        shel|\n  c:\n    runs-on: u\n", {"shell", "run"}, {"name"}),
-    "keys in brackets": (JOB + "    steps: [{run: x, |}]\n", {"shell", "env"}, {"run", "uses"}),
-    "events": ("on: |\njobs: {}\n", {"push", "pull_request"}, {"main"}),
-    "events in a list": ("on: [push, pu|]\njobs: {}\n", {"pull_request"}, {"jobs"}),
-    "events as keys": ("on:\n  push:\n  |\njobs: {}\n", {"issues", "schedule"}, {"push"}),
-    "filters": ("on:\n  push:\n    branches: x\n    |\njobs: {}\n", {"tags", "paths"}, {"branches", "branches-ignore", "types"}),
-    "filters of another event": ("on:\n  issues:\n    |\njobs: {}\n", {"types"}, {"branches", "paths", "tags", "workflows"}),
-    "filters of runs of workflows": ("on:\n  workflow_run:\n    |\njobs: {}\n", {"types", "workflows", "branches-ignore"},
-                                     {"paths", "tags"}),
-    "activity types": ("on:\n  issues:\n    types: [opened, |]\njobs: {}\n", {"closed", "typed"}, {"submitted"}),
-    "scopes": ("on: push\npermissions:\n  |\njobs: {}\n", {"contents", "id-token"}, {"read"}),
-    "access": ("on: push\npermissions:\n  contents: |\njobs: {}\n", {"read", "write", "none"}, {"read-all"}),
-    "access of a scope that takes less": ("on: push\npermissions: {id-token: |}\njobs: {}\n", {"write", "none"}, {"read"}),
-    "all permissions": ("on: push\npermissions: |\njobs: {}\n", {"read-all"}, {"read"}),
-    "shells": (JOB + "    steps:\n      - run: x\n        shell: |", {"bash", "pwsh"}, {"fish"}),
-    "presets of cron": ("on:\n  schedule:\n    - cron: '|'\njobs: {}\n", {"0 0 * * *"}, set()),
-    "types of inputs of a call": ("on:\n  workflow_call:\n    inputs:\n      a:\n        type: |\njobs: {}\n", {"boolean"}, {"choice"}),
-    "types of inputs by hand": ("on:\n  workflow_dispatch:\n    inputs:\n      a:\n        type: |\njobs: {}\n", {"boolean", "choice"},
-                                set()),
-    "needs": (JOB + "  c:\n    needs: [|]\n", {"a", "b"}, {"c"}),
-    "needs without a cycle": ("on: push\njobs:\n  a:\n    needs: |\n  b:\n    needs: a\n  c: {}\n", {"c"}, {"a", "b"}),
-    "contexts of a step": (JOB + "    steps:\n      - run: ${{ | }}", {"github", "needs", "secrets", "contains", "hashFiles"},
-                           {"always", "jobs"}),
-    "contexts of a job's condition": (JOB + "    if: |", {"github", "needs", "always"}, {"env", "secrets", "steps", "hashFiles"}),
-    "strict properties": (JOB + "    if: github.r|", {"ref", "run_id"}, {"reff"}),
-    "properties in brackets": (JOB + "    if: github['r|", {"ref"}, set()),
-    "jobs that are needed": (JOB + "  c:\n    if: needs.|\n    needs: [b]\n", {"b"}, {"a", "c"}),
-    "their properties": (JOB + "    if: needs.a.|", {"result"}, {"outputs"}),
-    "steps before this one": (JOB + "    runs-on: u\n    steps:\n      - id: x\n        run: y\n      - if: steps.|\n        id: z\n",
-                              {"x"}, {"z", "one"}),
-    "properties of a step": (JOB + "    steps:\n      - id: x\n      - if: steps.x.|\n", {"outcome", "conclusion"}, set()),
-    "outputs of a script": (JOB + "    steps:\n      - id: x\n        run: echo \"n=1\" >> $GITHUB_OUTPUT\n      - if: steps.x.outputs.|\n",
-                            {"n"}, set()),
-    "outputs of an action": (JOB + "    steps:\n      - id: x\n        uses: ./greet\n      - if: steps.x.outputs.|\n", {"text"}, {"who"}),
-    "outputs of a workflow": (JOB + "    uses: ./.github/workflows/called.yml\n  c:\n    needs: b\n    if: needs.b.outputs.|\n", {"done"},
-                              {"name"}),
-    "inputs of an action": (JOB + "    steps:\n      - uses: ./greet\n        with:\n          |", {"who", "loud"}, {"text"}),
-    "inputs that aren't given": (JOB + "    steps:\n      - uses: ./greet\n        with:\n          who: x\n          |", {"loud"},
-                                 {"who"}),
-    "inputs of a workflow": (JOB + "    uses: ./.github/workflows/called.yml\n    with:\n      |", {"name", "fast"}, {"token"}),
-    "secrets of a workflow": (JOB + "    uses: ./.github/workflows/called.yml\n    secrets:\n      |", {"token"}, {"name"}),
-    "all secrets": (JOB + "    uses: ./.github/workflows/called.yml\n    secrets: |", {"inherit"}, set()),
-    "flags of a workflow's inputs": (JOB + "    uses: ./.github/workflows/called.yml\n    with:\n      fast: |", {"true", "false"}, set()),
-    "rows": (JOB + "    strategy: {matrix: {os: [a], node: [1]}}\n    runs-on: ${{ matrix.| }}\n", {"os", "node"}, set()),
-    "actions of the folder": (JOB + "    steps:\n      - uses: |", {"./greet"}, set()),
-    "workflows of the folder": (JOB + "    uses: |", {"./.github/workflows/called.yml"}, {"./.github/workflows/a.yml", "./greet"}),
-    "names of workflows": ("on:\n  workflow_run:\n    workflows: [|]\njobs: {}\n", {"Called"}, set()),
-    "own inputs": ("on:\n  workflow_call:\n    inputs:\n      a: {type: string}\njobs:\n  b:\n    if: inputs.|\n", {"a"}, set()),
-    "variables": ("on: push\nenv: {A: b}\n" + JOB[9:] + "    env: {C: d}\n    steps:\n      - run: ${{ env.| }}\n", {"A", "C"}, set()),
-    "a line before is broken": ("on: push\nenv\njobs:\n  a:\n    runs-on: u\n    |", {"steps"}, {"runs-on"}),
-    "a bracket is open": (JOB + "  c:\n    needs: [|\n    runs-on: u\n", {"a", "b"}, {"c"}),
-    "a list at the column of its key": ("on: push\njobs:\n  a:\n    runs-on: u\n    steps:\n    - run: x\n      |", {"shell"}, {"run"}),
-    "an expression over lines": (JOB + "    steps:\n      - run: |\n          echo ${{\n            github.r|", {"ref"}, set()),
-    "an expression over lines without a header": (JOB + "    if: github.ref == 'x' &&\n      |", {"github", "needs"}, {"name"}),
-    "braces over lines without a header": (JOB + "    name: x ${{ github.ref ==\n      github.r|", {"ref"}, {"name"}),
-    "where an operator is wanted": (JOB + "    if: always() |", set(), {"github", "always"}),
-    "where an operator is wanted over lines": (JOB + "    if: always()\n      |", set(), {"github", "always", "name"}),
-    "after an operator": (JOB + "    if: always() && !|", {"github", "always"}, set()),
-    "an argument": (JOB + "    if: contains(github.ref, |", {"github"}, set()),
-    "below a value": (JOB + "    runs-on: u\n      |", set(), {"group", "name"}),
-    "below an entry in brackets": (JOB + "    steps:\n      - {run: x}\n        |", set(), {"name"}),
-    "below an anchor": (JOB + "    steps: &a\n      - &b\n        |", {"run", "name"}, set()),
-    "no expressions in uses": (JOB + "    steps:\n      - uses: x@${{ |", set(), {"github"}),
-    "keys after a script with a bracket": (JOB + "    steps:\n      - run: |\n          a: [\n        |", {"shell", "env"}, {"run"}),
-    "entries that aren't there yet": ("on: [push, |, issues]\njobs: {}\n", {"pull_request"}, {"push", "issues"}),
-    "entries in lines that aren't there yet": ("on:\n  - push # first\n  - |\n  - 'issues'\njobs: {}\n", {"pull_request"},
-                                               {"push", "issues"}),
-    "activity types that aren't there yet": ("on:\n  issues:\n    types:\n      - opened\n      - cl|\n", {"closed"}, {"opened"}),
-    "labels that aren't there yet": (JOB + "    runs-on: [self-hosted, ubuntu-latest, |]\n", {"windows-latest"}, {"ubuntu-latest"}),
-    "entries of another list": ("on: push\njobs:\n  b:\n    needs: [a]\n  c:\n    needs: [|]\n  a:\n    runs-on: u\n", {"a", "b"}, {"c"}),
-    "keys of a step with a script": (JOB + "    steps:\n      - run: x\n        |", {"shell", "env", "working-directory"},
-                                     {"uses", "with", "run"}),
-    "keys of a step with a call": (JOB + "    steps:\n      - uses: x\n        |", {"with", "env", "if"},
-                                   {"run", "shell", "working-directory"}),
-    "keys of a step with inputs": (JOB + "    steps:\n      - with: {a: b}\n        |", {"uses"}, {"run", "shell"}),
-    "keys of a job with steps": (JOB + "    steps: []\n    |", {"runs-on", "env"}, {"uses", "with", "secrets"}),
-    "keys of a job with secrets": (JOB + "    secrets: inherit\n    |", {"uses", "with"}, {"runs-on", "steps", "env"}),
-    "nothing in a comment": (JOB + "    # |", set(), {"runs-on", "uses"}),
-    "nothing in a comment behind a value": (JOB + "    runs-on: u # |", set(), {"ubuntu-latest"}),
-    "nothing in a comment of a list": ("on:\n  - push\n  - # |\njobs: {}\n", set(), {"issues"}),
-    "nothing in a comment behind quotes": ("on: 'push' # '|\njobs: {}\n", set(), {"issues"}),
-    "no comment in quotes": ("on: ' # |'\njobs: {}\n", {"issues"}, set()),
-    "no comment in a script": (JOB + "    steps:\n      - run: |\n          # ${{ github.r|", {"ref"}, set()),
-    "no comment in a word": (JOB + "    steps:\n      - run: it's#${{ github.r|", {"ref"}, set()),
-    "activity types that the linter doesn't check": ("on:\n  check_run:\n    types: [created, |]\n", {"rerequested", "requested_action"},
-                                                     {"created", "opened"}),
-    "activity types of a merge queue": ("on:\n  merge_group:\n    types: |\n", {"checks_requested"}, set()),
-    "options of an input": ("on:\n  workflow_dispatch:\n    inputs:\n      a:\n        type: choice\n        options: [low, high]\n"
-                            "        default: |\n", {"low", "high"}, set()),
-    "a choice in an expression": ("on:\n  workflow_dispatch:\n    inputs:\n      a: {type: choice, options: [low, high]}\n"
-                                  "jobs:\n  b:\n    if: inputs.a == '|'\n", {"low", "high"}, {"github"}),
-    "results": (JOB + "    if: needs.a.result != 'f|", {"failure", "success", "skipped"}, {"github"}),
-    "no results for what isn't compared": (JOB + "    if: contains(needs.a.result, '|", set(), {"failure"}),
-    "events in an expression": (JOB + "    if: github.event_name == '|' && x", {"push", "pull_request"}, {"github"}),
-    "values of a row": (JOB + "    strategy: {matrix: {os: [a1, b2]}}\n    steps:\n      - if: matrix['os'] == '|'\n", {"a1", "b2"},
-                        {"os"}),
-    "versions that are used": (JOB + "    steps:\n      - uses: actions/checkout@v4\n      - uses: actions/ch|", {"actions/checkout@v4"},
-                               {"actions/ch"}),
-    "labels that are used": ("on: push\njobs:\n  x:\n    runs-on: [big-one]\n    steps: []\n  y:\n    runs-on: |\n",
-                             {"big-one", "ubuntu-latest"}, set()),
-    "secrets that are used": ("on: push\njobs:\n  x:\n    env: {A: '${{ secrets.DEPLOY_KEY }}'}\n    steps:\n      - run: ${{ secrets.|\n",
-                              {"DEPLOY_KEY", "GITHUB_TOKEN"}, set()),
-    "nothing in a script": (JOB + "    steps:\n      - run: |\n          na|", set(), {"name", "github"}),
-}
 
 
 def project_of(texts: dict[str, str]) -> Project:
@@ -365,7 +252,9 @@ def in_actions(program: str) -> None:
         labels = {offer.label for offer in offered(text, "x/action.yml")}
         assert wanted <= labels, (text, labels)
     labels = {offer.label for offer in offered(head + "runs:\n  using: composite\n  steps:\n    - if: |", "x/action.yml")}
-    assert {"github", "always", "hashFiles"} <= labels and not {"secrets", "needs", "jobs"} & labels, labels
+    assert {"github", "always", "hashFiles"} <= labels and not {"secrets", "needs", "jobs", "vars"} & labels, labels
+    contexts, _ = available("x/action.yml", ("runs", "steps", 0, "run"), ({}, {}, {}, {}))
+    assert "vars" in contexts and not {"secrets", "needs", "jobs"} & set(contexts), "what the linter accepts"
 
 
 @CASES.case
@@ -376,6 +265,8 @@ def texts_and_order(program: str) -> None:
     assert found["permissions"].documentation and found["name"].text == "name: "
     who = next(offer for offer in offered(JOB + "    steps:\n      - uses: ./greet\n        with:\n          |") if offer.label == "who")
     assert who.documentation == "Whom to greet." and "required" in who.detail and who.text == "who: "
+    texts = {offer.label: offer.text for offer in offered(JOB + "    uses: ./.github/workflows/called.yml\n    with:\n      |")}
+    assert texts == {"name": "name: ", "fast": "fast: true"}, texts
     (cron, *_) = [offer for offer in offered("on:\n  schedule:\n    - cron: |") if offer.label == "*/15 * * * *"]
     assert cron.text == "'*/15 * * * *'" and cron.documentation
     call = next(offer for offer in offered(JOB + "    if: |") if offer.label == "contains")

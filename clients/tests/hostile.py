@@ -1,6 +1,6 @@
 #!/usr/bin/env python3
-"""No text keeps the language server from answering: each request that it announces is sent at places in hostile texts. What is limited is the
-server's processor time.
+"""No text keeps the language server from answering: each request that it announces is sent at places in hostile texts. What is limited is
+the server's processor time.
 
     hostile.py PROGRAM [NAME...]
 """
@@ -16,12 +16,13 @@ from promises import end, start
 from repositories import ACTION, FILE, WORKFLOWS
 
 CASES = Cases("hostile")
-SHORT_BYTES = 200_000
+SHORT_BYTES = 100_000
 # The server ends a request after two seconds. Short texts take far less.
 REQUEST_SECONDS, SHORT_REQUEST_SECONDS = 10.0, 2.0
 TOO_SLOW = -32803
 PLAIN = WORKFLOWS + "plain.yml"
-PLAIN_TEXT = "on: push\njobs:\n  one:\n    runs-on: u\n    steps: [{run: make}]\n  two:\n    needs: one\n    runs-on: u\n    steps: [{run: make}]\n"
+JOB = "    runs-on: u\n    steps: [{run: make}]\n"
+PLAIN_TEXT = f"on: push\njobs:\n  one:\n{JOB}  two:\n    needs: one\n{JOB}"
 HEAD = "on: push\njobs:\n  a:\n    runs-on: u\n    steps:\n"
 STEP = HEAD + "      - run: "
 
@@ -58,8 +59,9 @@ def aliases_in_jobs(count: int) -> str:
 
 
 def needs_of_each_other(count: int) -> str:
-    jobs = "".join(f"  j{number}: {{needs: [{', '.join(f'j{other}' for other in range(number))}], runs-on: u}}\n" for number in range(count))
-    return "on: push\njobs:\n" + jobs
+    names = [f"j{number}" for number in range(count)]
+    return "on: push\njobs:\n" + "".join(f"  {name}: {{needs: [{', '.join(names[:number])}], runs-on: u}}\n"
+                                         for number, name in enumerate(names))
 
 
 # Each is built when it is its turn.
@@ -115,7 +117,8 @@ TEXTS: dict[str, Callable[[], Hostile]] = {
     "tabs": lambda: at(HEAD + "\t\t\n" * 20_000 + "      - run: x\n" + "\t" * 50_000 + "x\n", "run", "\t"),
     "tabs on empty lines": lambda: at("on: push\n" + " \t" * 50_000 + "\n" + "jobs: {}\n", "jobs"),
     "zeros": lambda: at("on: push\0\njobs:\0\n" + "\0" * 10_000, "jobs", "\0"),
-    "halves of surrogate pairs": lambda: at(STEP + "\ud800 ${{ github.\udc00 }}\n" + "      - \ud800: \udfff\n" * 1_000, "github.", "\ud800"),
+    "halves of surrogate pairs": lambda: at(STEP + "\ud800 ${{ github.\udc00 }}\n" + "      - \ud800: \udfff\n" * 1_000,
+                                            "github.", "\ud800"),
     "carriage returns": lambda: at(HEAD.replace("\n", "\r") + "      - run: ${{ github.ref }}\r" * 5_000, "github."),
     "other line breaks": lambda: at(HEAD + "      - run: a\u2028b\u2029c\x85d\x0b\x0c\n" * 5_000, "\u2028", "run"),
     "dots in names of anchors": lambda: at(HEAD + "      - &a.b.c {run: x}\n      - *a.b.c\n" * 3_000, "*a.b"),
@@ -123,7 +126,8 @@ TEXTS: dict[str, Callable[[], Hostile]] = {
     "marks that change the direction": lambda: at(STEP + "\u202e\u2066" * 50_000 + "\n", "\u2066"),
     "documents": lambda: at("on: push\n" + "---\n" * 50_000 + "jobs:\n", "jobs"),
     "directives": lambda: at("%YAML 1.2\n" * 20_000 + "---\non: push\n", "push"),
-    "inputs of an action": lambda: at("name: a\ndescription: b\ninputs:\n" + "".join(f"  i{number}: {{default: a}}\n" for number in range(8_000))
+    "inputs of an action": lambda: at("name: a\ndescription: b\ninputs:\n"
+                                      + "".join(f"  i{number}: {{default: a}}\n" for number in range(8_000))
                                       + "runs:\n  using: composite\n  steps:\n    - run: ${{ inputs. }}\n      shell: bash\n",
                                       "inputs.", "i777", file=ACTION),
     "steps of an action": lambda: at("name: a\nruns:\n  using: composite\n  steps:\n" + "    - {id: a, run: x}\n" * 8_000, "id", "using",

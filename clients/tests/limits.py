@@ -32,8 +32,9 @@ from actionlint_client.structure import parts_with
 
 CASES = Cases("limits")
 TOO_LONG = "actionlint: not answered, since it takes too long"
-# A server with a function that never ends.
+# A server with a function that doesn't end for a long time.
 SERVER = """import sys
+import time
 sys.path.insert(0, {clients!r})
 from actionlint_client import library
 library.missing()
@@ -42,7 +43,8 @@ from actionlint_client.options import options
 from actionlint_client.server import main
 
 def endless(*_, **__):
-    while True:
+    end = time.thread_time() + 6
+    while time.thread_time() < end:
         try:
             sum(range(1_000))
         except Exception:
@@ -76,7 +78,7 @@ def calls(_: str) -> None:
     """A call that takes longer ends by an exception, others return what they return or raise what they raise, and nothing comes later."""
     limit = TimeLimit()
     assert limit.call(5.0, lambda: "a") == "a"
-    assert is_cut(limit, 0.1, lambda: burn(60))
+    assert is_cut(limit, 0.1, lambda: burn(3))
     assert signal.getitimer(signal.ITIMER_PROF) == (0.0, 0.0)
     try:
         limit.call(5.0, lambda: [][1])
@@ -96,10 +98,10 @@ def a_call_that_goes_on(_: str) -> None:
     def stubborn() -> None:
         for _ in range(2):
             try:
-                burn(60)
+                burn(3)
             except TooSlow:
                 seen.append(1)
-        burn(60)
+        burn(3)
 
     assert is_cut(TimeLimit(), 0.1, stubborn) and len(seen) == 2
 
@@ -115,7 +117,7 @@ def what_is_not_interrupted(_: str) -> None:
                 burn(0.5)
             burn(0.5)
             done.append(1)
-        burn(60)
+        burn(3)
         done.append(2)
 
     assert is_cut(limit, 0.1, careful) and done == [1]
@@ -127,12 +129,11 @@ def other_threads(_: str) -> None:
     limit, ended = TimeLimit(), []
     other = threading.Thread(target=lambda: (burn(1.5), ended.append(1)))
 
-    def waiting() -> str:
+    def waiting() -> None:
         other.start()
         other.join()
-        return "a"
 
-    assert limit.call(0.5, waiting) == "a" and ended == [1]
+    assert not is_cut(limit, 0.5, waiting) and ended == [1]
 
 
 @CASES.case
@@ -209,8 +210,8 @@ def symbols_of_a_folder(_: str) -> None:
 @CASES.case
 def names_that_are_written_otherwise(_: str) -> None:
     """A name is found however it is written: over lines, with quotes that are doubled, with escapes."""
-    for written, query in (("a\n      b c", "a b"), ("'it''s'", "it's"), ('"\\u0041bc"', "abc"), ('"a\\\n        bc"', "abc"), (">-\n    a\n    b", "a b"),
-                           ("ÉCOLE", "école")):
+    for written, query in (("a\n      b c", "a b"), ("'it''s'", "it's"), ('"\\u0041bc"', "abc"), ('"a\\\n        bc"', "abc"),
+                           (">-\n    a\n    b", "a b"), ("ÉCOLE", "école")):
         text = f"name: {written}\non: push\n"
         assert [part.name for part in parts_with(project_of({FILE: text}), FILE, query, True)], (written, query)
     steps = "on: push\njobs:\n  a:\n    runs-on: u\n    steps:\n      - {}\n"
@@ -263,8 +264,10 @@ def files_that_are_gone(program: str) -> None:
 def files_that_are_too_large(program: str) -> None:
     """Where the linter refuses a file for its size, only its faults are shown."""
     head = "on: push\njobs:\n  a:\n    runs-on: u\n    steps:\n      - run: x\n"
-    for what, text in (("too many nodes", head + "x: [" + "a," * 100_000 + "]\n"), ("nesting is too deep", head + "x: " + "[" * 65 + "]" * 65 + "\n"),
-                       ("expression is too long", head + "      - run: ${{ '" + "a" * 21_000 + "' }}\n"), ("", head + "#" * 1_048_576 + "\n")):
+    for what, text in (("too many nodes", head + "x: [" + "a," * 100_000 + "]\n"),
+                       ("nesting is too deep", head + "x: " + "[" * 65 + "]" * 65 + "\n"),
+                       ("expression is too long", head + "      - run: ${{ '" + "a" * 21_000 + "' }}\n"),
+                       ("", head + "#" * 1_048_576 + "\n")):
         editor = start(program, {FILE: text, CALLED: RIGHT})
         editor.open(FILE, text)
         assert any(what in one for one in editor.texts(FILE)), what

@@ -122,6 +122,22 @@ def names_in_texts(program: str) -> None:
 
 
 @CASES.case
+def what_the_linter_reads(program: str) -> None:
+    """Names are found in texts that the linter reads and PyYAML doesn't, at their places."""
+    head = "on: push\njobs:\n  a:\n    runs-on: u\n    steps: [{run: make}]\n"
+    for what, text in (("tabs on an empty line", head + "\t \t\n  b:\n    needs: a\n"),
+                       ("a tab before the end", head + "  b:\n    needs: a\n\t"),
+                       ("a dot in an anchor", head + "  b: &b.c\n    needs: a\n  c: *b.c\n"),
+                       ("a letter in an anchor", head + "  b:\n    needs: &é a\n  c: {needs: *é}\n"),
+                       ("other line breaks", head + "  # x\u2028y\x85\n  b:\n    name: a\u2029b\n    needs: a\n")):
+        project = project_of({FILE: text})
+        row = next(number for number, line in enumerate(text.split("\n")) if "needs:" in line)
+        column = text.split("\n")[row].rindex("a")
+        found = occurrence_at(project, FILE, Point(row, column))
+        assert found and [one.span.start for one in all_of(project, found.symbol)] == [Point(2, 2), Point(row, column)], (what, found)
+
+
+@CASES.case
 def random_renames(program: str) -> None:
     """Any name in a folder without faults gets a new one, and the linter finds no fault; with the old name again everything is as
     before."""
@@ -179,6 +195,8 @@ def parts(program: str) -> None:
     assert found == {"https://github.com/actions/checkout/tree/v4", ACTION, CALLED}, found
     assert address_of("o/r/.github/workflows/x.yml@v1") == "https://github.com/o/r/blob/v1/.github/workflows/x.yml"
     assert address_of("docker://x") is None and address_of("./x") is None and address_of("o@v") is None
+    aliased = "on: push\njobs:\n  a: &x\n    runs-on: u\n    steps: &s [{run: make}]\n  b: *x\n  c:\n    runs-on: u\n    steps: *s\n"
+    assert [(job.name, len(job.parts)) for job in part_of(project_of({FILE: aliased}), FILE).parts] == [("a", 1), ("b", 0), ("c", 0)]
     lines = FOLDER[FILE].split("\n")
     spans = {(lines[first], lines[last]) for first, last in folds(project, FILE)}
     assert ("  plan:", "        continue-on-error: true") in spans and ("      - id: list", "        shell: bash") in spans, spans

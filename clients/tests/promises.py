@@ -323,6 +323,21 @@ def ranges(program: str) -> None:
 
 
 @CASES.case
+def hovering_at_the_ends(program: str) -> None:
+    """A fault is explained before its first character, behind its last one and between them, and not further away."""
+    editor = start(program, FILES)
+    editor.open(FILE, WRONG)
+    editor.settle()
+    (fault,) = editor.diagnostics()[FILE]
+    line, first, last = fault["range"]["start"]["line"], fault["range"]["start"]["character"], fault["range"]["end"]["character"]
+    assert last - first == len("reff")
+    for character in (first - 2, first, first + 1, last, last + 1):
+        found = editor.hover(FILE, line, character)
+        assert (found is not None and "X13" in found["contents"]["value"]) == (first <= character <= last), (character, found)
+    end(editor)
+
+
+@CASES.case
 def what_a_diagnostic_carries(program: str) -> None:
     """Code, kind, message, severity, source, and the address of the fault's entry."""
     editor = start(program, {FILE: WRONG}, words=("--docs", "https://example.org/docs/"))

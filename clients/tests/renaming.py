@@ -22,36 +22,42 @@ from actionlint_client.text import Point
 
 CASES = Cases("renaming")
 JOB = "    runs-on: u\n    steps: [{run: make}]\n"
+FIRST = "on: push\njobs:\n  <>:\n" + JOB
 # Texts in which each `<>` stands for a name, with the name's place in the first of them.
 SAME = {
-    "a job in brackets beside a text": "on: push\njobs:\n  <>:\n" + JOB + "  b:\n    needs: <>\n    if: needs['<>'].result == 'success'\n" + JOB,
-    "a job in spaced brackets": "on: push\njobs:\n  <>:\n" + JOB + "  b:\n    needs: [ <> ]\n    if: needs [ '<>' ] . result == '<x>'\n" + JOB,
-    "a job after a text and in other brackets": "on: push\njobs:\n  <>:\n" + JOB + "  b:\n    needs: <>\n"
+    "a job in brackets beside a text": FIRST + "  b:\n    needs: <>\n    if: needs['<>'].result == 'success'\n" + JOB,
+    "a job in spaced brackets": FIRST + "  b:\n    needs: [ <> ]\n    if: needs [ '<>' ] . result == '<x>'\n" + JOB,
+    "a job after a text and in other brackets": FIRST + "  b:\n    needs: <>\n"
                                                 "    if: contains('x', 'y') && fromJSON('[1]')[0] && needs['<>']['result'] == 'b'\n" + JOB,
-    "a job in single quotes": "on: push\njobs:\n  <>:\n" + JOB + "  b:\n    needs: '<>'\n"
+    "a job in single quotes": FIRST + "  b:\n    needs: '<>'\n"
                               "    if: 'needs[''<>''].result == ''it'''' is'' && ''needs.x'' != needs.<>.result'\n" + JOB,
-    "a job in single quotes after an apostrophe": "on: push\njobs:\n  <>:\n" + JOB + "  b:\n    needs: \"<>\"\n"
+    "a job in single quotes after an apostrophe": FIRST + "  b:\n    needs: \"<>\"\n"
                                                   "    name: 'it''s ${{ needs[''<>''].result }}'\n" + JOB,
-    "a job after escapes": "on: push\njobs:\n  <>:\n" + JOB + "  b:\n    needs: <>\n    name: \"\\t\\\"\\n${{\\n needs.<>.result }}\"\n" + JOB,
-    "a job beside braces in a text": "on: push\njobs:\n  <>:\n" + JOB + "  b:\n    needs: <>\n"
+    "a job after escapes": FIRST + "  b:\n    needs: <>\n    name: \"\\t\\\"\\n${{\\n needs.<>.result }}\"\n" + JOB,
+    "a job beside braces in a text": FIRST + "  b:\n    needs: <>\n"
                                      "    name: ${{ format('{{}}', needs.<>.result) }} ${{ needs.<>.result }}\n" + JOB,
-    "a job in parentheses": "on: push\njobs:\n  <>:\n" + JOB + "  b:\n    needs: <>\n    if: (needs).<>.result || !(needs.<>.result == 'x')\n" + JOB,
+    "a job in parentheses": FIRST + "  b:\n    needs: <>\n    if: (needs).<>.result || !(needs.<>.result == 'x')\n" + JOB,
     "a row in brackets": "on: push\njobs:\n  b:\n    strategy: {matrix: {<>: [1, 2], include: [{<>: 3}], exclude: [{<>: 2}]}}\n"
                          "    runs-on: ${{ matrix['<>'] == 1 && 'a' || 'b' }}\n    steps: [{run: '${{ matrix[''<>''] }}'}]\n",
     "an input by its event": "on:\n  workflow_dispatch:\n    inputs:\n      <>: {type: string}\njobs:\n  b:\n    runs-on: u\n"
-                             "    steps:\n      - run: ${{ github['event']['inputs']['<>'] }} ${{ inputs['<>'] || github.event.inputs.<> }}\n",
+                             "    steps:\n      - run: ${{ github['event']['inputs']['<>'] }}\n"
+                             "      - run: ${{ inputs['<>'] || github.event.inputs.<> }}\n",
     "a secret beside a text": "on:\n  workflow_call:\n    secrets:\n      <>: {required: true}\njobs:\n  b:\n    runs-on: u\n"
                               "    env: {A: \"${{ secrets['<>'] || 'none' }}\"}\n    steps: [{run: make}]\n",
     "a step in brackets": "on: push\njobs:\n  b:\n    runs-on: u\n    steps:\n      - id: <>\n        run: echo a=b >> $GITHUB_OUTPUT\n"
                           "      - if: steps['<>'].outputs['a'] == 'x' && steps[\"no\"] != 1\n        run: make\n",
-    "a job that an index names": "on: push\njobs:\n  <>:\n" + JOB + "  b:\n    needs: <>\n"
-                                 "    strategy: {matrix: {k: [result]}}\n    name: ${{ needs.<>[matrix.k] }} ${{ matrix[needs['<>'].result] }}\n" + JOB,
+    "a job that an index names": FIRST + "  b:\n    needs: <>\n"
+                                 "    strategy: {matrix: {k: [result]}}\n"
+                                 "    name: ${{ needs.<>[matrix.k] }} ${{ matrix[needs['<>'].result] }}\n" + JOB,
 }
 TWO = "on: push\njobs:\n  one:\n    runs-on: u\n    steps:\n      - {id: p, run: make}\n      - {id: q, run: make}\n  two:\n" + JOB
-ROWS = "on: push\njobs:\n  a:\n    strategy: {matrix: {x: [1], include: [{y: 2}]}}\n    runs-on: ${{ matrix.x }}\n    steps: [{run: make}]\n"
-ANCHORS = "on: push\njobs:\n  a:\n    runs-on: u\n    env: &p {A: b}\n    steps:\n      - {run: x, env: *p}\n      - {run: x, env: &q {C: d}}\n"
-DECLARED = ("on:\n  workflow_call:\n    inputs:\n      ver: {type: string}\n      Other: {type: string}\n    secrets:\n      key: {required: false}\n"
-            "    outputs:\n      url: {value: a}\n      size: {value: b}\njobs:\n  a:\n    runs-on: u\n"
+ROWS = ("on: push\njobs:\n  a:\n    strategy: {matrix: {x: [1], include: [{y: 2}]}}\n    runs-on: ${{ matrix.x }}\n"
+        "    steps: [{run: make}]\n")
+ANCHORS = ("on: push\njobs:\n  a:\n    runs-on: u\n    env: &p {A: b}\n    steps:\n      - {run: x, env: *p}\n"
+           "      - {run: x, env: &q {C: d}}\n")
+DECLARED = ("on:\n  workflow_call:\n    inputs:\n      ver: {type: string}\n      Other: {type: string}\n"
+            "    secrets:\n      key: {required: false}\n    outputs:\n      url: {value: a}\n      size: {value: b}\n"
+            "jobs:\n  a:\n    runs-on: u\n"
             "    env: {A: '${{ secrets.ORG }}'}\n    steps: [{run: make}]\n")
 ALIASED = ("on: push\njobs:\n  a:\n    runs-on: u\n    steps: [&s {id: p, run: make}]\n  b:\n    runs-on: u\n    steps:\n      - *s\n"
            "      - run: ${{ steps.p.outcome }}\n")
@@ -79,7 +85,8 @@ REFUSED = {
 # Names that are free, although something is called so.
 FREE = {
     "the same name in another case": (TWO, "\n  ", "ONE"),
-    "the id of a step of another job": (TWO.replace("two:\n" + JOB, "two:\n    runs-on: u\n    steps: [{id: z, run: make}]\n"), "{id: ", "z"),
+    "the id of a step of another job": (TWO.replace("two:\n" + JOB, "two:\n    runs-on: u\n    steps: [{id: z, run: make}]\n"),
+                                        "{id: ", "z"),
     "the name of something of another kind": (TWO, "\n  ", "p"),
     "an anchor in another case": (ANCHORS, "env: &", "Q"),
     "an anchor called null": (ANCHORS, "env: &", "null"),
@@ -93,9 +100,18 @@ def point_after(text: str, sign: str) -> Point:
 
 
 def renamed(program: str, text: str, point: Point, name: str) -> str:
+    """The text with the new name. Raises Refusal."""
     edits = rename(Program([program], SECONDS), project_of({FILE: text}), FILE, point, name)
     assert set(edits) == {FILE}
     return replaced(text, edits[FILE])
+
+
+def taken(program: str, text: str, point: Point, name: str) -> str:
+    """The text with a name that must not be refused."""
+    try:
+        return renamed(program, text, point, name)
+    except Refusal as refusal:
+        raise AssertionError(f"{name} is refused in\n{text}") from refusal
 
 
 @CASES.case
@@ -103,9 +119,9 @@ def each_place(program: str) -> None:
     """All places that mean the name change, and none that only looks like one."""
     for what, text in SAME.items():
         old, new = text.replace("<>", "tests"), text.replace("<>", "check")
-        found = renamed(program, old, point_after(text, text[:text.index("<>")]), "check")
+        found = taken(program, old, point_after(text, text[:text.index("<>")]), "check")
         assert found == new, (what, found)
-        assert renamed(program, new, point_after(text, text[:text.index("<>")]), "tests") == old, what
+        assert taken(program, new, point_after(text, text[:text.index("<>")]), "tests") == old, what
 
 
 @CASES.case
@@ -122,7 +138,7 @@ def names_that_are_refused(program: str) -> None:
 @CASES.case
 def names_that_are_free(program: str) -> None:
     for what, (text, sign, name) in FREE.items():
-        assert renamed(program, text, point_after(text, sign), name) != text, what
+        assert taken(program, text, point_after(text, sign), name) != text, what
 
 
 @CASES.case
@@ -155,7 +171,7 @@ def versions(program: str) -> None:
             found = {change["textDocument"]["uri"]: change["textDocument"]["version"] for change in edit["documentChanges"]}
             assert found == {editor.uri(ACTION): 2, editor.uri(FILE): None} and "changes" not in edit, edit
         else:
-            assert set(edit["changes"]) == {editor.uri(ACTION), editor.uri(FILE)} and "documentChanges" not in edit, edit
+            assert "documentChanges" not in edit and set(edit["changes"]) == {editor.uri(ACTION), editor.uri(FILE)}, edit
         end(editor)
 
 
