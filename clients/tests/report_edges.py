@@ -145,8 +145,8 @@ def commands_in_annotations(program: str) -> None:
         status, text, errors = run(program, folder, "--form", "github", "--", path)
         *lines, last = text.splitlines()
         assert status == 1 and not errors and last == "3 faults in 1 file", (text, errors)
-        start = "::error file=%3A%3Aset-output name=x%3A%3A1%2C 50%25/action.yml,line="
-        assert len(lines) == 3 and all(line.startswith(start) for line in lines), lines
+        start = " file=%3A%3Aset-output name=x%3A%3A1%2C 50%25/action.yml,line="
+        assert len(lines) == 3 and all(line.startswith((f"::error{start}", f"::warning{start}")) for line in lines), lines
         assert '::unexpected key "#<U+0023>[add-mask]x" [syntax-check]%0A' in lines[-1], lines
         status, text, errors = run(program, folder, "--form", "github", "--", "##[add-mask]x")
         assert (status, errors) == (3, "") and text.splitlines() == [
