@@ -3,7 +3,7 @@ from __future__ import annotations
 
 from typing import Iterator, Union
 
-import yaml
+import yaml  # type: ignore[import]
 
 from .paths import ACTION_NAMES, is_path, is_workflow
 from .readable import readings

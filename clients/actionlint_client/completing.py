@@ -4,8 +4,11 @@ from __future__ import annotations
 import re
 
 from .asked import asked
+from .characters import shown
 from .completion import Offer, offers
 from .editor import AS_IT_IS, Editor
+from .markdown import content
+from .protocol import Capabilities, CompletionItem, CompletionList, Handler, Position, Range, TextDocumentIdentifier
 from .workspace import Workspace
 
 # CompletionItemKind of the protocol.
@@ -15,15 +18,15 @@ EMPTY_ARGUMENT = re.compile(r"''''|''")
 
 
 class Completion:
-    capabilities = {"completionProvider": {"triggerCharacters": [".", "/", "'", ":", " "]}}
+    capabilities: Capabilities = {"completionProvider": {"triggerCharacters": [".", "/", "'", ":", " "]}}
 
     def __init__(self, workspace: Workspace, editor: Editor):
         self._workspace, self._editor = workspace, editor
 
-    def handlers(self) -> dict:
+    def handlers(self) -> dict[str, Handler]:
         return {"textDocument/completion": self.complete}
 
-    def complete(self, textDocument, position, **_) -> dict | None:
+    def complete(self, textDocument: TextDocumentIdentifier, position: Position, **_: object) -> CompletionList | None:
         place = asked(self._workspace, textDocument, position)
         if place is None:
             return None
@@ -31,16 +34,17 @@ class Completion:
         where = place.range(span)
         return {"isIncomplete": False, "items": [self._item(where, number, offer) for number, offer in enumerate(found)]}
 
-    def _item(self, where: dict, number: int, offer: Offer) -> dict:
-        item: dict[str, object] = {
-            "label": offer.label, "kind": KINDS[offer.kind], "detail": offer.detail, "filterText": offer.label,
+    def _item(self, where: Range, number: int, offer: Offer) -> CompletionItem:
+        item: CompletionItem = {
+            "label": shown(offer.label), "kind": KINDS[offer.kind], "detail": shown(offer.detail), "filterText": offer.label,
             "sortText": f"{offer.rank}{number:04}", "textEdit": {"range": where, "newText": offer.text}}
         if offer.documentation:
-            item["documentation"] = {"kind": self._editor.documentation_format(), "value": offer.documentation}
+            item["documentation"] = content(self._editor.documentation_format(), offer.documentation)
         if "\n" in offer.text and self._editor.takes_indentation():
             item["insertTextMode"] = AS_IT_IS
         if offer.arguments and self._editor.takes_snippets():
-            item |= {"insertTextFormat": SNIPPET, "textEdit": {"range": where, "newText": snippet(offer.text)}}
+            item["insertTextFormat"] = SNIPPET
+            item["textEdit"] = {"range": where, "newText": snippet(offer.text)}
         return item
 
 

@@ -7,6 +7,7 @@ from typing import Callable, Iterable
 
 from . import project as files
 from .expressions import Before, Property, Scope, chain_before, expression_before
+from .markdown import Markdown, escaped_or_none
 from .names import names
 from .paths import is_workflow
 from .place import Place, Role, outline_of
@@ -14,8 +15,8 @@ from .project import Project
 from .sections import activity_types, can_stand, github
 from .stricter import takes_access, takes_filter
 from .structure import address_of
-from .syntax import available, is_condition, key_of, meaning, section_at, shape_at, table, value_words
-from .text import Point, Span
+from .syntax import Shape, available, is_condition, key_of, meaning, section_at, shape_at, table, value_words
+from .text import Point, Span, end_of
 from .tree import Node, Path
 from .used import Used, used_in
 
@@ -39,7 +40,7 @@ class Offer:
     kind: str
     text: str
     detail: str = ""
-    documentation: str | None = None
+    documentation: Markdown | None = None
     rank: int = 1
     arguments: int | None = None
 
@@ -169,7 +170,7 @@ def keys(cursor: Cursor) -> Iterable[Offer]:
                     for event in names()["events"] if event not in place.siblings and event not in fields)
 
 
-def _first_keys(cursor: Cursor, shape: dict) -> Iterable[Offer]:
+def _first_keys(cursor: Cursor, shape: Shape) -> Iterable[Offer]:
     """The keys with which an entry of a list begins, each after a dash."""
     section = shape.get("section", "")
     for key, row in (shape["keys"] if section else {}).items():
@@ -208,11 +209,11 @@ def _declared_key(place: Place, one: files.Declaration) -> Offer:
     kind = one.value.text("type") or ""
     value = {"boolean": "true", "number": "0"}.get(kind, "")
     text = one.name if place.has_colon else f"{one.name}: {value}"
-    return Offer(one.name, "key", text, (kind or "text") + (", required" if one.is_required else ""), one.value.text("description"),
-                 0 if one.is_required else 1)
+    return Offer(one.name, "key", text, (kind or "text") + (", required" if one.is_required else ""),
+                 escaped_or_none(one.value.text("description")), 0 if one.is_required else 1)
 
 
-def _key_text(cursor: Cursor, section: str, key: str, shape: dict | None = None, further: int = 0) -> str:
+def _key_text(cursor: Cursor, section: str, key: str, shape: Shape | None = None, further: int = 0) -> str:
     """A key with its colon. A value that can only be a mapping or a list begins on a line of its own, indented from the key, which begins
     some characters after the cursor's word."""
     place = cursor.place
@@ -285,7 +286,8 @@ def _jobs(cursor: Cursor) -> list[Offer]:
     if tree is None:
         return []
     barred = files.dependents(tree, job) | (set(tree.texts("jobs", job, "needs")) - {cursor.place.word})
-    return [Offer(name, "value", name, "job", tree.text("jobs", name, "name")) for name in tree.names("jobs") if name not in barred]
+    return [Offer(name, "value", name, "job", escaped_or_none(tree.text("jobs", name, "name"))) for name in tree.names("jobs")
+            if name not in barred]
 
 
 def _others(cursor: Cursor, files_of: Iterable[str]) -> list[tuple[str, Used]]:
@@ -295,7 +297,7 @@ def _others(cursor: Cursor, files_of: Iterable[str]) -> list[tuple[str, Used]]:
 
 def _workflows(cursor: Cursor) -> list[Offer]:
     """The workflows that jobs can call: those of the folder, and others that it calls."""
-    own = [Offer("./" + file, "file", "./" + file, "workflow", used.name)
+    own = [Offer("./" + file, "file", "./" + file, "workflow", escaped_or_none(used.name))
            for file, used in _others(cursor, filter(is_workflow, cursor.project.paths())) if used.is_callable]
     return own + _calls(cursor, lambda call: "/.github/workflows/" in call)
 
@@ -305,7 +307,7 @@ def _actions(cursor: Cursor) -> list[Offer]:
     found = []
     for file, used in _others(cursor, set(cursor.project.actions())):
         path = "./" + file.rpartition("/")[0]
-        found.append(Offer(path, "file", path, "action", used.description))
+        found.append(Offer(path, "file", path, "action", escaped_or_none(used.description)))
     return found + _calls(cursor, lambda call: "/.github/workflows/" not in call)
 
 

@@ -5,10 +5,13 @@ import argparse
 import io
 import os
 import sys
-from typing import Callable
+from typing import TYPE_CHECKING, Callable
 
 from .output import report_output
 from .version import version
+
+if TYPE_CHECKING:
+    from _typeshed import ReadableBuffer
 
 STANDARD_ERROR = 2
 CANNOT_PRINT = 3
@@ -17,11 +20,13 @@ CANNOT_PRINT = 3
 class _Errors(io.FileIO):
     """Standard error. What can't be written is lost, so that a full disk changes no status."""
 
-    def write(self, data) -> int | None:
+    def write(self, data: ReadableBuffer) -> int:
+        size = memoryview(data).nbytes
         try:
-            return super().write(data)
+            taken = super().write(data)
         except OSError:
-            return len(data)
+            return size
+        return size if taken is None else taken
 
 
 def open_errors() -> None:

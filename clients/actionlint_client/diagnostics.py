@@ -1,10 +1,14 @@
 """Faults as diagnostics of the protocol."""
 from __future__ import annotations
 
+from typing import Iterable
+
+from .characters import shown
 from .faults import FileFaults
 from .ignoring import IgnoreFiles
 from .positions import Lines
-from .problems import problem_of
+from .problems import NOTE, Problem, problem_of
+from .protocol import Diagnostic, Position
 from .report import Fault
 
 SOURCE = "actionlint"
@@ -19,8 +23,9 @@ class Diagnostics:
         self._docs = docs
         self.ignored = ignored or IgnoreFiles(lambda _: None)
 
-    def of_file(self, lines: Lines, found: FileFaults, earlier: FileFaults, refused: str | None) -> list[dict]:
-        """The faults of a file, those of its last valid YAML, how many more there are, and why it isn't linted."""
+    def of_file(self, lines: Lines, found: FileFaults, earlier: FileFaults, refused: str | None,
+                notes: Iterable[Problem] = ()) -> list[Diagnostic]:
+        """The faults of a file, those of its last valid YAML, how many more there are, why it isn't linted, and shellcheck's notes."""
         told = [self.of_fault(lines, fault) for fault in found.faults] + [self.of_earlier_fault(lines, fault) for fault in earlier.faults]
         if found.more:
             told.append(_at_start(f"{found.more} more faults in this file", INFORMATION))
@@ -28,21 +33,34 @@ class Diagnostics:
             told.append(_at_start(f"{earlier.more} more faults in this file {OF_EARLIER}", INFORMATION))
         if refused:
             told.append(_at_start(refused, WARNING))
-        return told
+        return told + [of_note(lines, note) for note in notes]
 
-    def of_fault(self, lines: Lines, fault: Fault) -> dict:
+    def of_fault(self, lines: Lines, fault: Fault) -> Diagnostic:
         problem = problem_of(fault)
-        diagnostic = {"range": lines.range_of(fault), "severity": SEVERITIES[problem.level], "source": SOURCE, "code": problem.code,
-                      "message": f"{fault.message} [{fault.kind}]", "data": {"kind": fault.kind}}
+        diagnostic: Diagnostic = {
+            "range": lines.range_of(fault), "severity": SEVERITIES[problem.level], "source": SOURCE, "code": problem.code,
+            "message": f"{shown(fault.message)} [{fault.kind}]", "data": {"kind": fault.kind}}
         if link := problem.link_in(self._docs):
             diagnostic["codeDescription"] = {"href": link}
         return diagnostic
 
-    def of_earlier_fault(self, lines: Lines, fault: Fault) -> dict:
+    def of_earlier_fault(self, lines: Lines, fault: Fault) -> Diagnostic:
         diagnostic = self.of_fault(lines, fault)
-        return {**diagnostic, "message": f"{diagnostic['message']} {OF_EARLIER}", "data": {"kind": fault.kind, "earlier": True}}
+        diagnostic["message"] += f" {OF_EARLIER}"
+        diagnostic["data"] = {"kind": fault.kind, "earlier": True}
+        return diagnostic
 
 
-def _at_start(message: str, severity: int) -> dict:
-    start = {"line": 0, "character": 0}
+def of_note(lines: Lines, note: Problem) -> Diagnostic:
+    """A note of shellcheck, or why it has none on a script."""
+    told: Diagnostic = {
+        "range": lines.range_of(note.fault), "severity": INFORMATION if note.level == NOTE else WARNING,
+        "source": note.fault.kind, "message": shown(note.fault.message), "data": {"kind": note.fault.kind}}
+    if note.code and note.link:
+        told["code"], told["codeDescription"] = note.code, {"href": note.link}
+    return told
+
+
+def _at_start(message: str, severity: int) -> Diagnostic:
+    start: Position = {"line": 0, "character": 0}
     return {"range": {"start": start, "end": start}, "severity": severity, "source": SOURCE, "message": message}

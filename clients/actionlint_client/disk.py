@@ -24,7 +24,7 @@ class SavedFile:
     """A file as it was last read: its bytes, at most one more than the linter takes, or None if it isn't there, can't be read or is outside
     the folder."""
 
-    stamp: tuple
+    stamp: tuple[int | None, ...]
     data: bytes | None
     error: str | None = None
     is_outside: bool = False
@@ -63,7 +63,7 @@ class Disk:
         """Forgets all files but these."""
         self._files = {path: file for path, file in self._files.items() if path in paths}
 
-    def _entries(self) -> list[os.DirEntry]:
+    def _entries(self) -> list[os.DirEntry[bytes]]:
         try:
             with os.scandir(os.path.join(self._root, WORKFLOWS.encode())) as entries:
                 return list(entries)
@@ -72,7 +72,7 @@ class Disk:
                 self._pass_over(WORKFLOWS, f"it can't be listed ({error.strerror})")
             return []
 
-    def _workflow_path(self, entry: os.DirEntry) -> str | None:
+    def _workflow_path(self, entry: os.DirEntry[bytes]) -> str | None:
         """The path of an entry that is linted: a regular file or a link to one, as for the program."""
         path = f"{WORKFLOWS}/{entry.name.decode('utf-8', 'surrogateescape')}"
         if not is_workflow(path) or not _is_file(entry):
@@ -103,7 +103,7 @@ class Disk:
         return known
 
 
-def _is_file(entry: os.DirEntry) -> bool:
+def _is_file(entry: os.DirEntry[bytes]) -> bool:
     """Whether an entry is a regular file or a link to one, or a link to what can't be looked at."""
     try:
         return entry.is_file()
@@ -111,7 +111,7 @@ def _is_file(entry: os.DirEntry) -> bool:
         return error.errno not in ABSENT
 
 
-def _stamp_of(whole: bytes) -> tuple:
+def _stamp_of(whole: bytes) -> tuple[int | None, ...]:
     """The mode of a file, and what differs once it changed. Without a mode if it can't be looked at, and empty if there is none."""
     try:
         found = os.stat(whole)
@@ -122,7 +122,7 @@ def _stamp_of(whole: bytes) -> tuple:
     return (found.st_mode, found.st_mtime_ns, found.st_ctime_ns, found.st_size, found.st_dev, found.st_ino)
 
 
-def _read(whole: bytes, stamp: tuple, real_root: bytes) -> SavedFile:
+def _read(whole: bytes, stamp: tuple[int | None, ...], real_root: bytes) -> SavedFile:
     if not stamp:
         return SavedFile(stamp, None)
     if stamp[0] is not None and not stat.S_ISREG(stamp[0]):

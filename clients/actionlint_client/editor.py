@@ -1,9 +1,8 @@
 """What the editor can do, and what is sent to it."""
 from __future__ import annotations
 
-from typing import Callable
-
 from .characters import terminal_text
+from .protocol import Ask, Capabilities, Diagnostic, Notify, PublishDiagnosticsParams
 
 WARNING = 2
 # InsertTextMode of the protocol: further lines are indented as in the text, and not by the line's indentation besides.
@@ -12,15 +11,15 @@ WATCHED = ("**/.github/workflows/*.{yml,yaml}", "**/action.{yml,yaml}")
 
 
 class Editor:
-    def __init__(self, notify: Callable[[str, dict], None], request: Callable[[str, dict], object]):
+    def __init__(self, notify: Notify, request: Ask):
         self._notify, self._request = notify, request
-        self._capabilities: dict = {}
+        self._capabilities: Capabilities = {}
 
-    def take_capabilities(self, capabilities: dict | None) -> None:
+    def take_capabilities(self, capabilities: Capabilities | None) -> None:
         """Takes the capabilities that `initialize` has."""
         self._capabilities = capabilities or {}
 
-    def _capability(self, section: str, feature: str) -> dict:
+    def _capability(self, section: str, feature: str) -> Capabilities:
         """What the editor says about a feature, such as `("textDocument", "hover")`, or nothing."""
         return (self._capabilities.get(section) or {}).get(feature) or {}
 
@@ -43,7 +42,7 @@ class Editor:
         """Whether a completion can tell that its lines are indented already."""
         return AS_IT_IS in ((self._completion_item().get("insertTextModeSupport") or {}).get("valueSet") or [])
 
-    def _completion_item(self) -> dict:
+    def _completion_item(self) -> Capabilities:
         return self._capability("textDocument", "completion").get("completionItem") or {}
 
     def takes_versions(self) -> bool:
@@ -60,9 +59,9 @@ class Editor:
         self._request("client/registerCapability", {"registrations": [
             {"id": "disk", "method": "workspace/didChangeWatchedFiles", "registerOptions": {"watchers": watchers}}]})
 
-    def publish(self, uri: str, version: int | None, diagnostics: list[dict]) -> None:
+    def publish(self, uri: str, version: int | None, diagnostics: list[Diagnostic]) -> None:
         """Replaces all diagnostics of a file."""
-        params: dict[str, object] = {"uri": uri, "diagnostics": diagnostics}
+        params: PublishDiagnosticsParams = {"uri": uri, "diagnostics": diagnostics}
         if version is not None:
             params["version"] = version
         self._notify("textDocument/publishDiagnostics", params)

@@ -7,6 +7,8 @@ from functools import lru_cache
 from pathlib import Path
 from typing import Iterable, NamedTuple, Sequence
 
+from .markdown import code
+
 TABLE = Path(__file__).parent / "faults.json"
 ARGUMENT = re.compile(r"\{[01]\}")
 LINK_IN_BRACKETS = re.compile(r" \(\[[^\]]*\]\([^)]*\)(?:, those in bold)?\)")
@@ -93,13 +95,13 @@ def _named_page(link: re.Match[str]) -> str:
 
 def markdown_of(entry: Entry, docs: str | None, messages: Sequence[str] = ()) -> str:
     """The entry in Markdown, below the given messages. Links lead to the pages if their address is known."""
-    shown = [_code(message[:SHOWN_CHARACTERS]) for message in messages[:SHOWN_MESSAGES]] or [_code(title_of(entry))]
+    said = [code(message[:SHOWN_CHARACTERS]) for message in messages[:SHOWN_MESSAGES]] or [code(title_of(entry))]
     more = [f"{len(messages) - SHOWN_MESSAGES} more"] if len(messages) > SHOWN_MESSAGES else []
     parts = [entry.text]
     parts += [f"*Why it matters*: {entry.why}"] if entry.why else []
     parts += [f"*Repair*: {entry.repair}"] if entry.repair else []
     text = PAGE_LINK.sub(rf"[\1]({docs}/\2)" if docs else r"\1", "\n\n".join(parts))
-    return f"**{entry.code}** {', '.join(shown + more)}\n\n{text}" + (f"\n\n[{entry.page}]({link_of(entry, docs)})" if docs else "")
+    return f"**{entry.code}** {', '.join([*said, *more])}\n\n{text}" + (f"\n\n[{entry.page}]({link_of(entry, docs)})" if docs else "")
 
 
 def markdown_of_faults(messages: Iterable[str], docs: str | None) -> str | None:
@@ -109,12 +111,6 @@ def markdown_of_faults(messages: Iterable[str], docs: str | None) -> str | None:
         if (entry := entry_of(message)) is not None:
             found.setdefault(entry.code, (entry, []))[1].append(message)
     return "\n\n---\n\n".join(markdown_of(entry, docs, said) for entry, said in found.values()) or None
-
-
-def _code(text: str) -> str:
-    """A text as code, between more backquotes than it has in a row."""
-    fence = "`" * (1 + max((len(run) for run in re.findall("`+", text)), default=0))
-    return f"{fence}{text}{fence}" if len(fence) == 1 else f"{fence} {text} {fence}"
 
 
 @lru_cache(maxsize=KNOWN_MESSAGES)

@@ -8,6 +8,7 @@ from typing import Iterator, NamedTuple
 from . import project as files
 from .chains import ChainReader
 from .names import names as known_names
+from .markdown import Markdown, escaped_or_none
 from .paths import is_workflow
 from .project import Declaration, Project
 from .sections import github
@@ -36,7 +37,7 @@ class Property(NamedTuple):
 
     name: str
     detail: str
-    text: str | None
+    text: Markdown | None
 
 
 def expression_before(text: str, is_condition: bool) -> str | None:
@@ -140,7 +141,7 @@ class Scope:
             return []
         jobs = self.tree.names("jobs") if self.job is None else files.needed(self.tree, self.job)
         if not names:
-            return [Property(job, "job", self.tree.text("jobs", job, "name")) for job in dict.fromkeys(jobs)]
+            return [Property(job, "job", escaped_or_none(self.tree.text("jobs", job, "name"))) for job in dict.fromkeys(jobs)]
         job = _same(jobs, names[0])
         if job is None or len(names) > 2:
             return []
@@ -165,7 +166,7 @@ class Scope:
     def _steps(self, names: tuple[str, ...]) -> list[Property]:
         steps = {name: step for step in self.visible_steps() if (name := step.text("id"))}
         if not names:
-            return [Property(name, "step", step.text("name")) for name, step in steps.items()]
+            return [Property(name, "step", escaped_or_none(step.text("name"))) for name, step in steps.items()]
         name = _same(list(steps), names[0])
         if name is None or len(names) > 2:
             return []
@@ -199,7 +200,7 @@ class Scope:
     def _matrix(self, names: tuple[str, ...]) -> list[Property]:
         rows = files.matrix_rows(self.tree, self.job) if self.job else {}
         if not names:
-            return [Property(name, "row of the matrix", ", ".join(item.value for item in row.items[:8] if item.value) or None)
+            return [Property(name, "row of the matrix", escaped_or_none(", ".join(item.value for item in row.items[:8] if item.value)))
                     for name, row in rows.items()]
         name = _same(list(rows), names[0])
         return [Property(key, "value of the matrix", None) for key in _keys_of_values(rows[name])] if name and len(names) == 1 else []
@@ -218,7 +219,7 @@ class Scope:
         if names:
             return []
         declared = [property_of(one, "secret") for one in files.declarations(self.file, self.tree, "secrets")]
-        return [*declared, Property("GITHUB_TOKEN", "secret", "The token of the job.")]
+        return [*declared, Property("GITHUB_TOKEN", "secret", Markdown("The token of the job."))]
 
 
 def property_of(declaration: Declaration, what: str) -> Property:
@@ -227,7 +228,7 @@ def property_of(declaration: Declaration, what: str) -> Property:
     default = declaration.value.text("default")
     words = [f"{what}, {kind}" if kind else what, "required" if declaration.is_required else "",
              f"default `{default}`" if default else ""]
-    return Property(declaration.name, ", ".join(word for word in words if word), declaration.value.text("description"))
+    return Property(declaration.name, ", ".join(word for word in words if word), escaped_or_none(declaration.value.text("description")))
 
 
 def _same(names: list[str], wanted: str) -> str | None:

@@ -54,7 +54,7 @@ class Files:
         disk_differs = self._disk_may_differ and self._disk.rescan()
         self._disk_may_differ = False
         if not disk_differs and all(map(self._stays_where_it_is, edited)):
-            self.wanted.update((path, self._data(path)) for path in edited)
+            self.wanted.update((path, data) for path in edited if (data := self._data(path)) is not None)
             return edited
         wanted, unreadable = self.wanted, self.unreadable
         self._find()

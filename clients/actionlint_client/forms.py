@@ -7,7 +7,7 @@ from dataclasses import dataclass, field
 from typing import BinaryIO
 
 from .advice import advice, sentence
-from .characters import json_text, terminal_text
+from .characters import json_text, log_text, shown, terminal_text
 from .problems import Problem
 
 
@@ -85,8 +85,8 @@ class JsonLines(Form):
         self.write(json_text({
             "path": fault.path, "line": fault.line, "column": fault.column,
             "end_column": fault.column + fault.width if fault.width else None, "code": problem.code if problem.has_code() else None,
-            "kind": fault.kind, "level": problem.level, "message": fault.message, "link": problem.link_in(self.docs),
-            "advice": sentence(problem) or None, "fix": problem.fix and problem.fix.title,
+            "kind": fault.kind, "level": problem.level, "message": shown(fault.message), "link": problem.link_in(self.docs),
+            "advice": sentence(problem) or None, "fix": problem.fix and shown(problem.fix.title),
             "fix_is_safe": problem.fix and problem.fix.is_safe}) + "\n")
 
 
@@ -107,7 +107,7 @@ class CodeQuality(Form):
 
     def __init__(self, out: BinaryIO, docs: str | None):
         super().__init__(out, docs)
-        self._seen: Counter = Counter()
+        self._seen: Counter[str] = Counter()
 
     def begin(self) -> None:
         self.write("[")
@@ -118,9 +118,9 @@ class CodeQuality(Form):
         separator = "," if self._seen else ""
         self._seen[same] += 1
         self.write(separator + "\n" + json_text({
-            "description": fault.message, "check_name": problem.code, "fingerprint": _digest(same, str(self._seen[same])),
+            "description": shown(fault.message), "check_name": problem.code, "fingerprint": _digest(same, str(self._seen[same])),
             "severity": self.SEVERITIES[problem.level], "location": {"path": fault.path, "lines": {"begin": fault.line}},
-            **({"content": {"body": "\n\n".join(said)}} if (said := advice(problem)) else {})}))
+            **({"content": {"body": "\n\n".join(map(shown, said))}} if (said := advice(problem)) else {})}))
 
     def end(self, outcome: Outcome) -> None:
         self.write("\n]\n" if self._seen else "]\n")
@@ -149,8 +149,8 @@ class Annotations(Form):
         self.write(outcome.count_line() + "\n")
 
     def _command(self, name: str, properties: dict[str, object], text: str) -> None:
-        listed = ",".join(f"{key}={_property(str(value))}" for key, value in properties.items())
-        self.write(f"::{name} {listed}::{_data(text)}\n")
+        listed = ",".join(terminal_text(f"{key}={_property(str(value))}") for key, value in properties.items())
+        self.write(f"::{name} {listed}::{_data(log_text(text))}\n")
 
 
 def _data(text: str) -> str:

@@ -10,11 +10,17 @@ from typing import BinaryIO, Callable, Union
 from pylsp_jsonrpc.exceptions import JsonRpcException, JsonRpcInvalidRequest, JsonRpcParseError
 from pylsp_jsonrpc.streams import JsonRpcStreamReader
 
+from .protocol import Message
+
+class Wake:
+    """In place of a message: something that goes on beside the server has a result."""
+
+
 # A message, the error that answers what is none, or None for the end of the input.
-Taken = Union[dict, JsonRpcException, None]
+Taken = Union[Message, JsonRpcException, Wake, None]
 
 
-class Reader(JsonRpcStreamReader):
+class Reader(JsonRpcStreamReader):  # type: ignore[misc]
     """The library's reader takes the length from the first header field alone, and only logs what isn't JSON."""
 
     def listen(self, message_consumer: Callable[[Taken], None]) -> None:
@@ -45,6 +51,10 @@ class Messages:
     def take(self, seconds: float | None) -> Taken:
         """The next message. Raises `queue.Empty` if none came within these seconds."""
         return self._queue.get(timeout=seconds)
+
+    def wake(self) -> None:
+        """Lets the server look at what goes on beside it, once it has taken the messages that wait."""
+        self._queue.put(Wake())
 
     def is_empty(self) -> bool:
         return self._queue.empty()

@@ -19,6 +19,7 @@ def options(words: list[str] | None = None) -> argparse.Namespace:
                         help="the address of the pages of faults, for links (default: the folder docs beside clients)")
     parser.add_argument("--no-earlier-faults", action="store_true",
                         help="while a file isn't valid YAML, don't keep showing its earlier faults")
+    parser.add_argument("--shellcheck", action="store_true", help="also show shellcheck's notes on the scripts of open files")
     parser.add_argument("--ignore-file", metavar="FILE", action="append", default=[],
                         help="a file with a CODE[:PATH] on each line, of faults that aren't shown; may be repeated")
     parser.add_argument("--log", metavar="FILE", help="the file for error messages (default: standard error)")

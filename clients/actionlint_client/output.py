@@ -9,7 +9,7 @@ import shutil
 import stat
 import tempfile
 from contextlib import contextmanager, suppress
-from typing import BinaryIO, Iterator
+from typing import BinaryIO, Iterator, cast
 
 STANDARD_OUTPUT = 1
 FOLDER = os.O_RDONLY | os.O_DIRECTORY | os.O_CLOEXEC
@@ -24,7 +24,7 @@ def report_output(file: str | None) -> Iterator[BinaryIO]:
         # If it is closed, a file that is opened next would take its place.
         os.fstat(STANDARD_OUTPUT)
         with tempfile.TemporaryFile() as spool:
-            yield spool
+            yield cast(BinaryIO, spool)
             spool.seek(0)
             shutil.copyfileobj(spool, _StandardOutput())
         return

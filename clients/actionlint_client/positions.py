@@ -6,6 +6,7 @@ from bisect import bisect_left
 from dataclasses import dataclass
 from functools import lru_cache
 
+from .protocol import Position, Range
 from .report import Fault
 from .text import Point, Span
 
@@ -43,7 +44,7 @@ class Lines:
         # Many faults may be on one long line.
         self._last: Line | None = None
 
-    def range_of(self, fault: Fault) -> dict:
+    def range_of(self, fault: Fault) -> Range:
         """A fault's range, which ends with its first line. If its width is unknown, it ends with the word."""
         line, first, end = self._columns(fault)
         return {"start": {"line": line.index, "character": line.units_before(first)},
@@ -66,7 +67,7 @@ class Lines:
         return self._last
 
 
-def point_of(lines: list[str], position: dict) -> Point:
+def point_of(lines: list[str], position: Position) -> Point:
     """An editor's position as a line and a character of a text. One past the end of a line or of the text is that end."""
     number = min(position["line"], len(lines) - 1)
     line, units = lines[number], position["character"]
@@ -76,12 +77,12 @@ def point_of(lines: list[str], position: dict) -> Point:
     return Point(number, len(before))
 
 
-def range_of_span(lines: list[str], span: Span) -> dict:
+def range_of_span(lines: list[str], span: Span) -> Range:
     """A span of a text as an editor's range."""
     return {"start": _position_of(lines, span.start), "end": _position_of(lines, span.end)}
 
 
-def _position_of(lines: list[str], point: Point) -> dict:
+def _position_of(lines: list[str], point: Point) -> Position:
     line = lines[point.line] if point.line < len(lines) else ""
     column = min(point.column, len(line))
     return {"line": point.line, "character": column if line.isascii() else column + bisect_left(_two_units(line), column)}

@@ -10,7 +10,7 @@ from .report import Fault
 if TYPE_CHECKING:
     from .repair import Repair
 
-ERROR, WARNING = "error", "warning"
+ERROR, WARNING, NOTE = "error", "warning", "note"
 
 
 @dataclass(frozen=True)

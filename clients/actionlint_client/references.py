@@ -10,7 +10,7 @@ from .expressions import MAX_EXPRESSION_BYTES, expressions_in
 from .paths import is_workflow
 from .project import Project
 from .syntax import CONDITIONS
-from .text import Places, Point, Span
+from .text import Places, Point, Span, end_of
 from .tree import Node, Path, walk
 
 # Two quotes for one in single quotes, and the start of an expression; escapes in double quotes.
@@ -245,6 +245,6 @@ class _Doubled:
     def __init__(self) -> None:
         self.is_open = False
 
-    def spaced(self, found: re.Match) -> str:
+    def spaced(self, found: re.Match[str]) -> str:
         self.is_open = found[0] == "''" and not self.is_open
-        return found[0] if found[0] != "''" else " '" if self.is_open else "' "
+        return str(found[0]) if found[0] != "''" else " '" if self.is_open else "' "

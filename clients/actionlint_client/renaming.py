@@ -4,7 +4,7 @@ from __future__ import annotations
 import re
 from collections import Counter
 
-from .fixes import Trial
+from .fixes import Counted, Trial
 from .folder import Program
 from .project import Project
 from .references import Occurrence, Symbol, all_of, callers, occurrence_at, occurrences

@@ -13,7 +13,10 @@ from .folder import REASONS, TOO_LARGE, Folder, Result
 from .ignoring import Ignored
 from .positions import Lines
 from .project import Project
+from .problems import Problem
+from .protocol import Position, Range
 from .report import Fault
+from .script_checks import ScriptChecks
 from .uris import uri_of
 
 NOTHING = Result({}, {}, set())
@@ -64,7 +67,7 @@ class Document:
         elif self._earlier is not None and self._earlier.data != data:
             self._earlier = self._earlier.in_text(data)
 
-    def faults_in(self, wanted: dict, with_earlier: bool = False) -> list[tuple[Fault, dict]]:
+    def faults_in(self, wanted: Range, with_earlier: bool = False) -> list[tuple[Fault, Range]]:
         """The faults that touch a range, each with its own range."""
         lines = self.lines()
         shown = self.repository.ignored.without
@@ -80,11 +83,13 @@ class Repository:
     root: bytes
     folder: Folder
     shows_earlier: bool
+    # (off, unless others are given)
+    checks: ScriptChecks = field(default_factory=lambda: ScriptChecks(lambda: None))
     result: Result = NOTHING
     ignored: Ignored = field(default_factory=lambda: Ignored(()))
     documents: dict[str, Document] = field(default_factory=dict)
     _touched: set[str] = field(default_factory=set)
-    _shown: dict[str, tuple] = field(default_factory=dict)
+    _shown: dict[str, tuple[object, ...]] = field(default_factory=dict)
     _told: set[str] = field(default_factory=set)
     # The faults that were looked at for those of size, and whether there was one.
     _too_large: dict[str, tuple[FileFaults, bool]] = field(default_factory=dict)
@@ -126,6 +131,12 @@ class Repository:
         """Sets the bytes of a file's buffer, or None if it is no longer open."""
         self._touched.add(path)
         self.folder.edit(path, data)
+        if data is None:
+            self.checks.forget((self.root, path))
+
+    def show_again(self, path: str) -> None:
+        """Shows a file in the next `refresh`, since notes on it became known."""
+        self._touched.add(path)
 
     def lines(self, path: str) -> Lines:
         document = self.documents.get(path)
@@ -150,6 +161,8 @@ class Repository:
     def close(self, editor: Editor) -> None:
         """Stops the linter, and removes what is shown."""
         self.folder.close()
+        for path in self.documents:
+            self.checks.forget((self.root, path))
         for path in self._shown:
             for uri in self._versions(path):
                 editor.publish(uri, None, [])
@@ -168,10 +181,11 @@ class Repository:
             earlier = self.ignored.without(document.earlier())
         found = self.ignored.without(found)
         is_to_show = found is not NO_FAULTS or refused is not None or document is not None
-        state = (versions, found, earlier, refused, self.folder.data_of(path))
+        notes = self._notes(path, found) if document else ()
+        state = (versions, found, earlier, refused, notes, self.folder.data_of(path))
         if self._shown.get(path) == state or not (is_to_show or path in self._shown):
             return
-        told = diagnostics.of_file(self.lines(path), found, earlier, refused)
+        told = diagnostics.of_file(self.lines(path), found, earlier, refused, notes)
         for uri, version in versions.items():
             editor.publish(uri, version, told)
         if refused and refused not in self._told:
@@ -183,5 +197,12 @@ class Repository:
             del self._shown[path]
 
 
-def _key(position: dict) -> tuple[int, int]:
+    def _notes(self, path: str, found: FileFaults) -> tuple[Problem, ...]:
+        """The notes of shellcheck on an open file, as far as they are known, none while no linter runs or the file isn't valid YAML."""
+        if self.result is NOTHING or path in self.result.refused or is_no_yaml(found):
+            return ()
+        return self.checks.notes((self.root, path), self.folder.data_of(path))
+
+
+def _key(position: Position) -> tuple[int, int]:
     return position["line"], position["character"]

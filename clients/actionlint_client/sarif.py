@@ -5,7 +5,7 @@ import re
 from typing import TYPE_CHECKING, BinaryIO
 from urllib.parse import quote
 
-from .characters import json_text
+from .characters import json_text, shown
 from .entries import explained, markdown_of, plain_text, title_of
 from .forms import Form, Outcome
 from .problems import ERROR, Problem
@@ -25,7 +25,7 @@ class Sarif(Form):
 
     def __init__(self, out: BinaryIO, docs: str | None):
         super().__init__(out, docs)
-        self._rules: dict[str, dict] = {}
+        self._rules: dict[str, dict[str, object]] = {}
         self._results = 0
 
     tells_failure = True
@@ -54,7 +54,7 @@ class Sarif(Form):
             driver["informationUri"] = self.docs
         self.write(f'],\n"tool": {json_text({"driver": driver}, indent=1)},\n"invocations": {json_text([invocation])}\n}}]}}\n')
 
-    def _result(self, problem: Problem) -> dict:
+    def _result(self, problem: Problem) -> dict[str, object]:
         """A result. Adds its rule if it is new."""
         fault = problem.fault
         if problem.code not in self._rules:
@@ -71,24 +71,24 @@ def left_out_line(count: int) -> str:
     return f"{count} more were left out: GitHub takes {MAX_RESULTS} results of a run"
 
 
-def _artifact(path: str) -> dict:
+def _artifact(path: str) -> dict[str, object]:
     return {"uri": quote(path), "uriBaseId": "%SRCROOT%"}
 
 
-def _fix(repair: Repair) -> dict:
+def _fix(repair: Repair) -> dict[str, object]:
     """A fix (3.55), which replaces texts of files (3.57)."""
     changes = [{"artifactLocation": _artifact(path), "replacements": list(map(_replacement, edits))}
                for path, edits in repair.edits.items()]
     return {"description": _message(repair.title), "artifactChanges": changes}
 
 
-def _replacement(edit: Edit) -> dict:
+def _replacement(edit: Edit) -> dict[str, object]:
     (start, end), text = edit
     region = {"startLine": start.line + 1, "startColumn": start.column + 1, "endLine": end.line + 1, "endColumn": end.column + 1}
     return {"deletedRegion": region, "insertedContent": {"text": text}}
 
 
-def _rule(problem: Problem, docs: str | None) -> dict:
+def _rule(problem: Problem, docs: str | None) -> dict[str, object]:
     """The reporting descriptor of a code."""
     entry = problem.entry
     level = problem.level if problem.is_note() else ERROR
@@ -104,6 +104,7 @@ def _rule(problem: Problem, docs: str | None) -> dict:
     return rule
 
 
-def _message(text: str) -> dict:
+def _message(text: str) -> dict[str, str]:
     """A message's text, in which brackets are escaped, since they would be links (3.11.6)."""
+    text = "\n".join(map(shown, text.split("\n")))
     return {"text": SPECIAL.sub(r"\\\g<0>", text)}

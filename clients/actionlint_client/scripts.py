@@ -6,10 +6,10 @@ the places are found by walking through both at once.
 from __future__ import annotations
 
 from dataclasses import dataclass
-from typing import Iterator
+from typing import Callable, Iterator
 
 from .readable import NO_BREAKS
-from .shells import default_shell, shell_of
+from .shells import command_of, default_shell, ends_at_failure, name_of
 from .text import Places
 from .tree import Node, NotYaml, parse_tree
 
@@ -28,17 +28,26 @@ class NotRead(Exception):
 
 @dataclass(frozen=True)
 class Script:
-    """A script for `bash` or `sh`, with a word of the same length in place of each expression. `offsets` has the place in the file's text
-    of each character and of the end; `lines` has the starts of its lines."""
+    """A script for `bash` or `sh`, and whether the shell ends at the first command that fails. In `text` a word of the same length stands
+    in place of each expression, and in `with_variables` a variable. `offsets` has the place in the file's text of each character and of
+    the end; `lines` has the starts of its lines."""
 
     shell: str
+    ends_at_failure: bool
     text: str
+    with_variables: str
     offsets: list[int]
     lines: list[int]
 
     def offset_of(self, line: int, column: int) -> int:
-        """The place in the file's text of a line and a column, both from 1."""
-        return self.offsets[min(self.lines[line - 1] + column - 1, len(self.text))]
+        """The place in the file's text of a line and a column, both from 1. A line or a column past the last one is the last."""
+        start = self.lines[min(line, len(self.lines)) - 1]
+        return self.offsets[min(start + column - 1, len(self.text))]
+
+    def lines_with_expressions(self) -> set[int]:
+        """The lines, from 1, on which something stands in place of an expression."""
+        pairs = zip(self.text.split("\n"), self.with_variables.split("\n"))
+        return {number for number, (word, variable) in enumerate(pairs, 1) if word != variable}
 
 
 @dataclass(frozen=True)
@@ -60,39 +69,51 @@ def scripts_and_calls(text: str) -> tuple[list[Script], list[str]]:
     if root is None:
         return [], []
     jobs = [job for _, job in at.entries] if (at := root.get("jobs")) else []
-    steps = [(shell_of(step, ""), step) for step in _items(root.at(("runs", "steps")))]
+    steps = [(command_of(step, ""), step) for step in _items(root.at(("runs", "steps")))]
     for job in jobs:
         default = default_shell(root, job)
-        steps += [(shell_of(step, default), step) for step in _items(job.get("steps"))]
+        steps += [(command_of(step, default), step) for step in _items(job.get("steps"))]
     scripts: dict[int, tuple[str, Node]] = {}
-    for shell, step in steps:
+    for command, step in steps:
         run = step.get("run")
-        if shell in SHELLS and run is not None and run.kind == "scalar":
+        if name_of(command) in SHELLS and run is not None and run.kind == "scalar":
             # Aliases share it.
             run = run.anchored or run
-            scripts[id(run)] = shell, run
+            scripts[id(run)] = command, run
     calls = [one.text("uses") or "" for one in [*(step for _, step in steps), *jobs]]
     places = Places(text, mark)
-    return [_script(shell, node, text, places) for shell, node in scripts.values()], [one for one in calls if one.startswith("./")]
+    return [_script(command, node, text, places) for command, node in scripts.values()], [one for one in calls if one.startswith("./")]
 
 
 def _items(node: Node | None) -> list[Node]:
     return node.items if node else []
 
 
-def _script(shell: str, node: Node, text: str, places: Places) -> Script:
+def _script(command: str, node: Node, text: str, places: Places) -> Script:
     start, end = places.offset(node.span.start), places.offset(node.span.end)
-    script = without_expressions(node.value)
+    script = without_expressions(node.value, word_of)
     lines = [0, *(index + 1 for index, character in enumerate(script) if character == "\n")]
-    return Script(shell, script, _offsets(node.value, list(_atoms(text, start, end, node.style)), start), lines)
+    offsets = _offsets(node.value, list(_atoms(text, start, end, node.style)), start)
+    return Script(name_of(command), ends_at_failure(command), script, without_expressions(node.value, variable_of), offsets, lines)
 
 
-def without_expressions(text: str) -> str:
-    """The text with a word in the place of each expression."""
-    parts, at = [], 0
+def word_of(number: int, length: int) -> str:
+    """A word of a length, in place of an expression with a number."""
+    return "x" * length
+
+
+def variable_of(number: int, length: int) -> str:
+    """A variable whose use has a length, in place of an expression with a number. An expression has at least five characters."""
+    room = length - len("${}")
+    return "${" + f"x{number}"[:room].ljust(room, "_") + "}"
+
+
+def without_expressions(text: str, stand_in: Callable[[int, int], str]) -> str:
+    """The text with something in place of each expression, by its number and length."""
+    parts, at, number = [], 0, 0
     while (start := text.find("${{", at)) >= 0 and (end := _end_of_expression(text, start)) is not None:
-        parts += [text[at:start], "x" * (end - start)]
-        at = end
+        parts += [text[at:start], stand_in(number, end - start)]
+        at, number = end, number + 1
     return "".join(parts) + text[at:]
 
 
@@ -167,7 +188,8 @@ def _filled(value: str, known: list[int | None], start: int) -> list[int]:
         following = offsets[index + 1]
         if offsets[index] is None and following is not None and value[index] != "\n" and begins_line[index]:
             offsets[index] = following - 1
-    places, last = [], start
+    places: list[int] = []
+    last = start
     for offset in offsets:
         last = last + 1 if offset is None else offset
         places.append(last)

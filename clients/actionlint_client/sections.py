@@ -4,7 +4,7 @@ from __future__ import annotations
 import json
 from functools import lru_cache
 from pathlib import Path
-from typing import Collection
+from typing import Any, Collection
 
 from .syntax import table
 
@@ -12,9 +12,10 @@ TABLE = Path(__file__).parent / "github.json"
 
 
 @lru_cache(maxsize=None)
-def github() -> dict[str, dict]:
+def github() -> dict[str, dict[str, Any]]:
     """What GitHub's documents list and the linter doesn't check; `sources` names the documents."""
-    return json.loads(TABLE.read_text(encoding="utf-8"))
+    found: dict[str, dict[str, Any]] = json.loads(TABLE.read_text(encoding="utf-8"))
+    return found
 
 
 def can_stand(section: str, key: str, siblings: Collection[str]) -> bool:
@@ -41,4 +42,5 @@ def _pairs(section: str) -> list[tuple[str, str]]:
 
 def activity_types(event: str) -> list[str]:
     """The activity types of an event, by the linter's list or else by GitHub's."""
-    return list(table()["activity types"].get(event) or github()["activity types"].get(event, ()))
+    found: list[str] = table()["activity types"].get(event) or github()["activity types"].get(event) or []
+    return list(found)

@@ -10,7 +10,7 @@ import resource
 import sys
 from functools import partial
 from pathlib import Path
-from typing import BinaryIO, Callable, Protocol
+from typing import Any, BinaryIO, Callable
 
 from pylsp_jsonrpc.endpoint import Endpoint
 from pylsp_jsonrpc.exceptions import JsonRpcException, JsonRpcInvalidRequest, JsonRpcMethodNotFound, JsonRpcServerError
@@ -24,9 +24,13 @@ from .folder import Folder, Program
 from .hover import Hover
 from .ignoring import IgnoreFiles
 from .limit import LIMIT, TooSlow
-from .messages import Messages
+from .messages import Messages, Wake
 from .navigation import MOVES, Navigation
+from .protocol import (Capabilities, Feature, FileEvent, Handler, InitializeResult, Message, TextDocumentContentChangeEvent,
+                       TextDocumentIdentifier, TextDocumentItem, VersionedTextDocumentIdentifier, WorkspaceFolder,
+                       WorkspaceFoldersChangeEvent)
 from .repository import Repository
+from .script_checks import ScriptChecks
 from .symbols import Symbols
 from .uris import path_of
 from .version import version
@@ -39,15 +43,6 @@ REQUEST_FAILED = -32803
 MAX_SECONDS = 2.0
 # How many new objects, and how many collections of them, there are before older objects are looked at too.
 COLLECTED = (50_000, 20)
-
-
-class Feature(Protocol):
-    """What answers some of the requests."""
-
-    capabilities: dict
-
-    def handlers(self) -> dict[str, Callable]:
-        """The functions by method, called with the message's parameters by name."""
 
 
 class Server:
@@ -67,19 +62,21 @@ class Server:
         self._ignored.files += options.ignore_file
         diagnostics = Diagnostics(docs, self._ignored)
         shows_earlier = not options.no_earlier_faults
+        self._checks = ScriptChecks(self._messages.wake)
+        self._checks.is_on = options.shellcheck
         self._workspace = Workspace(
-            lambda root: Repository(root, Folder(root, program, self._editor.say, keeps_calls=shows_earlier), shows_earlier),
+            lambda root: Repository(root, Folder(root, program, self._editor.say, keeps_calls=shows_earlier), shows_earlier, self._checks),
             self._editor, diagnostics)
-        self._features: tuple[Feature, ...] = (
+        self._features: list[Feature] = [
             Completion(self._workspace, self._editor),
             Hover(self._workspace, self._editor, docs),
             CodeActions(self._workspace, diagnostics, self._editor, program),
             Navigation(self._workspace, self._editor, program),
             Symbols(self._workspace),
-        )
+        ]
         self._named: list[bytes] = []
         self._is_initialized = self._is_shut_down = False
-        self._handlers: dict[str, Callable] = {
+        self._handlers: dict[str, Handler] = {
             "initialize": self._initialize,
             "initialized": self._start,
             "shutdown": self._shut_down,
@@ -90,7 +87,7 @@ class Server:
             "workspace/didChangeWatchedFiles": self._take_changed_files,
             "workspace/didChangeWorkspaceFolders": self._take_changed_folders,
         }
-        self._requests: dict[str, Callable] = {}
+        self._requests: dict[str, Handler] = {}
         for feature in self._features:
             self._requests.update(feature.handlers())
 
@@ -107,13 +104,17 @@ class Server:
                 continue
             if message is None or isinstance(message, dict) and message.get("method") == "exit":
                 break
-            self._take(message)
+            if isinstance(message, Wake):
+                self._workspace.take_notes(self._checks)
+            else:
+                self._take(message)
             if self._workspace.is_stale and self._messages.is_empty():
                 self._workspace.refresh()
+        self._checks.end()
         self._workspace.end()
         return 0 if self._is_shut_down else 1
 
-    def _take(self, message: dict | JsonRpcException) -> None:
+    def _take(self, message: Message | JsonRpcException) -> None:
         """Lets the endpoint take a message, or answers what is none."""
         if isinstance(message, JsonRpcException):
             self._send({"jsonrpc": "2.0", "id": None, "error": message.to_dict()})
@@ -125,11 +126,11 @@ class Server:
         except Exception:
             logging.exception("a message could not be taken")
 
-    def __getitem__(self, method: str) -> Callable[[dict | None], object]:
+    def __getitem__(self, method: str) -> Callable[[dict[str, Any] | None], object]:
         """What the endpoint calls with the parameters of a message."""
         return partial(self._handle, method)
 
-    def _handle(self, method: str, parameters: dict | None) -> object:
+    def _handle(self, method: str, parameters: dict[str, Any] | None) -> object:
         """Answers a request, or handles a notification. Raises JsonRpcException if the method is unknown, or may not be called now."""
         if not self._is_initialized and method != "initialize":
             raise JsonRpcServerError(f"{method} comes before initialize", SERVER_NOT_INITIALIZED)
@@ -141,14 +142,15 @@ class Server:
             raise JsonRpcMethodNotFound.of(method)
         return self._handlers[method](**(parameters or {}))
 
-    def _initialize(self, rootUri=None, rootPath=None, workspaceFolders=None, capabilities=None, initializationOptions=None, **_) -> dict:
+    def _initialize(self, rootUri: str | None = None, rootPath: str | None = None, workspaceFolders: list[WorkspaceFolder] | None = None,
+                    capabilities: Capabilities | None = None, initializationOptions: object = None, **_: object) -> InitializeResult:
         uris = [folder["uri"] for folder in workspaceFolders or []] or ([rootUri] if rootUri else [])
         self._named = _paths_of(uris)
         if not uris and rootPath:
             self._named = [os.path.abspath(os.fsencode(rootPath))]
         self._editor.take_capabilities(capabilities)
-        self._ignored.files += _texts((initializationOptions or {}).get("ignoreFiles"))
-        told = {
+        self._take_options(initializationOptions)
+        told: Capabilities = {
             "textDocumentSync": {"openClose": True, "change": FULL_TEXT, "save": {"includeText": False}},
             "workspace": {"workspaceFolders": {"supported": True, "changeNotifications": True}, "fileOperations": MOVES},
         }
@@ -157,31 +159,39 @@ class Server:
         self._is_initialized = True
         return {"capabilities": told, "serverInfo": {"name": "actionlint-lsp", "version": version() or "unknown"}}
 
-    def _start(self, **_) -> None:
+    def _take_options(self, options: object) -> None:
+        """Takes what the editor's settings say; the command line's options stay where these say nothing."""
+        given = options if isinstance(options, dict) else {}
+        if isinstance(given.get("shellcheck"), bool):
+            self._checks.is_on = given["shellcheck"]
+        self._ignored.files += _texts(given.get("ignoreFiles"))
+
+    def _start(self, **_: object) -> None:
         if self._editor.watches():
             self._editor.ask_to_watch()
         self._workspace.add_folders(self._named)
 
-    def _shut_down(self, **_) -> None:
+    def _shut_down(self, **_: object) -> None:
         self._is_shut_down = True
 
-    def _open(self, textDocument, **_) -> None:
+    def _open(self, textDocument: TextDocumentItem, **_: object) -> None:
         self._workspace.open(textDocument["uri"], textDocument.get("version"), _bytes_of(textDocument["text"]))
 
-    def _change(self, textDocument, contentChanges, **_) -> None:
+    def _change(self, textDocument: VersionedTextDocumentIdentifier, contentChanges: list[TextDocumentContentChangeEvent],
+                **_: object) -> None:
         if contentChanges:
             self._workspace.change(textDocument["uri"], textDocument.get("version"), _bytes_of(contentChanges[-1]["text"]))
 
-    def _save(self, **_) -> None:
+    def _save(self, **_: object) -> None:
         self._workspace.rescan()
 
-    def _close(self, textDocument, **_) -> None:
+    def _close(self, textDocument: TextDocumentIdentifier, **_: object) -> None:
         self._workspace.close(textDocument["uri"])
 
-    def _take_changed_files(self, changes, **_) -> None:
+    def _take_changed_files(self, changes: list[FileEvent], **_: object) -> None:
         self._workspace.take_changed_files([change["uri"] for change in changes])
 
-    def _take_changed_folders(self, event, **_) -> None:
+    def _take_changed_folders(self, event: WorkspaceFoldersChangeEvent, **_: object) -> None:
         self._workspace.add_folders(_paths_of([folder["uri"] for folder in event.get("added") or []]))
         self._workspace.remove_folders(set(_paths_of([folder["uri"] for folder in event.get("removed") or []])))
 

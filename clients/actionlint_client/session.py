@@ -150,7 +150,7 @@ class Session:
         raise kind(f"{why} (status {self.stop()})")
 
 
-def _started(words: list[str]) -> subprocess.Popen:
+def _started(words: list[str]) -> subprocess.Popen[bytes]:
     try:
         return subprocess.Popen(words, stdin=subprocess.PIPE, stdout=subprocess.PIPE, cwd="/", bufsize=0, start_new_session=True)
     except OSError as error:

@@ -1,34 +1,30 @@
 """Notes of shellcheck on the scripts of files, at their places in the files."""
 from __future__ import annotations
 
-import json
 import os
 import re
-import subprocess
-import tempfile
-from itertools import islice
-from typing import TYPE_CHECKING, Callable, Iterator
+from collections import deque
+from concurrent.futures import Future, ThreadPoolExecutor
+from typing import TYPE_CHECKING, Callable, Iterable, Iterator, NamedTuple
 
 from .disk import MAX_FILE_BYTES, Disk
 from .paths import ACTION_NAMES
 from .problems import Problem
 from .report import Fault
+from .shellcheck_run import PROGRAM, Note, NotChecked, Shellcheck, ShellcheckFailed
 from .text import LINE_BREAK, Places
 
 if TYPE_CHECKING:
     from .scripts import Script
 
-PROGRAM = "shellcheck"
-# A script may read files of other steps and variables of `env`, and a word stands for each expression.
-EXCLUDED = "SC1091,SC2043,SC2050,SC2154,SC2157,SC2194"
-SCRIPTS_OF_A_RUN = 50
-SECONDS_OF_A_RUN = 120
+__all__ = ["ShellcheckFailed", "notes", "notes_of_text", "problem_of_note"]
+SIDE_BY_SIDE = os.cpu_count() or 1
+# Scripts that are being checked, or whose notes wait for those of earlier ones.
+MAX_WAITING = 4 * SIDE_BY_SIDE
+# After so many scripts on which it doesn't end, the rest isn't checked.
+MAX_UNCHECKED = 12
 LEVELS = {"error": "error", "warning": "warning", "info": "note", "style": "note"}
 WIKI = "https://www.shellcheck.net/wiki/"
-
-
-class ShellcheckFailed(Exception):
-    """It can't be started, doesn't end in time, or prints something else than notes."""
 
 
 class SourceFile:
@@ -52,39 +48,91 @@ class SourceFile:
         return (f"{margin} |".encode(), f"{fault.line} | {line}".encode(), marks.encode())
 
 
+class Found(NamedTuple):
+    """A script of a file."""
+
+    source: SourceFile
+    script: Script
+
+    def start(self, message: str) -> Fault:
+        """A fault at its first character."""
+        offset = self.script.offset_of(1, 1)
+        return self.source.fault(offset, offset + 1, message)
+
+
 def notes(root: str, files: list[str], refused: set[str], say: Callable[[str], None]) -> Iterator[Problem]:
     """The notes on all scripts of the files and of what they call, or of all workflows, in the order of the scripts. Files that aren't
-    valid YAML for the linter are skipped, and `say` is told about those that can't be read here."""
+    valid YAML for the linter are skipped, and `say` is told about files that can't be read here and scripts that can't be checked."""
     # (the linter has already said which links it skipped)
     disk = Disk(os.fsencode(root), lambda _: None)
-    found = _scripts(disk, files, refused, say)
-    while some := list(islice(found, SCRIPTS_OF_A_RUN)):
-        for note in sorted(_said_of([script for _, script in some]), key=lambda one: (int(one["file"]), one["line"], one["column"])):
-            yield _problem(note, *some[int(note["file"])])
+    return _problems(_scripts(disk, files, refused, say), lambda fault: say(f"{fault.path}:{fault.line}: {fault.message}"))
 
 
-def _scripts(disk: Disk, files: list[str], refused: set[str], say: Callable[[str], None]) -> Iterator[tuple[SourceFile, Script]]:
-    # Other reports need no PyYAML.
-    from .scripts import NotRead, scripts_and_calls
+def notes_of_text(path: str, data: bytes, tell: Callable[[Fault], None]) -> Iterator[Problem]:
+    """The notes on the scripts of one file with this text, none if it can't be read here. `tell` is told about scripts that can't be
+    checked."""
+    return _problems(_read(path, data, lambda _: None)[0], tell)
 
+
+def _problems(found: Iterable[Found], tell: Callable[[Fault], None]) -> Iterator[Problem]:
+    unchecked = 0
+    for one, result in _checked(found):
+        try:
+            yield from (_problem(note, one) for note in result())
+        except NotChecked as error:
+            unchecked += 1
+            tell(one.start(f"no shellcheck of this script, since {error}"))
+        if unchecked == MAX_UNCHECKED:
+            tell(one.start(f"no shellcheck of later scripts, since there was none of {MAX_UNCHECKED}"))
+            break
+
+
+def _checked(found: Iterable[Found]) -> Iterator[tuple[Found, Callable[[], list[Note]]]]:
+    """The scripts in order, each with a function that waits for its notes. Some are checked side by side."""
+    program, pool = Shellcheck(), ThreadPoolExecutor(SIDE_BY_SIDE)
+    waiting: deque[tuple[Found, Future[list[Note]]]] = deque()
+    try:
+        for one in found:
+            waiting.append((one, pool.submit(program.notes, one.script)))
+            if len(waiting) == MAX_WAITING:
+                first, future = waiting.popleft()
+                yield first, future.result
+        yield from ((first, future.result) for first, future in waiting)
+    finally:
+        program.stop()
+        pool.shutdown(cancel_futures=True)
+
+
+def _scripts(disk: Disk, files: list[str], refused: set[str], say: Callable[[str], None]) -> Iterator[Found]:
+    """The scripts of the files and of what they call, each file once."""
     disk.rescan()
-    waiting = [path.removeprefix("./") for path in files] or sorted(disk.workflows)
+    waiting = deque(dict.fromkeys(path.removeprefix("./") for path in files) or sorted(disk.workflows))
     seen = set(waiting)
     while waiting:
-        path = waiting.pop(0)
+        path = waiting.popleft()
         data = None if path in refused else disk.file(path).data
         if data is None or len(data) > MAX_FILE_BYTES:
             continue
-        try:
-            source = SourceFile(path, data.decode("utf-8"))
-            scripts, calls = scripts_and_calls(source.text)
-        except (NotRead, UnicodeDecodeError) as error:
-            say(f"{path}: no shellcheck, since {error}")
-            continue
-        yield from ((source, script) for script in scripts)
-        called = [path for call in calls for path in _called(call) if path not in seen]
-        seen.update(called)
-        waiting += called
+        found, calls = _read(path, data, say)
+        yield from found
+        for called in (file for call in calls for file in _called(call)):
+            if called not in seen:
+                seen.add(called)
+                waiting.append(called)
+
+
+def _read(path: str, data: bytes, say: Callable[[str], None]) -> tuple[list[Found], list[str]]:
+    """The scripts and the local calls of a file, none if it can't be read here."""
+    # Other reports need no PyYAML.
+    from .scripts import NotRead, scripts_and_calls
+
+    try:
+        source = SourceFile(path, data.decode("utf-8"))
+        scripts, calls = scripts_and_calls(source.text)
+    except (NotRead, UnicodeDecodeError) as error:
+        say(f"{path}: no shellcheck, since {error}")
+        return [], []
+    return [Found(source, script) for script in scripts], calls
 
 
 def _called(call: str) -> list[str]:
@@ -96,36 +144,11 @@ def _called(call: str) -> list[str]:
     return [name] if name.endswith((".yml", ".yaml")) else ["/".join([*parts, file]) for file in ACTION_NAMES]
 
 
-def _said_of(scripts: list[Script]) -> list[dict]:
-    """What shellcheck says about some scripts; `file` is the index of the script."""
-    said: list[dict] = []
-    with tempfile.TemporaryDirectory(prefix="actionlint-") as folder:
-        for number, script in enumerate(scripts):
-            with open(f"{folder}/{number}", "w", encoding="utf-8", newline="") as opened:
-                opened.write(script.text)
-        for shell in sorted({script.shell for script in scripts}):
-            numbers = [str(number) for number, script in enumerate(scripts) if script.shell == shell]
-            said += _json_of([PROGRAM, "--norc", "--format=json1", f"--shell={shell}", f"--exclude={EXCLUDED}", "--", *numbers], folder)
-    return said
+def _problem(note: Note, found: Found) -> Problem:
+    source, script = found
+    fault = source.fault(script.offset_of(note.line, note.column), script.offset_of(note.end_line, note.end_column), note.message)
+    return problem_of_note(fault, note.code, LEVELS[note.level], source.snippet(fault))
 
 
-def _problem(note: dict, source: SourceFile, script: Script) -> Problem:
-    fault = source.fault(script.offset_of(note["line"], note["column"]), script.offset_of(note["endLine"], note["endColumn"]),
-                         note["message"])
-    code = f"SC{note['code']}"
-    return Problem(fault, code, None, source.snippet(fault), LEVELS[note["level"]], WIKI + code)
-
-
-def _json_of(command: list[str], folder: str) -> list[dict]:
-    try:
-        done = subprocess.run(command, cwd=folder, env={**os.environ, "LC_ALL": "C.UTF-8"}, stdin=subprocess.DEVNULL,
-                              stdout=subprocess.PIPE, stderr=subprocess.PIPE, timeout=SECONDS_OF_A_RUN, check=False)
-    except OSError as error:
-        raise ShellcheckFailed(f"cannot start {PROGRAM}: {error.strerror}") from error
-    except subprocess.TimeoutExpired as error:
-        raise ShellcheckFailed(f"{PROGRAM} took more than {SECONDS_OF_A_RUN} seconds") from error
-    try:
-        return json.loads(done.stdout)["comments"]
-    except (ValueError, KeyError, TypeError) as error:
-        said = (done.stderr or done.stdout).decode("utf-8", "replace").strip()[:200]
-        raise ShellcheckFailed(f"{PROGRAM} ended with status {done.returncode}: {said}") from error
+def problem_of_note(fault: Fault, code: str, level: str, snippet: tuple[bytes, ...] = ()) -> Problem:
+    return Problem(fault, code, None, snippet, level, WIKI + code)

@@ -3,6 +3,7 @@ from __future__ import annotations
 
 import re
 from typing import Iterator, NamedTuple
+from urllib.parse import quote
 
 from .paths import is_workflow
 from .project import Project
@@ -142,7 +143,7 @@ def address_of(uses: str) -> str | None:
     if uses.startswith((".", "docker:")) or not owner or not rest or not rest[0] or not ref or "$" in uses or " " in uses:
         return None
     kind = "blob" if rest[-1].endswith((".yml", ".yaml")) else "tree"
-    return "/".join(["https://github.com", owner, rest[0], kind, ref, *rest[1:]])
+    return "https://github.com/" + quote("/".join([owner, rest[0], kind, ref, *rest[1:]]), errors="replace")
 
 
 def folds(project: Project, file: str) -> list[tuple[int, int]]:

@@ -4,6 +4,9 @@ from __future__ import annotations
 import time
 
 from .asked import Asked, asked
+from .characters import shown
+from .protocol import (Capabilities, DocumentLink, DocumentSymbol, FoldingRange, Handler, SymbolInformation,
+                       TextDocumentIdentifier)
 from .structure import Part, folds, links, part_of, parts_with
 from .text import Point
 from .workspace import Workspace
@@ -16,13 +19,14 @@ START = Point(0, 0)
 
 
 class Symbols:
-    capabilities = {"documentSymbolProvider": True, "workspaceSymbolProvider": True, "documentLinkProvider": {"resolveProvider": False},
-                    "foldingRangeProvider": True}
+    capabilities: Capabilities = {
+        "documentSymbolProvider": True, "workspaceSymbolProvider": True, "documentLinkProvider": {"resolveProvider": False},
+        "foldingRangeProvider": True}
 
     def __init__(self, workspace: Workspace):
         self._workspace = workspace
 
-    def handlers(self) -> dict:
+    def handlers(self) -> dict[str, Handler]:
         return {
             "textDocument/documentSymbol": self.of_document,
             "workspace/symbol": self.of_workspace,
@@ -30,37 +34,37 @@ class Symbols:
             "textDocument/foldingRange": self.folds,
         }
 
-    def of_document(self, textDocument, **_) -> list[dict]:
+    def of_document(self, textDocument: TextDocumentIdentifier, **_: object) -> list[DocumentSymbol]:
         place = asked(self._workspace, textDocument)
         part = part_of(place.project, place.file) if place else None
         return [_symbol(place, part)] if place and part else []
 
-    def of_workspace(self, query="", **_) -> list[dict]:
+    def of_workspace(self, query: str = "", **_: object) -> list[SymbolInformation]:
         """The first 1,000 workflows, jobs and steps whose names contain the text, in any case. After a second no more files are read; those
         that were are known the next time."""
-        found: list[dict] = []
+        found: list[SymbolInformation] = []
         end = time.thread_time() + READING_SECONDS
         for repository in self._workspace.repositories():
             for path in sorted(repository.folder.paths()):
                 place = Asked(repository, path, START)
-                found += [{"name": part.name, "kind": KINDS[part.kind], "containerName": part.around,
+                found += [{"name": shown(part.name), "kind": KINDS[part.kind], "containerName": shown(part.around),
                            "location": place.location(part.naming, path)}
                           for part in parts_with(place.project, path, query.lower(), time.thread_time() < end)]
                 if len(found) >= MAX_SYMBOLS:
                     return found[:MAX_SYMBOLS]
         return found
 
-    def links(self, textDocument, **_) -> list[dict]:
+    def links(self, textDocument: TextDocumentIdentifier, **_: object) -> list[DocumentLink]:
         place = asked(self._workspace, textDocument)
         return [{"range": place.range(link.span), "target": link.address or place.repository.uri(link.file or "")}
                 for link in links(place.project, place.file)] if place else []
 
-    def folds(self, textDocument, **_) -> list[dict]:
+    def folds(self, textDocument: TextDocumentIdentifier, **_: object) -> list[FoldingRange]:
         place = asked(self._workspace, textDocument)
         return [{"startLine": first, "endLine": last} for first, last in folds(place.project, place.file)] if place else []
 
 
-def _symbol(place: Asked, part: Part) -> dict:
-    return {"name": part.name, "detail": part.kind, "kind": KINDS[part.kind], "range": place.range(part.span),
+def _symbol(place: Asked, part: Part) -> DocumentSymbol:
+    return {"name": shown(part.name), "detail": part.kind, "kind": KINDS[part.kind], "range": place.range(part.span),
             "selectionRange": place.range(part.naming), "children": [_symbol(place, inner) for inner in part.parts]}
 

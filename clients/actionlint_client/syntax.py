@@ -4,8 +4,9 @@ from __future__ import annotations
 import json
 from functools import lru_cache
 from pathlib import Path as File
-from typing import TYPE_CHECKING
+from typing import TYPE_CHECKING, Any
 
+from .markdown import Markdown
 from .names import names
 from .paths import is_workflow
 
@@ -21,17 +22,23 @@ NO_EXPRESSIONS = {"step": ("uses", "id"), "runs": ("using",)}
 VALUE_WORDS = {"AnyScalar": "text", "NotNull": "text", "Bools": "true or false", "Numbers": "number", "Chunks": "expression"}
 
 
+# A row of the table: what a value may be, as make_tables.py writes it.
+Shape = dict[str, Any]
+
+
 @lru_cache(maxsize=None)
-def table() -> dict[str, dict]:
-    return json.loads(TABLE.read_text(encoding="utf-8"))
+def table() -> dict[str, dict[str, Any]]:
+    found: dict[str, dict[str, Any]] = json.loads(TABLE.read_text(encoding="utf-8"))
+    return found
 
 
-def meaning(heading: str, name: str) -> str | None:
+def meaning(heading: str, name: str) -> Markdown | None:
     """What docs/MEANINGS.md says about a name below a heading."""
-    return table()["meanings"].get(heading, {}).get(name)
+    found: Markdown | None = table()["meanings"].get(heading, {}).get(name)
+    return found
 
 
-def shape_at(file: str, path: Path, levels: tuple[dict[str, str], ...]) -> dict | None:
+def shape_at(file: str, path: Path, levels: tuple[dict[str, str], ...]) -> Shape | None:
     """The shape of the value at a path, or None if it isn't known. `levels` are the keys of each mapping on the way, with texts, which show
     the kind of an action."""
     name: str | None = "Workflow" if is_workflow(file) else "Action"
@@ -43,17 +50,21 @@ def shape_at(file: str, path: Path, levels: tuple[dict[str, str], ...]) -> dict 
         if step is None or name is None:
             break
         name = _below(shapes[name], step)
-    return shapes[name] if name else None
+    found: Shape | None = shapes[name] if name else None
+    return found
 
 
-def _below(shape: dict, step: str | int) -> str | None:
+def _below(shape: Shape, step: str | int) -> str | None:
+    below: str | None
     if isinstance(step, int):
-        return shape["items"]
-    if "keys" not in shape:
-        return shape["free"]
-    if step in shape["keys"]:
-        return shape["keys"][step]["shape"]
-    return "Event" if shape["others"] == "events" and step in names()["events"] else None
+        below = shape["items"]
+    elif "keys" not in shape:
+        below = shape["free"]
+    elif step in shape["keys"]:
+        below = shape["keys"][step]["shape"]
+    else:
+        below = "Event" if shape["others"] == "events" and step in names()["events"] else None
+    return below
 
 
 def key_of(path: Path) -> tuple[Path, str | None]:
@@ -87,7 +98,7 @@ def available(file: str, path: Path, levels: tuple[dict[str, str], ...]) -> tupl
     fitting = [row for row in table()["places"] if _begins(row.split("."), steps)]
     if not fitting:
         return None
-    row = table()["places"][max(fitting, key=lambda row: row.count("."))]
+    row = table()["places"][max(fitting, key=_depth)]
     return row["contexts"], every + row["functions"]
 
 
@@ -100,11 +111,15 @@ def _available_in_action(path: Path, functions: list[str], condition: bool) -> t
     return contexts, [*functions, "hashFiles", *(STATUS_FUNCTIONS if condition else ())]
 
 
+def _depth(row: str) -> int:
+    return row.count(".")
+
+
 def _begins(row: list[str], steps: list[str]) -> bool:
     return len(row) <= len(steps) and all(one in ("*", step) for one, step in zip(row, steps))
 
 
-def value_words(shape: dict | None) -> str:
+def value_words(shape: Shape | None) -> str:
     """What a shape accepts, in a few words."""
     if shape is None:
         return ""

@@ -3,9 +3,9 @@ from __future__ import annotations
 
 from dataclasses import dataclass, field
 from functools import cached_property
-from typing import Iterator, Union
+from typing import Any, Iterator, Union
 
-import yaml
+import yaml  # type: ignore[import]
 
 from .readable import readings
 from .text import Point, Span
@@ -14,7 +14,7 @@ MAX_DEPTH = 200
 STARTS = {yaml.MappingStartEvent: "mapping", yaml.SequenceStartEvent: "sequence"}
 ENDS = (yaml.MappingEndEvent, yaml.SequenceEndEvent)
 # The entries and the items of scalars.
-NOTHING: list = []
+NOTHING: list[Any] = []
 
 Path = tuple[Union[str, int], ...]
 

@@ -3,7 +3,7 @@ from __future__ import annotations
 
 from functools import lru_cache
 
-from .syntax import table
+from .syntax import Shape, table
 
 KINDS_OF_SCALARS = {"Numbers": "number", "Bools": "flag"}
 
@@ -16,7 +16,8 @@ def wanted_under(key: str) -> str | None:
 @lru_cache(maxsize=None)
 def _kinds() -> dict[str, str | None]:
     """The kind of value of each key, None if sections differ."""
-    shapes, found = table()["shapes"], {}
+    shapes = table()["shapes"]
+    found: dict[str, str | None] = {}
     for section in shapes.values():
         if section.get("others") not in (None, "unchecked"):
             for key, row in section["keys"].items():
@@ -25,7 +26,7 @@ def _kinds() -> dict[str, str | None]:
     return found
 
 
-def _kind(shape: dict) -> str | None:
+def _kind(shape: Shape) -> str | None:
     """The only kind that a shape takes. An expression in place of a whole mapping makes no difference."""
     has_keys = shape["free"] is not None or "keys" in shape
     if shape["items"] or has_keys:

@@ -8,6 +8,7 @@ from .diagnostics import Diagnostics
 from .editor import Editor
 from .paths import is_below, is_linted
 from .repository import Document, Repository
+from .script_checks import ScriptChecks
 from .uris import path_of, root_of_file, root_of_folder
 
 RESCAN_SECONDS = 2.0
@@ -88,6 +89,15 @@ class Workspace:
         self.is_stale = False
         for repository in self._repositories.values():
             repository.refresh(self._editor, self._diagnostics)
+
+    def take_notes(self, checks: ScriptChecks) -> None:
+        """Takes the new notes of shellcheck, or says why there are none."""
+        for root, path in checks.take_news():
+            if root in self._repositories:
+                self._repositories[root].show_again(path)
+                self.is_stale = True
+        if why := checks.take_failure():
+            self._editor.say(why)
 
     def wait_seconds(self) -> float | None:
         """How long to wait for a message before looking at the disk, if the editor doesn't watch it, or before starting a linter again that

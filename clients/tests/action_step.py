@@ -96,7 +96,7 @@ def nothing_to_write_sarif_with(program: str) -> None:
     runner = Runner(program, FILES)
     os.mkdir(runner.root + "/bin")
     for command in ("bash", "sh", "env", "head", "od", "tr"):
-        os.symlink(shutil.which(command), f"{runner.root}/bin/{command}")
+        os.symlink(str(shutil.which(command)), f"{runner.root}/bin/{command}")
     status, lines = runner.step(sarif="faults.sarif", path=runner.root + "/bin")
     assert status == 3 and "python3" in lines[2] and any(UNDEFINED in line for line in lines[3:-2]), lines
     assert runner.step(path=runner.root + "/bin")[0] == 1
@@ -105,13 +105,14 @@ def nothing_to_write_sarif_with(program: str) -> None:
 
 @CASES.case
 def lines_that_look_like_commands(program: str) -> None:
-    """Paths and standard error are between the lines that stop and resume commands, from before the first run."""
+    """Paths and standard error are between the lines that stop and resume commands, from before the first run. The report breaks them too,
+    and the linter prints them as they are."""
     path, refused = "::error::x/action.yml", "##[add-mask]x"
     runner = Runner(program, {path: "name: x\n", **FILES})
     status, lines = runner.step(path)
     assert status == 1 and all(line.startswith("::error::x/action.yml:") for line in lines[2:-2]) and len(lines) > 4, lines
     status, lines = runner.step(refused, "faults.sarif")
-    assert status == 3 and lines[2:-2] == [f"actionlint: {refused}: refused E2"] * 2, lines
+    assert status == 3 and lines[2:-2] == [f"actionlint: {text}: refused E2" for text in ("#<U+0023>[add-mask]x", refused)], lines
     shutil.rmtree(runner.root)
 
 

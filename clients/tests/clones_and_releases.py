@@ -97,7 +97,7 @@ def places(program: str) -> tuple[Place, ...]:
         other, theirs = None, room / "theirs"
         shutil.copytree(clone, theirs, symlinks=True)
         subprocess.run(["chmod", "-R", "a-w", theirs, unpacked], check=True)
-        atexit.register(subprocess.run, ["chmod", "-R", "u+w", theirs, unpacked], check=False)
+        atexit.register(lambda: subprocess.run(["chmod", "-R", "u+w", theirs, unpacked], check=False))
     return (Place("clone", clone, carried, None), Place("another user's clone", theirs, carried, other),
             Place("another user's release", unpacked / "share/actionlint", str(unpacked / "bin/actionlint"), other))
 

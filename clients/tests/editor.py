@@ -9,7 +9,7 @@ import sys
 import threading
 import time
 from pathlib import Path
-from typing import BinaryIO
+from typing import Any, BinaryIO
 from urllib.parse import quote_from_bytes, unquote_to_bytes, urlsplit
 
 SERVER = Path(__file__).resolve().parent.parent / "actionlint-lsp"
@@ -23,7 +23,8 @@ class Editor:
                  folder: str | None = None, root_path: str | None = None, settings: dict | None = None):
         """`inherited` are open files with which the server is started, and `folder` is its current one. With `root_path`, the server is
         given the root as such a path, with `{}` in its place, and not as a URI. `settings` are the initialization options."""
-        self.root = root
+        # (a test that reads it has given one)
+        self.root: Any = root
         self.shown: dict[str, dict] = {}
         self.messages: list[str] = []
         self.requests: list[dict] = []
@@ -34,7 +35,7 @@ class Editor:
         self._versions: dict[str, int] = {}
         self._answers: queue.SimpleQueue = queue.SimpleQueue()
         named = [] if program is None else ["--program", program]
-        self.child = subprocess.Popen([sys.executable, str(server), *named, *words], stdin=subprocess.PIPE, stdout=subprocess.PIPE,
+        self.child: Any = subprocess.Popen([sys.executable, str(server), *named, *words], stdin=subprocess.PIPE, stdout=subprocess.PIPE,
                                       env=environment, pass_fds=inherited, cwd=folder)
         threading.Thread(target=self._listen, daemon=True).start()
         uri = "file://" + quote_from_bytes(root) if root and not root_path else None
@@ -78,7 +79,7 @@ class Editor:
         changes = [{"uri": self.uri(path), "type": kind} for path in paths]
         self.notify("workspace/didChangeWatchedFiles", {"changes": changes})
 
-    def hover(self, path: str, line: int, character: int) -> dict | None:
+    def hover(self, path: str, line: int, character: int) -> Any:
         return self.request("textDocument/hover", {"textDocument": {"uri": self.uri(path)},
                                                    "position": {"line": line, "character": character}})["result"]
 
@@ -100,7 +101,7 @@ class Editor:
         """The messages of a file's diagnostics."""
         return [one["message"] for one in self.diagnostics().get(path, [])]
 
-    def request(self, method: str, params: dict | None) -> dict:
+    def request(self, method: str, params: object) -> dict:
         self._ids += 1
         self._send({"jsonrpc": "2.0", "id": self._ids, "method": method, **({} if params is None else {"params": params})})
         while True:
@@ -109,7 +110,7 @@ class Editor:
             if answer["id"] == self._ids:
                 return answer
 
-    def notify(self, method: str, params: dict | None, held: bool = False) -> None:
+    def notify(self, method: str, params: object, held: bool = False) -> None:
         self._send({"jsonrpc": "2.0", "method": method, **({} if params is None else {"params": params})}, held)
 
     def quit(self) -> int:
@@ -166,7 +167,7 @@ def read_message(out: BinaryIO) -> dict | None:
             return None
         if line.startswith(b"Content-Length:"):
             length = int(line.split(b":")[1])
-    return json.loads(out.read(length))
+    return json.loads(out.read(length or 0))
 
 
 def children(pid: int) -> list[int]:

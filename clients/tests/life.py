@@ -13,7 +13,7 @@ import tempfile
 import time
 import traceback
 from types import SimpleNamespace
-from typing import Callable
+from typing import Any, Callable
 
 from cases import Cases
 from clones_and_releases import NOBODY
@@ -22,6 +22,7 @@ from promises import end, save, start
 from repositories import ACTION, CALLED, FILE, FILES, RIGHT, UNDEFINED, WORKFLOWS, WRONG, write
 
 from actionlint_client.actions_on_disk import actions_below
+from actionlint_client.diagnostics import Diagnostics
 from actionlint_client.disk import NOT_REGULAR, OPENED, Disk
 from actionlint_client.uris import path_of
 from actionlint_client.workspace import Workspace
@@ -128,8 +129,9 @@ def many_descriptors(program: str) -> None:
 def the_first_pause_that_ends(_: str) -> None:
     """Among the folders whose linters are paused, the one that may start first doesn't wait for the others."""
     pauses = {b"/nowhere/a": 9.0, b"/nowhere/b": 0.5, b"/nowhere/c": 0.0}
-    workspace = Workspace(lambda root: SimpleNamespace(folder=SimpleNamespace(delay=lambda: pauses[root])),
-                          SimpleNamespace(watches=lambda: True), SimpleNamespace())
+    new: Any = lambda root: SimpleNamespace(folder=SimpleNamespace(delay=lambda: pauses[root]))
+    editor: Any = SimpleNamespace(watches=lambda: True)
+    workspace = Workspace(new, editor, Diagnostics(None))
     workspace.add_folders(list(pauses))
     assert workspace.wait_seconds() == 0.5
     pauses.update(dict.fromkeys(pauses, 0.0))

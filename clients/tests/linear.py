@@ -11,6 +11,7 @@ import random
 import shutil
 import sys
 import tempfile
+from typing import Any
 from pathlib import Path
 
 from cases import Cases
@@ -33,7 +34,7 @@ HEAD = "on: push\njobs:\n  a:\n    runs-on: ubuntu-latest\n    steps:\n"
 FOLDERS = ("a", "b", "d e", "é", ".github/x", "a/b")
 TWO_REQUIRED = "name: A\ndescription: d\ninputs:\n  who: {required: true}\n  what: {required: true}\nruns: {using: node20, main: m.js}\n"
 # Values of `uses`, and the folders of the actions that they name.
-USES = {
+USES: dict[str, list[str] | None] = {
     "./a": ["a"], "./a/": ["a"], "'./a'": ["a"], '"./a"': ["a"], '"\\x2e/a"': ["a"], '"./\\\n          a"': ["a"], "./a # ./b": ["a"],
     "|-\n          ./a": ["a"], "\n          ./a": ["a"], "./d e": ["d e"], "&x ./a": ["a"], "./é": ["é"], "./": [""],
     "'./a\n          b'": ["a b"], "./a, ./b": ["a, ./b"], "././a": [], "./a//b": [], "./../a": [], ".//a": [], "/a": [], "a": [],
@@ -55,7 +56,7 @@ def what_a_file_calls(_: str) -> None:
     for text in NO_CALLS:
         assert callees(FILE, (HEAD + text).encode()) == frozenset(), text
     composite = "name: A\nruns:\n  using: {}\n  steps:\n    - uses: ./a\n"
-    assert len(callees(ACTION, composite.format("composite").encode())) == 2
+    assert len(callees(ACTION, composite.format("composite").encode()) or ()) == 2
     assert callees(ACTION, composite.format("node20").encode()) == callees(FILE, composite.format("composite").encode()) == frozenset()
     for text in ("uses: [", "a: b\n---\nuses: c\n", "? [uses]\n: a\n", "&a uses: b\n", "uses: " + "[" * 65 + "]" * 65, "uses: \t- a: [",
                  "uses: " + "[" * 500_000, "- " * 500_000 + "uses"):
@@ -132,10 +133,11 @@ def many_buffers(program: str) -> None:
     write(root, {path: RIGHT for path in paths})
     looks = []
     rescan = disk.Disk.rescan
-    disk.Disk.rescan = lambda one: (looks.append(1), rescan(one))
+    disk.Disk.rescan = lambda one: [looks.append(1), rescan(one)][-1]
     try:
         linter = Program([program], 20.0)
-        workspace = Workspace(lambda root: Repository(root, Folder(root, linter, print), True), Silent(), Diagnostics(None))
+        silent: Any = Silent()
+        workspace = Workspace(lambda root: Repository(root, Folder(root, linter, print), True), silent, Diagnostics(None))
         for doing in (lambda uri: workspace.open(uri, 1, WRONG.encode()), lambda uri: workspace.change(uri, 2, RIGHT.encode()),
                       lambda uri: workspace.rescan(), workspace.close):
             looks.clear()
@@ -291,8 +293,9 @@ def only_what_changed_is_parsed(_: str) -> None:
     """In a report over 4,096 files with a fault each, only the lines of one file are parsed after it was edited."""
     paths = [f"{WORKFLOWS}{number:04}.yml" for number in range(4_096)]
     form, reader, parsed = Form(set(paths), False, False), FaultReader(), []
-    parse = faults.parse_fault
-    faults.parse_fault = lambda line, *more: (parsed.append(line), parse(line, *more))[1]
+    parser: Any = faults
+    parse = parser.parse_fault
+    parser.parse_fault = lambda line, *more: (parsed.append(line), parse(line, *more))[1]
     try:
         reader.read([b"".join(b"%s:1:1: m [k]\n" % path.encode() for path in paths)], form)
         for number in (0, 1_000, 4_095):
@@ -303,7 +306,7 @@ def only_what_changed_is_parsed(_: str) -> None:
                 assert reader.read([b"".join(lines)], form) == {paths[number]}
                 assert parsed == [line + b" [k]" for line in lines[number].split(b" [k]\n")[:-1]], (number, text, parsed)
     finally:
-        faults.parse_fault = parse
+        parser.parse_fault = parse
 
 
 if __name__ == "__main__":

@@ -8,6 +8,7 @@ from __future__ import annotations
 import os
 import random
 import sys
+from typing import Any
 
 from cases import Cases
 from completion import ACTION, CALLED, FOLDER, Linter, project_of
@@ -236,7 +237,7 @@ def by_the_protocol(program: str) -> None:
     editor = start(program, {**FOLDER, FILE: text})
     editor.open(FILE, text)
     row = next(number for number, line in enumerate(text.split("\n")) if "\U0001F600" in line)
-    position = {"textDocument": {"uri": editor.uri(FILE)}, "position": {"line": row, "character": 35}}
+    position: dict[str, Any] = {"textDocument": {"uri": editor.uri(FILE)}, "position": {"line": row, "character": 35}}
     found = editor.request("textDocument/definition", position)["result"]
     where = {"start": {"line": 12, "character": 6}, "end": {"line": 12, "character": 11}}
     assert found == [{"uri": editor.uri(FILE), "range": where}], found

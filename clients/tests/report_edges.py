@@ -103,15 +103,15 @@ def long_lines(program: str) -> None:
 
 @CASES.case
 def characters(program: str) -> None:
-    """JSON has no character that a reader takes for the end of a line or that changes the direction of text, and the format `text` has none
-    of these characters."""
+    """No form has a character that a reader takes for the end of a line or that changes the direction of text. Messages have code points in
+    their place, also for who reads the JSON."""
     hidden = "".join(chr(one) for one in (0x85, 0x9B, 0x2028, 0x2029, 0x202A, 0x202E, 0x2066, 0x2069))
     path = WORKFLOWS + "\u202ea.yml"
     with new_folder({path: 'on: push\njobs: {}\n"a\\x85\\x9b\\u2028\\u2029\\u202a\\u202e\\u2066\\u2069b": 1\n'}) as folder:
         for form in ("sarif", "jsonl", "codequality"):
             status, text, _ = run(program, folder, "--form", form)
             assert status == 1 and not set(text) & set(hidden), (form, text)
-            assert hidden in json_texts(json.loads(text)), (form, text)
+            assert "a" + "".join(f"<U+{ord(one):04X}>" for one in hidden) + "b" in json_texts(json.loads(text)), (form, text)
         for form in ("text", "oneline"):
             status, text, _ = run(program, folder, "--form", form)
             assert status == 1 and not set(text) & set(hidden) and "<U+202E>a.yml:3:1" in text and "<U+009B><U+2028>" in text, text
@@ -145,12 +145,12 @@ def commands_in_annotations(program: str) -> None:
         status, text, errors = run(program, folder, "--form", "github", "--", path)
         *lines, last = text.splitlines()
         assert status == 1 and not errors and last == "3 faults in 1 file", (text, errors)
-        start = "::error file=%3A%3Aset-output name=x%3A%3A1%2C 50%25/action.yml,line="
-        assert len(lines) == 3 and all(line.startswith(start) for line in lines), lines
-        assert '::unexpected key "##[add-mask]x" [syntax-check]%0A' in lines[-1], lines
+        start = " file=%3A%3Aset-output name=x%3A%3A1%2C 50%25/action.yml,line="
+        assert len(lines) == 3 and all(line.startswith((f"::error{start}", f"::warning{start}")) for line in lines), lines
+        assert '::unexpected key "#<U+0023>[add-mask]x" [syntax-check]%0A' in lines[-1], lines
         status, text, errors = run(program, folder, "--form", "github", "--", "##[add-mask]x")
         assert (status, errors) == (3, "") and text.splitlines() == [
-            "::error title=actionlint::actionlint: ##[add-mask]x: refused E2",
+            "::error title=actionlint::actionlint: #<U+0023>[add-mask]x: refused E2",
             "the faults are unknown: the linter could not go on"], text
 
 

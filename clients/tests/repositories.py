@@ -6,6 +6,7 @@ import re
 import subprocess
 import tempfile
 from pathlib import Path
+from typing import Sequence
 
 CLIENTS = Path(__file__).resolve().parent.parent
 TOP = CLIENTS.parent
@@ -75,7 +76,7 @@ def new_folder(files: dict[str, str]) -> str:
     return root
 
 
-def reported(program: str, root: bytes, files: list[str] = ()) -> list[tuple]:
+def reported(program: str, root: bytes, files: Sequence[str] = ()) -> list[tuple]:
     """(path, line, column, message with kind) of each fault that the linter prints."""
     # The folder is the current one, since the argument of --root must be UTF-8 and its name need not be.
     done = subprocess.run([program, "--oneline", *files], cwd=root, stdout=subprocess.PIPE, stderr=subprocess.PIPE, check=False)
@@ -86,7 +87,7 @@ def reported(program: str, root: bytes, files: list[str] = ()) -> list[tuple]:
 
 def in_characters(diagnostics: dict[str, list[dict]], texts: dict[str, str]) -> list[tuple]:
     """The same of an editor's diagnostics, whose columns are UTF-16 units."""
-    found = []
+    found: list[tuple] = []
     for path in sorted(diagnostics, key=str.encode):
         lines = LINE_BREAK.split(texts[path])
         for one in diagnostics[path]:

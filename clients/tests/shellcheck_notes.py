@@ -11,12 +11,17 @@ import os
 import subprocess
 import sys
 import tempfile
+import time
 from pathlib import Path
+from typing import Any
 
 from cases import Cases
 from repositories import CLIENTS, FILE, TOP, WORKFLOWS, write
 
-from actionlint_client.scripts import NotRead, Script, scripts_and_calls, without_expressions
+from actionlint_client.problems import Problem
+from actionlint_client.report import Fault
+from actionlint_client.scripts import NotRead, Script, scripts_and_calls, variable_of, without_expressions, word_of
+from actionlint_client.shellcheck import notes_of_text
 
 CASES = Cases("shellcheck")
 REPORT = str(CLIENTS / "actionlint-report")
@@ -54,11 +59,64 @@ SHELLS = {
 }
 
 
-def run(program: str, folder: str, *words: str) -> tuple[int, list[dict], str]:
-    """The status, the lines of JSON and standard error."""
+# The shell of a script with `cd a` and `cd ..`, and the codes of its notes: 2103 and 2164 are on what follows a `cd` that fails.
+AS_RUN: dict[str | None, list[str]] = {
+    None: [], "bash": [], "sh": [], "bash -e {0}": [], "bash -euo pipefail {0}": [], "sh -x -e {0}": [], "/bin/bash -o errexit {0}": [],
+    "bash {0}": ["SC2164", "SC2103"], "bash --norc -o pipefail {0}": ["SC2164", "SC2103"], "sh -x {0}": ["SC2164", "SC2103"],
+    "bash --noprofile --norc {0}": ["SC2164", "SC2103"]}
+# Scripts whose only oddities would be those of a word or of a variable: SC2050, 2170, 2193, 2268, 2222, 2043, 2157, 2078, 2086, 2016 ..
+ABOUT_EXPRESSIONS = (
+    '[ "${{ a }}" = main ]', "[ ${{ a }} -eq 1 ]", "[ ${{ a }} = xyz ]", '[ "x${{ a }}" = "x" ]', "test ${{ a }} == true",
+    'case ${{ a }} in b) echo c ;; esac', 'case "$1" in ${{ a }}) echo a ;; ${{ b }}) echo b ;; esac', '[ -n "${{ a }}" ]', "[ ${{ a }} ]",
+    'for i in ${{ a }}; do echo "$i"; done', 'for i in "${{ a }}"; do echo "$i"; done',
+    '[[ ${{ a }} == "${{ b }}" ]]', "[[ ${{ a }} =~ ^v ]]",
+    "echo ${{ a }}", "echo '${{ a }}'", 'printf "${{ a }}"', "rm -rf ${{ a }}/b",
+    "source ${{ a }}", "exit ${{ a }}", "while ${{ a }}; do :; done",
+    "if [ ${{ a }} -gt ${{ b }} ]; then :; fi", 'echo "a "${{ a }}" b"', "cat <<< ${{ a }}", "for ${{ a }} in b c; do :; done")
+ABOUT_OTHERS = {"[ a = main ]": ["SC2050"], "[ a -eq 1 ]": ["SC2170", "SC2050"], "[ -n a ]": ["SC2157"],
+                "for i in a; do echo \"$i\"; done": ["SC2043"],
+                "case a in b) echo c ;; esac": ["SC2194"]}
+# In place of shellcheck: ends itself at some scripts, and at others leaves a process that doesn't end and keeps its output open.
+WRAPPER = """#!/bin/sh
+if grep -q 'kill it' words; then kill -9 $$; fi
+if grep -q 'leave it' words; then cd '{folder}'; sleep 120 & sleep 120; fi
+exec /usr/bin/shellcheck "$@"
+"""
+HANG_SECONDS = 120
+
+
+def run(program: str, folder: str, *words: str, path: str = "") -> tuple[int, list[dict[str, Any]], str]:
+    """The status, the lines of JSON and standard error. `path` comes before the usual PATH."""
     done = subprocess.run([sys.executable, REPORT, "--program", program, "--form", "jsonl", "--shellcheck", *words], cwd=folder,
-                          stdout=subprocess.PIPE, stderr=subprocess.PIPE, check=False)
+                          env={**os.environ, "PATH": path + os.environ["PATH"]}, stdout=subprocess.PIPE, stderr=subprocess.PIPE,
+                          check=False)
     return done.returncode, [json.loads(line) for line in done.stdout.decode().splitlines()], done.stderr.decode()
+
+
+def notes_on(script: str, shell: str | None = None) -> list[Problem]:
+    """The notes on a script in a block, whose later lines are indented by ten."""
+    text = f"{STEPS}      - run: |\n          {script}\n" + (f"        shell: {shell}\n" if shell else "")
+    said: list[Fault] = []
+    found = list(notes_of_text(FILE, text.encode(), said.append))
+    assert not said, (script, said)
+    return found
+
+
+def codes_of(script: str, shell: str | None = None) -> list[str]:
+    return [one.code for one in notes_on(script, shell)]
+
+
+def running_in(folder: str) -> list[str]:
+    """The processes whose current folder is this one or is below it, or was."""
+    found = []
+    for process in Path("/proc").glob("[0-9]*"):
+        try:
+            where, said = os.readlink(process / "cwd"), (process / "cmdline").read_bytes()
+        except OSError:
+            continue
+        if where.startswith(os.path.realpath(folder)) or said.startswith(b"shellcheck"):
+            found.append(f"{process.name}: {said!r} in {where}")
+    return found
 
 
 @CASES.case
@@ -108,8 +166,94 @@ def shells(program: str) -> None:
 @CASES.case
 def expressions(program: str) -> None:
     """Words of the same length replace them; braces in quotes don't end them, and an unclosed one stays."""
-    assert without_expressions("a${{ b }}c ${{ '}}' }}${{ d") == "axxxxxxxxc " + "x" * 11 + "${{ d"
-    assert without_expressions("${{ a\nb }}") == "x" * 10
+    assert without_expressions("a${{ b }}c ${{ '}}' }}${{ d", word_of) == "axxxxxxxxc " + "x" * 11 + "${{ d"
+    assert without_expressions("${{ a\nb }}", word_of) == "x" * 10
+    assert without_expressions("a${{ b }}c ${{}}$${{ d }}", variable_of) == "a${x0___}c ${x1}$${x2___}"
+
+
+@CASES.case
+def as_the_runner_runs_them(program: str) -> None:
+    """The shell ends at the first command that fails, unless `shell` has options without `-e`; the added line changes no place, and takes
+    nothing from a first line of the script's own, or from a directive for the whole script."""
+    for shell, codes in AS_RUN.items():
+        assert codes_of("cd a\n          cd ..\n", shell) == codes, (shell, codes_of("cd a\n          cd ..\n", shell))
+    assert codes_of("! grep -q a b\n          true\n") == ["SC2251"], "with -e, a negated command doesn't end the script"
+    for first, shell in (("#!/bin/sh\n", "bash"), ("#!/usr/bin/env python\n", "sh"), ("true\n", "bash"), ("true\n", "bash {0}")):
+        found = notes_on(f"{first}          echo $x\n", shell)
+        assert [(one.code, one.fault.line, one.fault.column) for one in found] == [("SC2086", 8, 16)], (first, shell, found)
+    assert codes_of("# shellcheck disable=SC2086\n          true\n          echo $x\n") == []
+    assert codes_of("true\n          # shellcheck disable=SC2086\n          echo $x\n          echo $x\n") == ["SC2086"]
+
+
+@CASES.case
+def what_stands_in_place_of_an_expression(program: str) -> None:
+    """Neither a note on constants nor one on variables is about an expression. The same notes are given where there is none."""
+    for script in ABOUT_EXPRESSIONS:
+        assert codes_of(script) == [], (script, codes_of(script))
+    for script, codes in ABOUT_OTHERS.items():
+        assert codes_of(script) == codes, (script, codes_of(script))
+    found = notes_on("for ${{ a }} in b c; do\n          :\n          done\n          echo $x\n")
+    assert [(one.code, one.fault.line, one.fault.column) for one in found] == [("SC2086", 10, 16)], "a variable can't be there"
+    assert codes_of("source ./lib.sh\n          echo \"$FROM_ENV\"") == [], "files and variables come from elsewhere"
+    found = notes_on('[ "${{ a }}" = b ] && echo $x\n')
+    assert [(one.code, one.fault.column) for one in found] == [("SC2086", 38)], found
+
+
+@CASES.case
+def a_script_without_end(program: str) -> None:
+    """shellcheck doesn't end on two of the scripts: they are named, after some seconds, and everything else is reported. Nothing that was
+    started still runs."""
+    endless = "$((" * 20
+    steps = f'      - run: echo $x\n      - run: "{endless}"\n      - run: |\n          true\n          {endless}\n      - run: echo $y\n'
+    with tempfile.TemporaryDirectory(prefix="actionlint-test-") as folder:
+        write(folder, {FILE: STEPS + "      - run: echo ${{ github.reff }}\n" + steps})
+        begun = time.monotonic()
+        status, found, errors = run(program, folder)
+        assert status == 1 and [(one["code"], one["line"]) for one in found] == [("X13", 6), ("SC2086", 7), ("SC2086", 12)], (found, errors)
+        why = "no shellcheck of this script, since shellcheck took more than 4 seconds"
+        assert errors == "".join(f"actionlint-report: {FILE}:{line}: {why}\n" for line in (8, 10)), errors
+        assert time.monotonic() - begun < HANG_SECONDS
+        assert running_in(folder) == []
+
+
+@CASES.case
+def a_script_at_which_it_dies(program: str) -> None:
+    """A shellcheck that starts others, and doesn't end, is ended with them; one that a signal ends loses only its own script."""
+    with tempfile.TemporaryDirectory(prefix="actionlint-test-") as folder:
+        write(folder, {FILE: STEPS + "      - run: echo $x\n      - run: kill it\n      - run: leave it\n      - run: echo $y\n",
+                       "bin/shellcheck": WRAPPER.format(folder=folder)})
+        os.chmod(folder + "/bin/shellcheck", 0o755)
+        status, found, errors = run(program, folder, path=folder + "/bin:")
+        assert status == 1 and [(one["code"], one["line"]) for one in found] == [("SC2086", 6), ("SC2086", 9)], (found, errors)
+        assert errors == (f"actionlint-report: {FILE}:7: no shellcheck of this script, since shellcheck was ended by signal 9\n"
+                          f"actionlint-report: {FILE}:8: no shellcheck of this script, since shellcheck took more than 4 seconds\n"), errors
+        assert running_in(folder) == []
+
+
+@CASES.case
+def many_scripts_without_end(program: str) -> None:
+    """After twelve, the rest isn't checked, and that is said."""
+    with tempfile.TemporaryDirectory(prefix="actionlint-test-") as folder:
+        write(folder, {FILE: STEPS + "      - run: kill it\n" * 14 + "      - run: echo $x\n",
+                       "bin/shellcheck": WRAPPER.format(folder=folder)})
+        os.chmod(folder + "/bin/shellcheck", 0o755)
+        status, found, errors = run(program, folder, path=folder + "/bin:")
+        *named, last = errors.splitlines()
+        assert (status, found) == (0, []) and len(named) == 12, (status, found, errors)
+        assert last == f"actionlint-report: {FILE}:17: no shellcheck of later scripts, since there was none of 12", last
+
+
+@CASES.case
+def each_file_once(program: str) -> None:
+    """However often a file is called, named or called by another spelling, its notes come once."""
+    action = "name: a\ndescription: b\nruns:\n  using: composite\n  steps:\n    - run: echo $x\n      shell: sh\n"
+    with tempfile.TemporaryDirectory(prefix="actionlint-test-") as folder:
+        write(folder, {FILE: STEPS + "      - uses: ./a\n" * 3 + "      - uses: ./a/\n",
+                       WORKFLOWS + "b.yml": STEPS + "      - uses: ./a\n" * 2, "a/action.yml": action})
+        for words in ((), ("--", FILE), ("--", FILE, "./" + FILE, FILE), ("--", "a/action.yml", FILE),
+                      ("--", "a/action.yml", "./a/action.yml", "a/action.yml")):
+            _, found, errors = run(program, folder, *words)
+            assert [(one["path"], one["code"]) for one in found] == [("a/action.yml", "SC2086")] and not errors, (words, found, errors)
 
 
 @CASES.case

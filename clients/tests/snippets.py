@@ -21,7 +21,7 @@ from clones_and_releases import ANYWHERE, Place, Room, in_each_clone, in_each_pl
 from editors import in_terminal
 from repositories import CLIENTS, FILE, FILES, RIGHT, TOP, UNDEFINED, WORKFLOWS, git, reported, write
 
-import yaml
+import yaml  # type: ignore[import]
 
 CASES = Cases("snippets")
 PAGES = ("README.md", "docs/EDITORS.md", "docs/CI.md", "docs/COMMAND-LINE.md")
@@ -144,7 +144,8 @@ def short_workflow(place: Place) -> None:
 
 @in_each_place(CASES)
 def scanning(place: Place) -> None:
-    run_workflow(place, *snippets()["scanning"], uploaded="actionlint.sarif")
+    (text,) = snippets()["scanning"]
+    run_workflow(place, text, uploaded="actionlint.sarif")
 
 
 @CASES.case
@@ -168,7 +169,7 @@ def run_workflow(place: Place, text: str, uploaded: str | None = None) -> None:
                 status, said = run_action(place, room, step.get("with", {}))
                 assert status == 1 and f"{FILE}:6:30: {UNDEFINED}" in said.splitlines(), (status, said)
             elif name == "github/codeql-action/upload-sarif":
-                assert step["with"] == {"sarif_file": uploaded} and "X13" in Path(room.root, uploaded).read_text(encoding="utf-8")
+                assert step["with"] == {"sarif_file": uploaded} and "X13" in Path(room.root, uploaded or "").read_text(encoding="utf-8")
             else:
                 assert name == "actions/checkout", name
 

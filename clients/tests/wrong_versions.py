@@ -1,7 +1,7 @@
 #!/usr/bin/env python3
 """Mutations of the clients: each is one edit of a copy, and the test in its row, which passes here, has to fail there.
 
-    wrong_versions.py PROGRAM [NAME...]
+    wrong_versions.py PROGRAM [NAME...]         NAME can also be `shellcheck` or `mypy`: the rows whose tests need it, which run only so
 """
 from __future__ import annotations
 
@@ -159,14 +159,15 @@ WRONG_VERSIONS = {name: WrongVersion(*row) for name, *row in (
      'return os.fsencode(word).decode("utf-8", "replace")', "return word"),
     ("a_pipe_is_replaced_by_the_report", "output.py", "report_edges.py odd_files_to_write", "if not stat.S_ISREG(mode):", "if False:"),
     ("brackets_are_links", "sarif.py", "report_edges.py links_in_messages", r'SPECIAL.sub(r"\\\g<0>", text)', "text"),
-    ("characters_that_change_the_direction_stay", "characters.py", "report_edges.py characters", "\\u202a-\\u202e", ""),
+    ("characters_that_change_the_direction_stay", "characters.py", "report_edges.py characters", "\\u2028-\\u202e", "\\u2028\\u2029"),
     ("a_comma_ends_a_path", "forms.py", "report_edges.py commands_in_annotations", '.replace(",", "%2C")', ""),
     ("what_is_ignored_counts", "convert.py", "report_forms.py ignored_faults", "if ignored.has(problem):", "if False:"),
     ("columns_of_sarif_are_units", "sarif.py", "reports.py", '"columnKind": "unicodeCodePoints"', '"columnKind": "utf16CodeUnits"'),
     ("a_run_that_failed_is_clean", "sarif.py", "reports.py", '"executionSuccessful": outcome.is_known()', '"executionSuccessful": True'),
     ("a_linter_that_is_not_loaded_finds_nothing", "lint_run.py", "report_edges.py programs_that_are_not_the_linter",
      "if self.status in (0, 1) and self.status != has_faults:", "if False:"),
-    ("errors_that_are_full_change_the_status", "console.py", "report_edges.py closed_or_full_errors", "return len(data)", "raise"),
+    ("errors_that_are_full_change_the_status", "console.py", "report_edges.py closed_or_full_errors",
+     "except OSError:\n            return size", "except OSError:\n            raise"),
     ("what_may_not_be_read_is_absent", "disk.py", "life.py what_may_not_be_read",
      "return () if error.errno in ABSENT else (None, error.errno)", "return ()"),
     ("a_run_that_failed_has_an_empty_report", "convert.py", "report_edges.py the_old_report_stays_whole",
@@ -189,7 +190,7 @@ WRONG_VERSIONS = {name: WrongVersion(*row) for name, *row in (
     ("every_colon_is_that_of_a_key", "advice.py", "report_forms.py advice",
      'return _character(problem) == ":" and KEY_BEFORE_COLON.fullmatch(_before(problem)) is not None', 'return _character(problem) == ":"'),
     ("annotations_have_no_fix", "forms.py", "first_fixes.py in_each_form", "*advice(problem)]))", "sentence(problem)]))"),
-    ("lines_of_json_have_no_fix", "forms.py", "first_fixes.py as_in_the_editor", '"fix": problem.fix and problem.fix.title', '"fix": None'),
+    ("lines_of_json_have_no_fix", "forms.py", "first_fixes.py as_in_the_editor", '"fix": problem.fix and shown(problem.fix.title)', '"fix": None'),
     ("code_quality_has_no_advice", "forms.py", "first_fixes.py in_each_form",
      "if (said := advice(problem)) else {}", "if (said := []) else {}"),
     ("the_terminal_obeys_one_line", "forms.py", "report_edges.py characters",
@@ -226,7 +227,7 @@ WRONG_VERSIONS = {name: WrongVersion(*row) for name, *row in (
     ("files_that_are_not_open_keep_their_faults", "repository.py", "ignore_files.py a_file_that_changes",
      "paths |= self._shown.keys() | self.result.faults.keys()", "pass"),
     ("the_setting_is_not_read", "server.py", "ignore_files.py by_a_setting",
-     'initializationOptions or {}).get("ignoreFiles")', 'initializationOptions or {}).get("")'),
+     'given.get("ignoreFiles")', 'given.get("")'),
     ("any_program_is_the_linter", "lint_run.py", "applied_fixes.py runs_that_cannot_go_on",
      "if self.status == 0 and not _is_linter(self._program):", "if False:"),
     ("ignored_faults_are_fixed", "fixing.py", "applied_fixes.py what_is_left_alone",
@@ -265,6 +266,80 @@ WRONG_VERSIONS = {name: WrongVersion(*row) for name, *row in (
      """printf '%s/%s\\n' "${ROOT%/}" "$line\"""", """printf '%s\\n' "$line\""""),
     ("the_action_ignores_nothing", "../github/run", "action_step.py ignored_faults", 'if [ ${#extra[@]} != 0 ]; then', "if false; then"),
     ("the_action_hides_a_status", "../github/run", "action_step.py a_root", 'return "${PIPESTATUS[0]}"', "return 0"),
+    # Texts of strangers.
+    ("markdown_of_strangers_is_obeyed", "markdown.py", "strangers.py markdown_of_strangers",
+     'return SIGNS.sub(r"\\\\\g<0>", shown(text))', "return shown(text)"),
+    ("a_line_can_begin_a_list", "markdown.py", "strangers.py markdown_of_strangers",
+     'return FIRST_SIGN.sub(r"\\1\\\\\\2", ', "return ("),
+    ("addresses_become_links", "markdown.py", "strangers.py markdown_of_strangers", "code(found[0])]", "_escaped_words(found[0])]"),
+    ("code_ends_at_the_first_backquote", "markdown.py", "strangers.py markdown_of_strangers", '"`" * (1 + max(', '"`" * min(1, 1 + max('),
+    ("plain_text_has_backslashes", "markdown.py", "strangers.py hovers_and_completion", "else plain(markdown)", "else markdown"),
+    ("descriptions_are_markdown", "completion.py", "strangers.py hovers_and_completion",
+     'escaped_or_none(one.value.text("description"))', 'Markdown(one.value.text("description") or "")'),
+    ("labels_have_controls", "completing.py", "strangers.py hovers_and_completion", '"label": shown(offer.label)', '"label": offer.label'),
+    ("names_end_their_code", "explanations.py", "strangers.py hovers_and_completion",
+     "head = code(offer.label)", 'head = f"`{offer.label}`"'),
+    ("messages_have_hidden_characters", "forms.py", "strangers.py every_form",
+     '"message": shown(fault.message)', '"message": fault.message'),
+    ("sarif_has_hidden_characters", "sarif.py", "strangers.py every_form", '"\\n".join(map(shown, text.split("\\n")))', "text"),
+    ("a_joiner_is_text_everywhere", "characters.py", "strangers.py characters_that_are_not_text", "{HIDDEN}]|{JOINER}\")\nIN_A_LINE",
+     "{HIDDEN}]\")\nIN_A_LINE"),
+    ("commands_in_json", "characters.py", "strangers.py commands_to_runners", "|(?<=#)#", ""),
+    ("commands_in_lines", "characters.py", "strangers.py commands_to_runners", "(?<=#)#(?=\\w*\\[)|", ""),
+    ("a_path_begins_a_command", "characters.py", "strangers.py commands_to_runners", "|\\A\\s*:(?=:)", ""),
+    ("symbols_have_controls", "symbols.py", "strangers.py names_in_an_editor",
+     '"name": shown(part.name), "detail"', '"name": part.name, "detail"'),
+    ("titles_change_the_direction", "actions.py", "strangers.py names_in_an_editor", "shown(fix.repair.title)", "fix.repair.title"),
+    ("diagnostics_change_the_direction", "diagnostics.py", "strangers.py names_in_an_editor",
+     "{shown(fault.message)} [{fault.kind}]", "{fault.message} [{fault.kind}]"),
+    ("refusals_change_the_direction", "navigation.py", "strangers.py names_in_an_editor", "shown(str(refusal))", "refusal"),
+    ("links_have_quotes", "structure.py", "strangers.py addresses_of_links",
+     "quote(\"/\".join([owner, rest[0], kind, ref, *rest[1:]]), errors=\"replace\")",
+     '"/".join([owner, rest[0], kind, ref, *rest[1:]])'),
+    # shellcheck.
+    ("scripts_go_on_after_failures", "shellcheck_run.py", "shellcheck_notes.py as_the_runner_runs_them",
+     "    if not script.ends_at_failure:\n        return text\n", "    if True:\n        return text\n"),
+    ("options_of_a_shell_mean_nothing", "shells.py", "shellcheck_notes.py as_the_runner_runs_them",
+     "    if not options:\n        return True\n", "    return True\n"),
+    ("the_added_line_moves_notes", "shellcheck_run.py", "shellcheck_notes.py as_the_runner_runs_them", "added = 1 if", "added = 0 if"),
+    ("a_first_line_of_its_own_moves_notes", "shellcheck_run.py", "shellcheck_notes.py as_the_runner_runs_them",
+     ' and not script.text.startswith("#!") else 0', " else 0"),
+    ("variables_come_from_the_script", "shellcheck_run.py", "shellcheck_notes.py what_stands_in_place_of_an_expression",
+     '"SC1091,SC2154"', '"SC1091"'),
+    ("files_are_there", "shellcheck_run.py", "shellcheck_notes.py what_stands_in_place_of_an_expression",
+     '"SC1091,SC2154"', '"SC2154"'),
+    ("notes_are_on_words", "shellcheck_run.py", "shellcheck_notes.py what_stands_in_place_of_an_expression",
+     "note.place() for note in variables}", "note.place() for note in words}"),
+    ("prefixes_have_no_purpose", "shellcheck_run.py", "shellcheck_notes.py what_stands_in_place_of_an_expression",
+     "note.code == ABOUT_PREFIXES and _touches(note, computed)", "False"),
+    ("where_a_variable_can_not_be_nothing_is_noted", "shellcheck_run.py", "shellcheck_notes.py what_stands_in_place_of_an_expression",
+     "if _is_unread(variables) and not _is_unread(words):", "if False:"),
+    ("a_container_has_bash", "shells.py", "shellcheck_notes.py shells", 'return "sh"', 'return "bash"'),
+    ("one_script_takes_the_report", "shellcheck_run.py", "shellcheck_notes.py a_script_without_end",
+     'raise NotChecked(f"{PROGRAM} took more', 'raise ShellcheckFailed(f"{PROGRAM} took more'),
+    ("what_it_started_goes_on", "shellcheck_run.py", "shellcheck_notes.py a_script_at_which_it_dies",
+     "os.killpg(child.pid,", "os.kill(child.pid,"),
+    ("each_call_is_read", "shellcheck.py", "shellcheck_notes.py each_file_once", "if called not in seen:", "if True:"),
+    ("each_word_is_read", "shellcheck.py", "shellcheck_notes.py each_file_once", "dict.fromkeys(path.removeprefix", "list(path.removeprefix"),
+    ("scripts_without_end_have_no_end", "shellcheck.py", "shellcheck_notes.py many_scripts_without_end",
+     "if unchecked == MAX_UNCHECKED:", "if False:"),
+    ("notes_stay_when_the_text_changes", "script_checks.py", "shellcheck_server.py notes_with_the_faults",
+     "if known is not None and known[0] == data:", "if known is not None:"),
+    ("notes_are_all_warnings", "diagnostics.py", "shellcheck_server.py notes_with_the_faults",
+     "INFORMATION if note.level == NOTE else WARNING", "WARNING"),
+    ("a_check_of_an_old_text_goes_on", "script_checks.py", "shellcheck_server.py no_answer_waits", "self._child.terminate()", "pass"),
+    ("scripts_are_always_checked", "server.py", "shellcheck_server.py off_unless_asked_for",
+     "self._checks.is_on = options.shellcheck", "self._checks.is_on = True"),
+    ("settings_turn_nothing_off", "server.py", "shellcheck_server.py off_unless_asked_for",
+     "self._checks.is_on = given[", "self._checks.is_on |= given["),
+    ("what_is_no_yaml_is_checked", "repository.py", "shellcheck_server.py what_is_no_yaml", " or is_no_yaml(found):\n            return ()",
+     ":\n            return ()"),
+    ("a_check_outlives_the_server", "server.py", "shellcheck_server.py the_end_of_the_server", "self._checks.end()", "pass"),
+    ("a_failure_is_told_each_time", "script_checks.py", "shellcheck_server.py a_shellcheck_that_fails", " and why != self._failure:", ":"),
+    # Types.
+    ("a_severity_is_a_text", "protocol.py", "types_of_clients.py what_is_written", "severity: int", "severity: str"),
+    ("a_position_has_a_column", "positions.py", "types_of_clients.py what_is_written",
+     '{"line": point.line, "character": column', '{"line": point.line, "column": column'),
     ("properties_are_cut_anywhere", "place.py", "hostile.py each_request_at_each_text", r"(?:[&!]\S+(?:\s+|$))*", r"(?:[&!]\S+\s*)*"),
     ("jobs_have_the_parts_of_their_anchor", "structure.py", "navigation.py parts",
      'value.get("steps") if value.alias is None else None', 'value.get("steps")'),
@@ -337,7 +412,7 @@ WRONG_VERSIONS = {name: WrongVersion(*row) for name, *row in (
      "(one, other) for one in left for other in right",
      "(one, other) for one in left[:1] for other in right[:1]"),
     ("only_the_linters_activity_types_are_offered", "sections.py", "completion.py by_place",
-     'or github()["activity types"].get(event, ())', "or ()"),
+     ' or github()["activity types"].get(event) or []', " or []"),
     ("mappings_begin_beside_their_key", "completion.py", "completion.py values_on_lines_of_their_own",
      'or shape["scalars"] not in NO_SCALARS:', "or True:"),
     ("entries_begin_without_a_dash", "completion.py", "completion.py values_on_lines_of_their_own",
@@ -394,6 +469,8 @@ WRONG_VERSIONS = {name: WrongVersion(*row) for name, *row in (
     ("calls_are_read_otherwise", "calls.py", "linear.py what_a_file_calls",
      'texts = readings(data.decode("utf-8"))', 'texts = iter([data.decode("utf-8")])'),
 )}
+# The rows whose tests need more than the libraries of the server.
+TOOLS = {"shellcheck": "shellcheck_", "mypy": "types_of_clients"}
 
 
 def edited_copy(version: WrongVersion, top: str) -> Path:
@@ -430,10 +507,18 @@ def line_of(name: str, program: str) -> str:
     return line if refused else f"{line}\n  {WRONG_VERSIONS[name].test} did not fail"
 
 
+def rows_of(tool: str | None) -> list[str]:
+    """The rows whose tests need a tool, or none of them."""
+    needed = {name: next((one for one, start in TOOLS.items() if version.test.startswith(start)), None)
+              for name, version in WRONG_VERSIONS.items()}
+    return [name for name, one in needed.items() if one == tool]
+
+
 def main(words: list[str]) -> int:
     # In parallel, since they mostly wait.
+    names = [name for word in words[1:] for name in (rows_of(word) if word in TOOLS else [word])] or rows_of(None)
     with ThreadPoolExecutor(max_workers=SIDE_BY_SIDE) as pool:
-        lines = list(pool.map(line_of, words[1:] or WRONG_VERSIONS, itertools.repeat(os.path.abspath(words[0]))))
+        lines = list(pool.map(line_of, names, itertools.repeat(os.path.abspath(words[0]))))
     print("\n".join(lines))
     return 1 if any(" output=wrong " in line for line in lines) else 0
 
