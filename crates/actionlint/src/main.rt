@@ -44,7 +44,7 @@ fn say_unreadable(rt: &HostRuntime, kind: ErrorKind) -> u8 {
     if kind == ErrorKind::OutOfMemory {
         return say_stop(rt, Stop::Memory);
     }
-    say(rt, "arguments are not valid UTF-8");
+    say(rt, "the words of the command line are not text");
     BAD_WORDS
 }
 
@@ -94,9 +94,7 @@ fn lint_folder(rt: &HostRuntime, words: &Words) -> u8 {
         Err(unread) => return say_unread(rt, unread),
     };
     for path in &gathered.outside {
-        let _ = eprintln!(rt;
-            "actionlint: skipped {path}: symbolic link points outside the folder"
-        );
+        let _ = eprintln!(rt; "actionlint: passed over {path}, which leads out of the folder");
     }
     match lint_files(rt, gathered.files, words.oneline) {
         Ok(status) => status,

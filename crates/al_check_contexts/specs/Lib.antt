@@ -8,3 +8,4 @@ pub mod Steps
 pub mod Table
 pub mod Environments
 pub mod Private
+pub mod Rows

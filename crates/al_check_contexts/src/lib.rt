@@ -13,7 +13,8 @@ mod scopes;
 mod sections;
 mod start;
 mod steps;
+mod worked;
 
 pub use env::{Env, File};
 pub use known::{Answer, Answers};
-pub use scopes::available_at;
+pub use worked::rows;

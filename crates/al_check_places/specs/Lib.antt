@@ -5,3 +5,4 @@ pub mod Positions
 pub mod Places
 pub mod Laws
 pub mod Private
+pub mod Rows

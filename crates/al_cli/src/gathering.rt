@@ -65,7 +65,7 @@ impl<T: Drop> From<AllocFailed<T>> for Unread {
 /// The files that a run without a script lints, each with its path and its bytes: those that the words name, or else all
 /// workflows of the folder in order of path; and then, one after another, each file that those before it call and that is
 /// there. Of what the folder lists only regular files are taken, with links followed; anything else of a name can't be read. A
-/// listed or called file whose symbolic links point outside the folder is skipped, and can't be read where the words name it. Each path
+/// listed or called file to which links lead out of the folder is passed over, and can't be read where the words name it. Each path
 /// is in the list once, and [`lint_all`](crate::lint_all) refuses none of the files; the folder that they make there is the one that
 /// [`load`] answers.
 ///
@@ -90,7 +90,7 @@ pub fn gather<R: Files + AllocGlobal + Clone + Drop>(
     Ok(gathering.files.into_list()?)
 }
 
-/// The same files, read and not checked yet, and the paths that were skipped.
+/// The same files, read and not checked yet, and the paths that were passed over.
 ///
 /// # Errors
 ///
@@ -297,7 +297,7 @@ impl Gathering {
         }
     }
 
-    // Skips a path whose symbolic links point outside the folder, for good.
+    // Skips a path that leads out of the folder, for good.
     fn pass_over(&mut self, path: &str) -> Result<(), Unread>
         ensures files { (self.new).files ≡ (self.old).files }
         ensures waiting { (self.new).candidates.waiting.keys

@@ -1,5 +1,4 @@
-//! One YAML scalar: its style, its class, and its decoded text, each byte of which has the file
-//! offset it came from.
+//! One YAML scalar: its style, its class, and its decoded text, each byte of which has the file offset it came from.
 #![tactic(auto)]
 
 mod block;

@@ -2,4 +2,3 @@
 pub mod Lists
 pub mod Edits
 pub mod Graphs
-pub mod Printing

@@ -5,7 +5,7 @@ ghost use Rattle.std.specs.Option.{option_copied, option_map};
 ghost use Rattle.al_base.specs.Counted.{count_after};
 ghost use Rattle.al_session_folder.specs.Folder.{bytes_at, put_refusal, refusal_or_memory, with_file};
 ghost use Rattle.al_session_folder.specs.Kept.{folder_of};
-ghost use Rattle.al_lint.specs.Meaning.{IsUpTo};
+ghost use Rattle.al_session_folder.specs.Meaning.{IsUpTo};
 ghost use Rattle.al_session.specs.Builder.{IsLoaded};
 ghost use Rattle.al_session.specs.Private.Edits.{IsAllowed};
 ghost use Rattle.al_session.specs.Session.{IsLinted, folder_in};

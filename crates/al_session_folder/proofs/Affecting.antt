@@ -21,7 +21,7 @@ use Rattle.std.specs.BTreeMap.{is_at}
 use Rattle.std.proofs.lemmas.Bool.{both_ways, cond-true, cond-false, cond_both, false_from_ne_true, or_left, or_right}
 use Rattle.std.proofs.lemmas.Map.Text.{is_eq-slice_cmp}
 use Rattle.std.proofs.lemmas.Cmp.{nat_list_cmp_total, nat_list_eq_equiv}
-use Rattle.al_lint.specs.Meaning.{Meaning, candidates, is_candidate}
+use Rattle.al_session_folder.specs.Meaning.{Meaning, candidates, is_candidate}
 use Rattle.std.proofs.lemmas.List.Folds.{list_any-append}
 use Rattle.al_session_folder.specs.Folder.{Folder, without_file, bytes_at, paths_of, interface_in, find_map, answer}
 use Rattle.al_session_folder.specs.Affected.{is_untouched, affected_paths, is_affected, is_among}
@@ -29,7 +29,7 @@ use Rattle.al_session_folder.specs.FolderViews.{FolderChange, IsChange, affected
 use Rattle.al_session_folder.specs.Kept.{Callers, Files, IsCallerIndex, file_at, folder_of, is_caller, with_bytes_at}
 use Rattle.al_base.specs.InOrder.{in_order}
 use Rattle.al_base.proofs.InOrder.{Contains-from_in_order, Contains-in_order, IsStrictlySortedBy-in_order}
-use Rattle.al_lint.specs.declared.lint.Target.{Target}
+use Rattle.al_session_folder.specs.declared.lint.Target.{Target}
 use Rattle.al_session_folder.proofs.Places.{sorted_put}
 use Rattle.al_session_folder.proofs.Views.{bytes_changed, bytes_kept, bytes_same, bytes_self, kept_at, none_after}
 

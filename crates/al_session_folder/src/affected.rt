@@ -14,10 +14,10 @@ ghost use Rattle.al_session_folder.specs.Kept.{IsCallerIndex, IsView};
 ghost use Rattle.al_session_folder.specs.FolderViews.{affected_by, change_of, changed_by};
 
 use crate::kept::{Callers, Files, KeptFile};
-use crate::paths::put_paths_in_order;
+use crate::lint::{Lint, Target};
+use crate::paths::{owned_path, put_paths_in_order};
 use crate::view::FolderView;
 use al_base::Path;
-use al_lint::{Lint, Target, owned_path};
 use std::alloc::{AllocError, Global};
 use std::marker::Model;
 

@@ -2,11 +2,11 @@
 
 ghost use Rattle.std.specs.Prelude.{◌≡◌, ℕ, List, [], ◌∷◌, Bool, true, not, ◌&&◌, ◌||◌, bytes_eq, cond, IfOk, OnOk, OnErr};
 ghost use Rattle.indexmap.specs.IndexSet.{contains_text};
-ghost use Rattle.al_lint.specs.Meaning.{is_candidate};
+ghost use Rattle.al_session_folder.specs.Meaning.{is_candidate};
 ghost use Rattle.al_session_folder.specs.Kept.{is_caller};
 
 use crate::kept::Callers;
-use al_lint::Target;
+use crate::lint::Target;
 use indexmap::IndexSet;
 use std::alloc::{AllocError, Global};
 

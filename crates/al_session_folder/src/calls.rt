@@ -5,7 +5,7 @@ ghost use Rattle.al_session_folder.specs.Kept.{AreCalls};
 
 use crate::callers::candidates_of;
 use crate::kept::Calls;
-use al_lint::Target;
+use crate::lint::Target;
 use std::alloc::AllocError;
 
 /// The calls of a file with these targets, in order.

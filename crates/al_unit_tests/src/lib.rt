@@ -3,6 +3,8 @@
 #![tactic(auto)]
 
 #[cfg(test)]
+mod calls;
+#[cfg(test)]
 mod declared;
 #[cfg(test)]
 mod documents;
@@ -12,8 +14,6 @@ mod files;
 mod formats;
 #[cfg(test)]
 mod graphs;
-#[cfg(test)]
-mod interfaces;
 #[cfg(test)]
 mod longest_text;
 #[cfg(test)]

@@ -3,9 +3,9 @@
 use crate::files::{document, env_at, nothing_known};
 use al_check_contexts::File;
 use al_check_places::{available, placed_scalars, rows};
-use al_expr_names::{Available, CONTEXTS, SPECIAL_FUNCTIONS};
 use al_expr_typing::Scope;
 use al_tree::FileKind;
+use al_types::{Available, CONTEXTS, SPECIAL_FUNCTIONS};
 use std::alloc::{AllocError, Global};
 
 const WORKFLOW: &[u8] = b"name: '${{ anything }}'

@@ -1,3 +1,0 @@
-pub mod Names
-pub mod Scopes
-pub mod Signatures

@@ -1,4 +1,0 @@
-pub mod Meaning
-pub mod Sites
-pub mod Targets
-pub mod Proofs
