@@ -1,7 +1,7 @@
 """Compares the pages of faults with the code, the definitions and the cases of tests/faults.cases: fault_pages.py TOP [--write].
 
-Each fault code of al_base has a comment with its identifier (`/// K2: ..`), that number in specs/Codes.antt, a row in specs/Wordings.antt of
-al_text, and one entry on a page docs/FAULTS*.md (tests/fault_entries.py) with the row's message, why it matters, its repair, and a diff whose lines are those of its
+Each fault code of al_base has a comment with its identifier (`/// K2: ..`), the row with that number in specs/Codes.antt, and one entry on
+a page docs/FAULTS*.md (tests/fault_entries.py) with the row's message, why it matters, its repair, and a diff whose lines are those of its
 cases. docs/FAULTS.md has indexes by code and by message, which `--write` rewrites, and docs/READING.md has a table of the definitions that
 decide each fault, all of which exist.
 """
@@ -14,9 +14,8 @@ from fault_entries import cases_of_entries, entries, files_of, report_of
 
 CODE = re.compile(r"/// ([YKGXC][0-9]+): .*\n\s+([A-Za-z0-9]+),")
 DECIDED = re.compile(r"^\| `(\w+/specs/\w+\.antt)` \| (.*) \|$", re.MULTILINE)
-NUMBER = re.compile(r"^code_place \(C\.(\w+) (\w+)(?: by)?\) = (?:2 \* )?(\d+)(?: \+ turn by)?$", re.MULTILINE)
-ROW = re.compile(r"^code_row \(C\.(\w+) (\w+)(?: by)?\) = (\w+)(?: by)? (.*)$", re.MULTILINE)
-EVERY_KIND = re.compile(r'^(\w+) = row "(.*)"$', re.MULTILINE)  # of all rows that this makes
+ROW = re.compile(r"^code_row \(C\.(\w+) (\w+)(?: by)?\) = (\w+)(?: by)? (\d+) (.*)$", re.MULTILINE)
+EVERY_KIND = re.compile(r'^(\w+) number = row number "(.*)"$', re.MULTILINE)  # of all rows that this makes
 CALL_KIND = re.compile(r'^call_kind caller\.\w+ = "(.*)"$', re.MULTILINE)
 LETTERS = {"Yaml": "Y", "Key": "K", "Rule": "G", "Expression": "X", "Call": "C"}
 NO_ROW: tuple[str, str, list[str]] = "", "", []
@@ -36,15 +35,13 @@ def codes(top):
 
 def tables(top):
     """The row of each variant, by letter and name: the number, the words of its message, and its kinds."""
-    numbers = {(group, variant): number
-               for group, variant, number in NUMBER.findall((top / "crates/al_base/specs/Codes.antt").read_text())}
-    text = (top / "crates/al_text/specs/Wordings.antt").read_text()
+    text = (top / "crates/al_base/specs/Codes.antt").read_text()
     every, of_calls = dict(EVERY_KIND.findall(text)), sorted(CALL_KIND.findall(text))
     rows = {}
-    for group, variant, maker, words in ROW.findall(text):
+    for group, variant, maker, number, words in ROW.findall(text):
         own = re.match('"([^"]*)" ', words) if maker == "row" else None
         kinds = of_calls if group == "Call" else [own[1] if own else every[maker]]
-        rows[LETTERS[group], variant] = numbers.get((group, variant), ""), words[own.end():] if own else words, kinds
+        rows[LETTERS[group], variant] = number, words[own.end():] if own else words, kinds
     return rows
 
 

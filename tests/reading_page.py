@@ -61,7 +61,7 @@ THEOREMS = (
     )),
     Theorem("L", "2 3", "what the linter finds in any file, and its laws", (
         Contracts("al_check", "lint.rt", ("impl Lint for Actions",)),
-        Contracts("al_lint", "lint.rt", ("pub trait Lint",)),
+        Contracts("al_session_folder", "lint.rt", ("pub trait Lint",)),
     )),
     Theorem("E", "2 3 4 5 6", "any edits, and then all as from scratch", (
         Contracts("al_session", "session.rt", (
@@ -94,7 +94,7 @@ BY_LAW = "al_expr_grammar.specs.Building"
 # what stands between reading and checking a file: whatever it means, the theorems are the same
 UNSEEN = re.compile(r"^ *ghost is_unit = \{.*?\};\n", re.MULTILINE | re.DOTALL)
 # the numbers and the messages of all codes
-NAME_ALL = ("al_base.specs.Codes", "al_text.specs.Wordings")
+NAME_ALL = ("al_base.specs.Codes",)
 # words that the language of definitions reserves or has built in, and names that the compiler makes for parts of the code's types
 RESERVED = set("data record deriving module where use mod pub package open as unfoldable abbrev axiom unfold unfolding ruleset mutual "
                "infix infixl infixr elim let in do Type coe fcoe tcoe hcom com Unit tt".split())
