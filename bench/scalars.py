@@ -1,6 +1,6 @@
-"""How the time to read one scalar grows with its bytes: bench/scalars.py, after ./test or a build of crates/al_facts.
+"""How the time to read one scalar grows with its bytes: bench/scalars.py, after ./test or a build of crates/al_dump.
 
-Each shape of scalar is read at a quarter, half and all of its size by the program `al_facts`, which also prints its text with the offset of
+Each shape of scalar is read at a quarter, half and all of its size by the program `al_dump`, which also prints its text with the offset of
 each byte. If reading is linear, the time doubles with the size. The times are the least of several runs, minus the time of the empty
 scalar.
 """
@@ -28,7 +28,7 @@ SHAPES = {
 
 def seconds(file):
     """What one run takes to read a scalar."""
-    took, status, _ = run_seconds([program("al_facts"), "scalar"], file)
+    took, status, _ = run_seconds([program("al_dump"), "scalar"], file)
     if status != 0:
         sys.exit(f"the scalar was not read: {file[:80]}")
     return took

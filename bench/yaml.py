@@ -1,5 +1,5 @@
 """How long a YAML file takes to read, compared with the event parsers of libyaml and libfyaml on the same bytes: bench/yaml.py [BEFORE],
-after ./test or a build of crates/al_facts. BEFORE is an `al_facts` program of another version, whose times are taken in the same run.
+after ./test or a build of crates/al_dump. BEFORE is an `al_dump` program of another version, whose times are taken in the same run.
 
 Needs a C compiler and the libraries with their headers (Debian's libyaml-dev and libfyaml-dev; one that is missing is left out). Each file
 ends with a line at which all readers stop with a fault, so none prints a tree, and each reads everything before it. Each time is the least
@@ -103,7 +103,7 @@ def main():
     """Prints a table. A reader of another version may not know aliases, so it isn't given files with any."""
     with tempfile.TemporaryDirectory() as folder:
         others = [[it] for it in peers(folder)]
-        commands = [[path, "yaml"] for path in [program("al_facts"), *sys.argv[1:]]]
+        commands = [[path, "yaml"] for path in [program("al_dump"), *sys.argv[1:]]]
         before = "  this/before" if sys.argv[1:] else ""
         columns = "".join(f" {'lib' + it.name:>9} {'ratio':>6}" for [it] in others)
         print(f"{'file':44} {'bytes':>9} {'this':>9}{columns}{before}  whole/half of bytes")

@@ -16,4 +16,3 @@ mod steps;
 
 pub use env::{Env, File};
 pub use known::{Answer, Answers};
-pub use scopes::available_at;

@@ -25,7 +25,11 @@ const OF_ACTION: &[Context] = &[
 
 /// What a place with a row of the table makes available. In an action the functions that tell the status of the job so far are available
 /// only in conditions.
-pub fn available_at(kind: FileKind, row: Option<&'static Row>, is_condition: bool) -> Available
+pub(crate) fn available_at(
+    kind: FileKind,
+    row: Option<&'static Row>,
+    is_condition: bool,
+) -> Available
     ensures { available_of result
         ≡ scopes.available_at kind (option_map (λ r. row_view r.now) row.entry) is_condition }
 {

@@ -121,8 +121,7 @@ const TABLE: &[Row] = &[
     ),
 ];
 
-/// The rows of the table. Doesn't allocate.
-pub fn rows() -> &'static [Row]
+fn rows() -> &'static [Row]
     ensures { map row_view result.now ≡ table }
 {
     TABLE

@@ -79,8 +79,7 @@ impl<'a> Way<'a> {
     }
 }
 
-/// Below `on` of a workflow, only what begins with these is checked.
-pub const OF_CALL: &[&[Key]] = &[
+const OF_CALL: &[&[Key]] = &[
     &[
         Named("on"),
         Named("workflow_call"),
@@ -97,29 +96,25 @@ pub const OF_CALL: &[&[Key]] = &[
     ],
 ];
 
-/// What begins with these has no expressions, elsewhere in a workflow.
-pub const NOT_IN_WORKFLOW: &[&[Key]] = &[
+const NOT_IN_WORKFLOW: &[&[Key]] = &[
     &[Named("jobs"), Id, Named("needs")],
     &[Named("jobs"), Id, Named("uses")],
     &[Named("jobs"), Id, Named("steps"), Named("id")],
     &[Named("jobs"), Id, Named("steps"), Named("uses")],
 ];
 
-/// Outside `runs` of an action, only these have expressions.
-pub const OF_INTERFACE: &[&[Key]] = &[
+const OF_INTERFACE: &[&[Key]] = &[
     &[Named("inputs"), Id, Named("default")],
     &[Named("outputs"), Id, Named("value")],
 ];
 
-/// What begins with these has no expressions, in `runs` of an action.
-pub const NOT_IN_RUNS: &[&[Key]] = &[
+const NOT_IN_RUNS: &[&[Key]] = &[
     &[Named("runs"), Named("using")],
     &[Named("runs"), Named("steps"), Named("id")],
     &[Named("runs"), Named("steps"), Named("uses")],
 ];
 
-/// Conditions: their whole text is an expression, if it has no `${{`.
-pub const CONDITIONS: &[&[Key]] = &[
+const CONDITIONS: &[&[Key]] = &[
     &[Named("jobs"), Id, Named("if")],
     &[Named("jobs"), Id, Named("steps"), Named("if")],
     &[Named("runs"), Named("steps"), Named("if")],
@@ -127,8 +122,7 @@ pub const CONDITIONS: &[&[Key]] = &[
     &[Named("runs"), Named("post-if")],
 ];
 
-/// The scripts of steps, of which untrusted text would become part.
-pub const SCRIPTS: &[&[Key]] = &[
+const SCRIPTS: &[&[Key]] = &[
     &[Named("jobs"), Id, Named("steps"), Named("run")],
     &[Named("runs"), Named("steps"), Named("run")],
 ];

@@ -12,9 +12,7 @@ mod needs;
 mod sections;
 mod workflows;
 
-pub use al_rules_settings::{PERMISSIONS, SCOPE_VALUES, SHELLS, WHOLE_VALUES};
 pub use events::check_on;
 pub use examples::rows;
 pub use files::rules;
 pub use laws::spans;
-pub use names::{CALL_TYPES, DISPATCH_TYPES, activities_of};

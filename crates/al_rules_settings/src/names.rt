@@ -1,7 +1,6 @@
 //! The names of permissions, their values, and shells.
 
-/// The scopes of permissions.
-pub const PERMISSIONS: &[&str] = &[
+pub(crate) const PERMISSIONS: &[&str] = &[
     "actions",
     "artifact-metadata",
     "attestations",
@@ -20,11 +19,8 @@ pub const PERMISSIONS: &[&str] = &[
     "statuses",
 ];
 
-/// The shells that GitHub knows by name.
-pub const SHELLS: &[&str] = &["bash", "sh", "pwsh", "powershell", "python", "cmd"];
+pub(crate) const SHELLS: &[&str] = &["bash", "sh", "pwsh", "powershell", "python", "cmd"];
 
-/// The values of a scope.
-pub const SCOPE_VALUES: &[&str] = &["read", "write", "none"];
+pub(crate) const SCOPE_VALUES: &[&str] = &["read", "write", "none"];
 
-/// The values of `permissions` as a whole.
-pub const WHOLE_VALUES: &[&str] = &["read-all", "write-all"];
+pub(crate) const WHOLE_VALUES: &[&str] = &["read-all", "write-all"];

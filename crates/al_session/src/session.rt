@@ -1,6 +1,6 @@
 //! A folder of files, kept linted.
 
-ghost use Rattle.std.specs.Prelude.{◌≡◌, ◌≢◌, ℕ, List, [], Err, None, Some, length, slice_get, IfOk, OnOk, OnErr, IfErr, IfSome};
+ghost use Rattle.std.specs.Prelude.{◌≡◌, ◌≢◌, ℕ, List, [], Err, None, Some, length, IfOk, OnOk, OnErr, IfErr, IfSome};
 ghost use Rattle.std.specs.List.{AllByRecursion};
 ghost use Rattle.std.specs.List.Sorted.{IsStrictlySortedBy};
 ghost use Rattle.std.specs.Ordering.{nat_cmp};
@@ -19,7 +19,6 @@ ghost use Rattle.al_lint.specs.Meaning.{IsUpTo};
 ghost use Rattle.al_base.specs.Counted.{count_after};
 ghost use Rattle.al_session_folder.specs.Missing.{is_missing, missing_in};
 ghost use Rattle.al_session.specs.Report.{status_of, report_of};
-ghost use Rattle.al_session_folder.specs.Printing.{AreCycleFaults};
 ghost use Rattle.al_session.specs.EditLaws.{OthersKeepFaults, PutsInAnyOrder, SamePutChangesNothing};
 ghost use Rattle.al_session.specs.Session.{IsLinted, ReadsForPut, folder_in};
 
@@ -264,31 +263,6 @@ impl<L: Lint> Session<L> {
         let call_cycle_faults = find_call_cycle_faults(&self.lint, &linked)?;
         let joined = join_files::<L>(&self.kept.files, &call_cycle_faults)?;
         write_files::<L, W>(writer, &self.kept.files, &joined, oneline)
-    }
-
-    /// The path of the file with this number, from 0, in order of path; `None` if there are fewer files. Doesn't allocate.
-    pub fn path_at(&self, number: usize) -> Option<&str>
-        ensures { option_copied result ≡ slice_get (paths_of self.now.folder) number }
-    {
-        match self.kept.files.get_index(number) {
-            Some((path, _)) => Some(path.as_str()),
-            None => None,
-        }
-    }
-
-    /// For each file, in order of path, the faults of its calls on a call cycle. The graph of calls is computed if it isn't known, and
-    /// kept for the next report. The folder and both counts are unchanged.
-    ///
-    /// # Errors
-    ///
-    /// [`AllocError`] if memory runs out.
-    pub fn call_cycle_faults(&mut self) -> Result<Vec<Vec<Fault>>, AllocError>
-        ensures faults { IfOk result (λ all. AreCycleFaults L.meaning self.old.folder all.items) }
-        ensures unchanged { self.new ≡ self.old }
-    {
-        find_graph::<L>(&self.kept.files, &mut self.calls)?;
-        let linked = linked_files::<L>(&self.kept.files, &self.calls);
-        find_call_cycle_faults(&self.lint, &linked)
     }
 
     /// The paths of all candidates of calls that aren't in the folder, in order of path, each once.

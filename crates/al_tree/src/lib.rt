@@ -31,9 +31,9 @@ pub use files::{
 pub use inputs::{InputType, input_of};
 pub use keys::{EntryKey, FEW_KEYS, KeyIndex, KeySet, key_of};
 pub use kinds::{file_kind, is_action, is_workflow, is_workflow_name};
-pub use names::{event_names, is_combination_key, is_event};
+pub use names::{is_combination_key, is_event};
 pub use scalars::{contains_chunk, is_null_scalar, scalar_fault};
-pub use standings::{NODE_VERSIONS, Standing, refine, runs_of, standing_of};
+pub use standings::{Standing, refine, runs_of, standing_of};
 pub use table::{Clash, Keys, Need, Others, Row, Rule, ScalarSet, Shape, Trigger, rule_of};
 pub use values::{
     Member, items, items_under, key, key_texts, member_positions, members, members_under, text,

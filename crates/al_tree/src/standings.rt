@@ -18,14 +18,11 @@ use crate::table::{Clash, Keys, Need, Others, Row, Shape, Trigger};
 use al_base::is_among;
 use al_yaml_tree::Entry;
 
-/// The values of `using` of an action that Node runs.
-pub const NODE_VERSIONS: [&str; 4] = ["node12", "node16", "node20", "node24"];
-
 /// The section of `runs`, depending on `using`.
 pub fn runs_of(using_text: &[u8]) -> Shape
     ensures { result ≡ runs using_text.now }
 {
-    if is_among(using_text, &NODE_VERSIONS) {
+    if is_among(using_text, &["node12", "node16", "node20", "node24"]) {
         Shape::NodeRuns
     } else if using_text == "composite".as_bytes() {
         Shape::CompositeRuns
