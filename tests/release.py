@@ -64,21 +64,6 @@ def contents(archive):
     return wrong + [f"{it} is missing" for it in needed if f"{base}/{it}" not in names]
 
 
-def with_facts(folder, program, room):
-    """A release with the other program has it too, wherever that is given or beside the first."""
-    wrong = []
-    (room / "both").mkdir()
-    for name, bytes_of in (("actionlint", program), ("actionlint-facts", "/bin/true")):
-        shutil.copy(bytes_of, room / "both" / name)
-    for number, words in enumerate((["--program", room / "both/actionlint"], ["--program", program, "--facts", "/bin/true"])):
-        prefix = room / f"facts-{number}"
-        wrong += failed(run([folder / "release", *words, "--install", prefix]))
-        there = prefix / "bin/actionlint-facts"
-        wrong += [] if there.is_file() and there.stat().st_mode & 0o777 == 0o755 else [f"{there} isn't there"]
-    wrong += failed(run([folder / "release", "--program", program, "--facts", room / "none", "--install", room / "facts-2"]), 1)
-    return wrong
-
-
 def unpacked(archive, room):
     """The archive's folder, unpacked as the steps of docs/CI.md do."""
     run(["tar", "-xzf", archive], cwd=room).check_returncode()
@@ -227,7 +212,7 @@ def undated(folder, program):
 def refused(folder, arguments, said):
     """What differs if ./release should refuse these arguments with status 2 and a line that says this before the usage."""
     ran = run([folder / "release", *arguments])
-    line = f"release: {said}usage: release [--program PROGRAM] [--facts FACTS] [[--deb] [--to DIR] | --install PREFIX]\n"
+    line = f"release: {said}usage: release [--program PROGRAM] [[--deb] [--to DIR] | --install PREFIX]\n"
     return failed(ran, 2) + ([] if ran.stderr.decode() == line else [show(ran.stderr)])
 
 
@@ -271,7 +256,6 @@ def cases(program, room):
     yield "clone-that-is-read-alone", reading_alone(clone(room / "c", program), room)
     yield "steps-of-the-page", steps_of_the_page(archive, room)
     yield "version-without-a-date", undated(clone(room / "d"), program)
-    yield "with-facts", with_facts(first, program, room)
     yield "wrong-words", words(first, program, room)
 
 
