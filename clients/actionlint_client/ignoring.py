@@ -3,7 +3,7 @@ from __future__ import annotations
 
 import os
 import re
-from typing import Callable, Iterable, NamedTuple
+from typing import Callable, Collection, Iterable, NamedTuple
 
 from .entries import entries
 from .faults import NO_FAULTS, FileFaults
@@ -12,6 +12,7 @@ from .report import Fault
 
 NOTE = re.compile(r"SC\d{4}")
 MAX_FILE_BYTES = 1_048_576
+SHOWN_RULES = 5
 
 
 class WrongRule(Exception):
@@ -79,6 +80,8 @@ class IgnoreFiles:
         self._say = say
         self._stamps: list[tuple[int, ...]] = []
         self._rules = Ignored(())
+        # The rules of each file, until those that ignore nothing were told.
+        self._untold: dict[str, list[str]] = {}
 
     def rules(self) -> Ignored:
         """The rules of the files as they are now, the same object as before if no file changed."""
@@ -86,11 +89,28 @@ class IgnoreFiles:
         if stamps != self._stamps:
             self._stamps = stamps
             try:
-                self._rules = Ignored(rule for file in self.files for rule in rules_in(file))
+                self._untold = {file: rules_in(file) for file in self.files}
+                self._rules = Ignored(rule for rules in self._untold.values() for rule in rules)
             except WrongRule as error:
-                self._rules = Ignored(())
+                self._rules, self._untold = Ignored(()), {}
                 self._say(f"no fault is ignored: {error}")
         return self._rules
+
+    def has_untold_rules(self) -> bool:
+        """Whether `tell_unused` would say something, if a rule has ignored nothing."""
+        return bool(self._untold)
+
+    def tell_unused(self, unknown: Collection[str]) -> None:
+        """Says of each file, once until it changes, which rules have ignored nothing, except those on notes of shellcheck, which only open
+        files have, and those that may be about the files of `unknown`, whose faults aren't all known."""
+        unused = set(self._rules.unused())
+        for file, texts in self._untold.items():
+            rules = [str(rule) for rule in dict.fromkeys(map(_rule, texts)) if rule in unused and not is_note(rule.code)
+                     and (rule.path not in unknown if rule.path else not unknown)]
+            more = f" and {len(rules) - SHOWN_RULES} more rules" if len(rules) > SHOWN_RULES else ""
+            if rules:
+                self._say(f"{file}: {', '.join(rules[:SHOWN_RULES])}{more} {'ignores' if len(rules) == 1 else 'ignore'} nothing")
+        self._untold = {}
 
 
 def _stamp(file: str) -> tuple[int, ...]:

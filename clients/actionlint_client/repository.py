@@ -158,6 +158,14 @@ class Repository:
         for path in sorted(paths):
             self._show(path, editor, diagnostics)
 
+    def is_linted(self) -> bool:
+        """Whether the linter ran in the last `refresh`."""
+        return self.result is not NOTHING
+
+    def files_with_unknown_faults(self) -> set[str]:
+        """The files that aren't linted, aren't valid YAML, or have more faults than are kept."""
+        return {*self.result.refused, *(path for path, found in self.result.faults.items() if found.more or is_no_yaml(found))}
+
     def close(self, editor: Editor) -> None:
         """Stops the linter, and removes what is shown."""
         self.folder.close()
@@ -196,12 +204,12 @@ class Repository:
         else:
             del self._shown[path]
 
-
     def _notes(self, path: str, found: FileFaults) -> tuple[Problem, ...]:
         """The notes of shellcheck on an open file, as far as they are known, none while no linter runs or the file isn't valid YAML."""
         if self.result is NOTHING or path in self.result.refused or is_no_yaml(found):
             return ()
-        return self.checks.notes((self.root, path), self.folder.data_of(path))
+        notes = self.checks.notes((self.root, path), self.folder.data_of(path))
+        return tuple(note for note in notes if not self.ignored.has(note))
 
 
 def _key(position: Position) -> tuple[int, int]:

@@ -89,6 +89,9 @@ class Workspace:
         self.is_stale = False
         for repository in self._repositories.values():
             repository.refresh(self._editor, self._diagnostics)
+        ignored, repositories = self._diagnostics.ignored, self.repositories()
+        if ignored.has_untold_rules() and repositories and all(repository.is_linted() for repository in repositories):
+            ignored.tell_unused(set().union(*(repository.files_with_unknown_faults() for repository in repositories)))
 
     def take_notes(self, checks: ScriptChecks) -> None:
         """Takes the new notes of shellcheck, or says why there are none."""

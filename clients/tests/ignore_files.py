@@ -15,7 +15,7 @@ from pathlib import Path
 from cases import Cases
 from clones_and_releases import PATH, carry, commit, copy_few_sources
 from editor import Editor
-from repositories import CALLED, FILE, FILES, UNDEFINED, WORKFLOWS, WRONG, write
+from repositories import CALLED, FILE, FILES, RIGHT, UNDEFINED, WORKFLOWS, WRONG, write
 
 CASES = Cases("ignore-files")
 MISSING = 'required input "who" of "A" is missing [action]'
@@ -104,6 +104,32 @@ def not_found_by_itself(program: str) -> None:
         editor = Editor(program, os.fsencode(folder), folder=folder)
         editor.open(FILE, WRONG)
         assert shown(editor) == {FILE: [UNDEFINED], CALLED: [MISSING]}, shown(editor)
+        assert editor.quit() == 0
+
+
+@CASES.case
+def rules_that_ignore_nothing(program: str) -> None:
+    """They are told once for each file of rules, and again when it changed. What may be about unknown faults is not: of notes, and of files
+    that can't be read."""
+    with folder_with("# a\nx13\nC3:nowhere.yml\nSC2086\nX13\n") as folder:
+        write(folder, {"more": f"G8\nC3:{CALLED}\nK1\nG8\nK1:{OTHER}\n"})
+        editor = Editor(program, os.fsencode(folder), words=("--ignore-file", folder + "/known", "--ignore-file", folder + "/more"))
+        assert shown(editor) == {}
+        told = [f"actionlint: {folder}/known: C3:nowhere.yml ignores nothing", f"actionlint: {folder}/more: G8, K1, K1:{OTHER} ignore nothing"]
+        assert editor.messages == told, editor.messages
+        for text in (RIGHT, WRONG):
+            editor.open(FILE, text)
+            editor.settle()
+            editor.close(FILE)
+        assert shown(editor) == {} and editor.messages == told, editor.messages
+        write(folder, {"known": "".join(f"X{number}\n" for number in range(1, 14)), "more": f"C3:{CALLED}\n"})
+        editor.save(FILE)
+        assert shown(editor) == {}
+        assert editor.messages[2:] == [f"actionlint: {folder}/known: X1, X2, X3, X4, X5 and 7 more rules ignore nothing"], editor.messages
+        write(folder, {"known": f"K1:{OTHER}\nK1:{FILE}\nK1\n", "more": "SC2086\n", OTHER: "on: ["})
+        editor.save(FILE)
+        editor.settle()
+        assert editor.messages[3:] == [f"actionlint: {folder}/known: K1:{FILE} ignores nothing"], editor.messages
         assert editor.quit() == 0
 
 

@@ -29,6 +29,7 @@ from actionlint_client.references import callers, occurrences
 from actionlint_client.repository import Repository
 from actionlint_client.session import LinterEnded, Session
 from actionlint_client.structure import parts_with
+from actionlint_client.tree import Node
 
 CASES = Cases("limits")
 TOO_LONG = "actionlint: not answered, since it takes too long"
@@ -205,6 +206,32 @@ def symbols_of_a_folder(_: str) -> None:
         assert not parts_with(project_of(texts), next(iter(texts)), "flow", False)
     finally:
         files.read_tree = read_tree
+
+
+@CASES.case
+def a_search_that_is_cut(_: str) -> None:
+    """What it has read is kept, so that a later one comes to an end."""
+    project, read, cuts = project_of({**many(MAX_HELD * 3), "a/action.yml": "name: a\n"}), [], 0
+    read_tree = files.read_tree
+
+    def cut_short(text: str) -> Node | None:
+        read.append(text)
+        if len(read) % 9 == 0:
+            raise TooSlow
+        return read_tree(text)
+
+    files.read_tree = cut_short
+    try:
+        while cuts < 100:
+            try:
+                assert len(callers(project, "a/action.yml")) == MAX_HELD * 3
+                break
+            except TooSlow:
+                cuts += 1
+    finally:
+        files.read_tree = read_tree
+    # Eight of nine are read.
+    assert cuts == (MAX_HELD * 3 - 1) // 8 and len(read) == MAX_HELD * 3 + cuts, (cuts, len(read))
 
 
 @CASES.case

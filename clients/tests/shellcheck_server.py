@@ -130,6 +130,25 @@ def off_unless_asked_for(program: str) -> None:
 
 
 @CASES.case
+def ignored_notes(program: str) -> None:
+    """A list of ignored faults is for notes too: in all files, or in one."""
+    with tempfile.TemporaryDirectory(prefix="actionlint-test-") as folder:
+        write(folder, {"known": f"SC2086:{FILE}\nSC2162\n"})
+        editor = start(program, {FILE: RIGHT}, words=(*ON, "--ignore-file", folder + "/known"))
+        text = STEPS + "      - run: echo $x; read b; echo \"$b\"; for i in $(ls); do echo \"$i\"; done\n"
+        for file, codes in ((FILE, {"SC2045"}), (OTHER, {"SC2086", "SC2045"})):
+            editor.open(file, text)
+            wait_until(lambda: bool(notes(editor, file)), "no notes")
+            assert {one["code"] for one in notes(editor, file)} == codes, (file, notes(editor, file))
+        write(folder, {"known": "SC2045\n"})
+        editor.save(FILE)
+        editor.settle()
+        assert {one["code"] for one in notes(editor, FILE)} == {"SC2086", "SC2162"}, notes(editor, FILE)
+        assert not editor.messages, editor.messages
+        end(editor)
+
+
+@CASES.case
 def no_answer_waits(program: str) -> None:
     """While shellcheck doesn't end, requests are answered and faults are shown. A change of the text ends the check and what it started,
     and the new text is checked."""
