@@ -29,7 +29,7 @@ def changed_calls(project: Project, moves: dict[str, str]) -> dict[str, tuple[Ed
     edits: dict[str, list[Edit]] = {}
     for old, new in moves.items():
         call = call_of(new) if is_workflow(old) == is_workflow(new) else None
-        for caller in callers(project, old) if call else ():
+        for caller in callers(project, old) if call and call != call_of(old) else ():
             for one in occurrences(project, caller):
                 if one.symbol == Symbol("file", old, "", ""):
                     edits.setdefault(caller, []).append(Edit(one.span, _written(project, one, call or "")))

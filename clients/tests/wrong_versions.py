@@ -408,6 +408,7 @@ WRONG_VERSIONS = {name: WrongVersion(*row) for name, *row in (
     ("calls_have_no_quotes", "moving.py", "renaming.py moves", "call if PLAIN.fullmatch(call) else", "call if True else"),
     ("quotes_in_quotes_are_not_doubled", "moving.py", "renaming.py moves", """if quote == "'":\n        return call.replace("'", "''")""",
      """if quote == "'":\n        return call"""),
+    ("calls_of_what_stays_are_written", "moving.py", "renaming.py moves", " and call != call_of(old) else ():", " else ():"),
     ("what_is_no_workflow_is_called", "moving.py", "renaming.py moves", "or not (is_workflow(file) or is_action(file))", ""),
     ("entries_that_are_there_are_offered", "completion.py", "completion.py by_place", ", *place.entries}", "}"),
     ("entries_in_lines_are_missed", "place.py", "completion.py by_place",
