@@ -115,7 +115,8 @@ def rules_that_ignore_nothing(program: str) -> None:
         write(folder, {"more": f"G8\nC3:{CALLED}\nK1\nG8\nK1:{OTHER}\n"})
         editor = Editor(program, os.fsencode(folder), words=("--ignore-file", folder + "/known", "--ignore-file", folder + "/more"))
         assert shown(editor) == {}
-        told = [f"actionlint: {folder}/known: C3:nowhere.yml ignores nothing", f"actionlint: {folder}/more: G8, K1, K1:{OTHER} ignore nothing"]
+        told = [f"actionlint: {folder}/known: C3:nowhere.yml ignores nothing",
+                f"actionlint: {folder}/more: G8, K1, K1:{OTHER} ignore nothing"]
         assert editor.messages == told, editor.messages
         for text in (RIGHT, WRONG):
             editor.open(FILE, text)
