@@ -12,6 +12,7 @@ from .paths import is_workflow
 from .report import Fault
 from .repair import Case, Edit, Found, Repair, first_entry, levels_of, next_entry, quoted, without_entry, without_key
 from .repairs_expressions import choice_by_call, expression_of, in_yaml, is_compared, is_operand, whole_chain
+from .repairs_values import joined_property
 from .syntax import table
 from .text import Point, Span
 from .tree import Path
@@ -178,7 +179,7 @@ def sibling_property(case: Case) -> Iterable[Repair]:
     scope = scope_of(case)
     before = chain_before(case.line[span.start.column:case.span.start.column] + ".") if chain else None
     number = len(before.chain) if before else 0
-    if scope is None or not 1 < number < len(chain):
+    if scope is None or not 1 < number < len(chain) or joined_property(chain):
         return
     name = chain[number]
     if name in [one.name for one in scope.properties(chain[:number - 1])]:

@@ -3,7 +3,7 @@ from __future__ import annotations
 
 import itertools
 import re
-from typing import Callable, Iterable
+from typing import Callable, Iterable, Sequence
 
 from .expressions import CHAIN, NAME, links
 from .repair import Case, Repair
@@ -16,12 +16,18 @@ PLACEHOLDER = re.compile(r"\{(\d{1,3})\}")
 COMPARED = {"needs": "result", "steps": "outcome", "job": "status"}
 
 
+def joined_property(chain: Sequence[str]) -> str | None:
+    """The property of `github` whose words a chain has as properties of one another."""
+    joined = "_".join(chain[1:]).lower()
+    return joined if chain and chain[0].lower() == "github" and joined in table()["contexts"]["github"]["properties"] else None
+
+
 def without_index(case: Case) -> Iterable[Repair]:
     """`github.ref_name` for `github.ref.name`; else the chain up to what can't be indexed, unless that makes a condition constant."""
     chain, span = whole_chain(case)
     line = case.line
-    joined = "_".join(chain[1:]).lower()
-    if chain and chain[0].lower() == "github" and joined in table()["contexts"]["github"]["properties"]:
+    joined = joined_property(chain)
+    if joined:
         yield case.replace(f"change to github.{joined}", f"github.{joined}", span)
         return
     dot = max(line.rfind(sign, span.start.column, case.span.start.column + 1) for sign in (".", "["))

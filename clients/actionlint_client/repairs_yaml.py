@@ -41,8 +41,7 @@ def with_quotes(case: Case) -> Iterable[Repair]:
             text = case.slice(span)
             if not _opens_quote(text) and not _is_collection(text):
                 yield case.replace("put it in quotes", quoted(text), span, is_safe=line == number and _takes_texts(case, span))
-    yield from _quoted_expressions(case)
-    yield from _quoted_item(case)
+    yield from list(_quoted_expressions(case)) or _quoted_item(case)
 
 
 def _is_collection(text: str) -> bool:
