@@ -28,6 +28,9 @@ MAX_FILES = 64
 MAX_REPORT_BYTES = 4 * 1_048_576
 # Faults of expressions that can't be read.
 UNREADABLE = ("X1", "X2", "X3", "X4", "X5", "X6", "X20")
+# What isn't looked at as long as the event, the kind of an action or the called file isn't known.
+HIDES = {"G1": ("G2", "G3", "K1", "K6"), "G20": ("K1", "K2", "K6", "G21"), "C1": ("C2", "C3", "C4", "C5", "C6"),
+         "C7": ("C2", "C3", "C4", "C5", "C6")}
 LOCAL_CALL = re.compile(r"\./[^\s'\"#,}\]]*")
 MODULES = (repairs_yaml, repairs_levels, repairs_keys, repairs_kinds, repairs_rules, repairs_expressions, repairs_names, repairs_values,
            repairs_scripts, repairs_calls)
@@ -188,8 +191,10 @@ def _was_hidden(one: Fault, fault: Fault, repair: Repair) -> bool:
     """Whether a fault was there before a repair, hidden by the repaired one: an expression that can't be read has no other fault, and a
     file that isn't YAML has none on its other lines."""
     code, hidden = (entry.code if (entry := entry_of(each.message)) else "" for each in (one, fault))
-    if one.path != fault.path or code in UNREADABLE or code[:1] in ("Y", "K"):
+    if one.path != fault.path or code in UNREADABLE or code[:1] in ("Y", "K") and hidden not in HIDES:
         return False
+    if hidden in HIDES:
+        return code in HIDES[hidden] and one.line >= fault.line and not repair.new_files
     if hidden in UNREADABLE:
         return one.line == fault.line and code[:1] == "X" and code not in ("X7", "X9")
     edits = repair.edits.get(fault.path, ())

@@ -119,9 +119,13 @@ def _plain_spaces(text: str) -> str:
     return _outside_texts(text, lambda part: ODD_SPACES.sub(" ", part))
 
 
+def _equals(text: str) -> str:
+    return _outside_texts(text, lambda part: re.sub(r"===+", "==", part).replace("!==", "!=").replace("<>", "!="))
+
+
 def _operators(text: str, with_lone_texts: bool = False) -> str:
     changed = _outside_texts(text, lambda part: WORDS.sub(lambda match: WORD_OPERATORS[match[1].lower()], part))
-    changed = _outside_texts(changed, lambda part: re.sub(r"===+", "==", part).replace("!==", "!=").replace("<>", "!="))
+    changed = _equals(changed)
     changed = _without_words(_outside_texts(changed, lambda part: re.sub(r"! (?=\S)", "!", part)))
     has_lone_text = len(parts(changed, "||")) > 1 and any(STRING.fullmatch(part) for part in parts(changed, "||")[1:])
     return text if has_lone_text and "==" in changed and not with_lone_texts else changed
@@ -409,15 +413,16 @@ def one_pair(case: Case) -> Iterable[Repair]:
 SINGLE_QUOTES = rewritten("write single quotes", _single_quotes, True)
 DOUBLED = rewritten('write "==", "&&", "||"', _doubled, True)
 SPREAD = rewritten("compare it with each", _spread)
+EQUALS = rewritten('write "==" and "!="', _equals, True)
 OPERATORS = rewritten('write "&&", "||", "!"', _operators, True)
 
 REPAIRS: dict[str, tuple[Callable[[Case], Iterable[Repair]], ...]] = {
-    "X1": (SINGLE_QUOTES, rewritten("write plain spaces", _plain_spaces, True), DOUBLED, as_choice, OPERATORS, SPREAD,
+    "X1": (SINGLE_QUOTES, rewritten("write plain spaces", _plain_spaces, True), DOUBLED, as_choice, EQUALS, OPERATORS, SPREAD,
            rewritten('write "||", which takes the second for an empty text too', _coalesced), inner_braces,
            rewritten("write a call of format", _formatted), rewritten("write the operators of expressions", _all_operators, True),
            rewritten('write "${{" and "}}"', _double_braces, True), from_context, word_as_text, without_character),
     "X2": (closed_text,),
-    "X3": (OPERATORS, SPREAD, DOUBLED, as_choice, rewritten("call a function", _called), inner_braces, closed_brackets, with_comma,
+    "X3": (EQUALS, OPERATORS, SPREAD, DOUBLED, as_choice, rewritten("call a function", _called), inner_braces, closed_brackets, with_comma,
            without_rest, without_character),
     "X4": (closed_brackets, without_rest),
     "X20": (closed_braces,),

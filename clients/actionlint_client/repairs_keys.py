@@ -47,6 +47,12 @@ def near_key(case: Case) -> Iterable[Repair]:
     yield from (in_its_quotes(case, name, is_slip) for name, is_slip in found)
 
 
+def unknown_beside(case: Case) -> Iterable[Repair]:
+    """A similar key in place of one that can stand beside no other, since the section doesn't know it."""
+    if case.key and case.arguments[0] not in case.known_keys(case.key.path[:-1]):
+        yield from near_key(case)
+
+
 def in_its_quotes(case: Case, name: str, is_safe: bool = False) -> Repair:
     """A name in place of the written one, in the same quotes."""
     quote = case.written[:1] if case.written[:1] in ("'", '"') else ""
@@ -380,5 +386,5 @@ REPAIRS: dict[str, tuple[Callable[[Case], Iterable[Repair]], ...]] = {
     "K1": (near_key, below_empty, below_inputs, one_level_deeper, step_of_keys, part_of_value, deleted),
     "K2": (missing_key,),
     "K3": (new_step, another_job, repeated),
-    "K6": (new_step, excluded_patterns, deleted),
+    "K6": (unknown_beside, new_step, excluded_patterns, deleted),
 }

@@ -12,6 +12,7 @@ from .paths import is_workflow
 from .report import Fault
 from .repair import Case, Edit, Found, Repair, first_entry, levels_of, next_entry, quoted, without_entry, without_key
 from .repairs_expressions import choice_by_call, expression_of, in_yaml, is_compared, is_operand, whole_chain
+from .repairs_values import joined_property
 from .syntax import table
 from .text import Point, Span
 from .tree import Path
@@ -28,6 +29,7 @@ OTHER_NULLS = ("none", "nil", "undefined")
 OTHER_STATES = {"needs": {"outcome": "result", "conclusion": "result", "status": "result", "state": "result"},
                 "steps": {"result": "outcome", "status": "outcome", "state": "outcome"}, "job": {"state": "status", "result": "status"}}
 # Whose properties can be meant by a word without a context.
+OF_STRATEGY = {"fail-fast", "max-parallel"}
 OF_CONTEXTS = ("matrix", "inputs", "env", "needs", "steps", "github", "runner")
 
 
@@ -111,7 +113,7 @@ def declared_row(case: Case) -> Iterable[Repair]:
     title = f'add the row "{chain[1]}", with the value "{value}" alone'
     if matrix and matrix.kind == "mapping" and set(matrix.names()) - {"include", "exclude"}:
         yield case.of(title, first_entry(case, matrix, row))
-    elif matrix is None and strategy and strategy.kind == "mapping" and strategy.entries:
+    elif matrix is None and strategy and strategy.kind == "mapping" and strategy.entries and set(strategy.names()) <= OF_STRATEGY:
         yield case.of(title, first_entry(case, strategy, f"matrix: {{{row}}}" if strategy.is_flow else f"matrix:\n  {row}"))
     elif strategy is None:
         yield case.of(title,
@@ -177,7 +179,7 @@ def sibling_property(case: Case) -> Iterable[Repair]:
     scope = scope_of(case)
     before = chain_before(case.line[span.start.column:case.span.start.column] + ".") if chain else None
     number = len(before.chain) if before else 0
-    if scope is None or not 1 < number < len(chain):
+    if scope is None or not 1 < number < len(chain) or joined_property(chain):
         return
     name = chain[number]
     if name in [one.name for one in scope.properties(chain[:number - 1])]:
@@ -200,6 +202,9 @@ def needed_job(case: Case) -> Iterable[Repair]:
         yield case.replace(f'change "{slip.value}" to "{name}" in "needs"', name, slip.span)
     elif name:
         yield case.of(f'add "{name}" to "needs"', _need(case, job, name))
+    elif same := next((item for item in wrong if item.value.lower() == case.arguments[0].lower()), None):
+        yield from (case.of(f'change to "{one}", in "needs" too', Edit(case.span, one), Edit(same.span, one), is_safe=is_slip)
+                    for one, is_slip in likely(case.arguments[0], free))
     elif not likely(case.arguments[0], files.needed(tree, job)):
         yield from (case.of(f'change to "{one}", and add it to "needs"', Edit(case.span, one), _need(case, job, one))
                     for one, _ in likely(case.arguments[0], free))
@@ -286,6 +291,8 @@ def other_context(case: Case) -> Iterable[Repair]:
     if context == "env" and len(chain) == 2:
         if not _is_condition_of_job(case):
             yield from _value_of_variable(case, chain[1], span)
+    if context in ("job", "needs") and case.scalar and case.scalar.path[:3] == ("on", "workflow_call", "outputs"):
+        yield case.replace('change to "jobs"', "jobs", Span.on_line(span.start.line, span.start.column, span.start.column + len(chain[0])))
     if context == "jobs" and case.job:
         yield from _needs_for_jobs(case, chain, span)
     if context == "secrets" and not is_workflow(case.file):

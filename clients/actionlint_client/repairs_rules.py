@@ -23,6 +23,7 @@ OTHER_EVENTS = {"tag": "push", "tags": "push", "commit": "push", "merge": "push"
 PRESETS = {"@hourly": "0 * * * *", "@daily": "0 0 * * *", "@midnight": "0 0 * * *", "@weekly": "0 0 * * 0", "@monthly": "0 0 1 * *",
            "@yearly": "0 0 1 1 *", "@annually": "0 0 1 1 *"}
 WORD_OF_CRON = re.compile(r"[A-Za-z]{3,}")
+OF_ONE_VALUE = re.compile(r"(?<!\w)(\w+)-\1(?!\w)")
 GREATEST = (59, 23, 31, 12, 6)
 MAX_SCHEDULE_CHARACTERS = 200
 # Values that are often written instead of another one that isn't similar enough to be found.
@@ -135,7 +136,7 @@ def pattern(case: Case) -> Iterable[Repair]:
     plain = re.sub(r"^\^|\$$", "", text)
     closed = RANGE_WITHOUT_END.sub(r"[\1]", plain)
     tries = [without_dot, re.sub(r"^(!?)/", r"\1", text), plain, closed, closed + "]" if closed.count("[") > closed.count("]") else closed,
-             text.strip(), re.sub(r"\s+", "-", text.strip()), text.replace("\\", "/"), re.sub(r"[~^:]", "-", text),
+             text.strip(), re.sub(r"\s+", "-", re.sub(r"\s*/\s*", "/", text.strip())), text.replace("\\", "/"), re.sub(r"[~^:]", "-", text),
              re.sub(r"^([+?])", r"\\\1", text)]
     for changed in dict.fromkeys(tries):
         if changed and changed != text:
@@ -159,6 +160,8 @@ def schedule(case: Case) -> Iterable[Repair]:
     fields += ["*"] * (5 - len(fields))
     fields = [WORD_OF_CRON.sub(lambda match: match[0][:3].upper(), field) for field in fields]
     changed = " ".join(_bounded(field, most) for field, most in zip(fields, GREATEST))
+    if any(OF_ONE_VALUE.search(field) for field in changed.split()):
+        return
     is_same = text in PRESETS or WORD_OF_CRON.sub(lambda match: match[0][:3].upper(), text) == changed
     yield case.replace(f'change to "{changed}"', quoted(changed), here.value.span, is_safe=is_same)
 

@@ -17,12 +17,15 @@ WORD = re.compile(r"[A-Za-z_]\w*")
 SYSTEM_VARIABLES = {"PATH", "HOME", "USER", "SHELL", "PWD", "IFS", "TEMP", "TMP", "TMPDIR", "LANG", "CI", "HOSTNAME", "USERNAME", "EDITOR"}
 # Commands that run their arguments as another script.
 RUNS_ARGUMENTS = re.compile(r"(?:^|[\s;&|(])(?:eval|ssh|xargs|Invoke-Expression|iex)\s|\s-(?:c|e|-eval|Command)\s", re.I)
-COMMAND = re.compile(r"""(?P<head>(?:echo|printf|Write-Output|Write-Host)\s+(?:-[en]+\s+)?|print\(f?)?(?P<quote>["']?)"""
+COMMAND = re.compile(r"""(?P<head>(?:echo|printf|Write-Output|Write-Host)\s+(?:-[en]+\s+)?|(?P<call>print\(f?))?(?P<quote>["']?)"""
                      r"""::(?P<command>set-output|save-state|set-env) name=(?P<name>[^:\n]+?)::(?P<value>[^\n]*?)(?P=quote)"""
-                     r"""(?:(?<=['"])\))?(?=\s{0,9}(?:$|[;&]|\|\||\n))""", re.M)
+                     r"""(?(call)\))(?=\s{0,9}(?:$|[;&]|\|\||\n)|\s{1,9}#)""", re.M)
 ADD_PATH = re.compile(r"""(?P<head>(?:echo|Write-Output|Write-Host)\s+)?(?P<quote>["']?)::add-path::(?P<value>[^\n]*?)(?P=quote)"""
-                      r"""(?=\s{0,9}(?:$|[;&]|\|\||\n))""", re.M)
+                      r"""(?=\s{0,9}(?:$|[;&]|\|\||\n)|\s{1,9}#)""", re.M)
 FILES = {"set-output": "GITHUB_OUTPUT", "save-state": "GITHUB_STATE", "set-env": "GITHUB_ENV", "add-path": "GITHUB_PATH"}
+# What a shell reads in a text without quotes, beside substitutions and variables.
+SUBSTITUTION = re.compile(r"\$\([^()]*\)|`[^`]*`|\$\{\{[^{}]*\}\}")
+READ_WITHOUT_QUOTES = re.compile(r"[|<>\\]|\s\s")
 # What these commands decode, and files don't.
 ENCODED = re.compile(r"%(?:0A|0D|25)", re.I)
 MAX_SUM_CHARACTERS = 200
@@ -166,6 +169,8 @@ def written_to_file(case: Case) -> Iterable[Repair]:
     if here is None or here.value.style in ("'", '"') or ENCODED.search(here.value.value):
         return
     shell = case.shell_of(here)
+    if shell in (*POSIX, "") and _is_in_document(case, here):
+        return
     for match in (*COMMAND.finditer(case.line), *ADD_PATH.finditer(case.line)):
         if not match.start() <= case.span.start.column <= match.end():
             continue
@@ -177,11 +182,19 @@ def written_to_file(case: Case) -> Iterable[Repair]:
             yield case.replace(title, text, Span.on_line(case.span.start.line, match.start(), match.end()), is_safe)
 
 
+def _is_in_document(case: Case, script: Found) -> bool:
+    """Whether the fault is in a here-document of a script, whose lines aren't commands."""
+    before = case.slice(Span(Point(script.value.span.start.line + 1, 0), case.span.start))
+    return script.value.style in ("|", ">") and bool(open_in_bash(before).in_document)
+
+
 def _is_whole(match: re.Match[str], line: str) -> bool:
     """Whether a command is all that stands there: it begins a line or has its head, and all brackets and quotes of its value are closed."""
     value = match["value"]
     before = line[:match.start()].rstrip()
     begins = bool(match["head"]) or not before or before.endswith((";", "&&", "||", "run:"))
+    if not match["quote"] and READ_WITHOUT_QUOTES.search(SUBSTITUTION.sub("", value)):
+        return False
     if (match["head"] or "").startswith("printf") and not value.endswith("\\n"):
         return False
     return begins and value.count("(") == value.count(")") and value.count('"') % 2 == 0 and value.count("'") % 2 == 0
@@ -191,7 +204,9 @@ def _appended(match: re.Match[str], command: str, shell: str) -> str | None:
     file = FILES[command]
     named = f"{match['name']}=" if command != "add-path" else ""
     has_quotes = not match["quote"] and ('"' in match["value"] or "'" in match["value"])
-    quote = "" if has_quotes else match["quote"] or '"'
+    # what a shell splits at line ends without quotes stays one line
+    is_split = shell in (*POSIX, "") and not match["quote"] and ("$" in match["value"] or "`" in match["value"])
+    quote = "" if has_quotes or is_split else match["quote"] or '"'
     text = f"{named}{match['value']}"
     if shell == "pwsh":
         return f"echo {quote}{text}{quote} >> $env:{file}"

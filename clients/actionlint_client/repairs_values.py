@@ -3,11 +3,12 @@ from __future__ import annotations
 
 import itertools
 import re
-from typing import Callable, Iterable
+from typing import Callable, Iterable, Sequence
 
 from .expressions import CHAIN, NAME, links
 from .repair import Case, Repair
 from .repairs_expressions import TWO_QUOTES, arguments_at, expression_of, in_yaml, is_compared, is_in_condition, is_operand, whole_chain
+from .syntax import table
 from .text import Point, Span
 
 PLACEHOLDER = re.compile(r"\{(\d{1,3})\}")
@@ -15,10 +16,20 @@ PLACEHOLDER = re.compile(r"\{(\d{1,3})\}")
 COMPARED = {"needs": "result", "steps": "outcome", "job": "status"}
 
 
+def joined_property(chain: Sequence[str]) -> str | None:
+    """The property of `github` whose words a chain has as properties of one another."""
+    joined = "_".join(chain[1:]).lower()
+    return joined if chain and chain[0].lower() == "github" and joined in table()["contexts"]["github"]["properties"] else None
+
+
 def without_index(case: Case) -> Iterable[Repair]:
-    """The chain up to what can't be indexed, unless that makes a condition constant."""
+    """`github.ref_name` for `github.ref.name`; else the chain up to what can't be indexed, unless that makes a condition constant."""
     chain, span = whole_chain(case)
     line = case.line
+    joined = joined_property(chain)
+    if joined:
+        yield case.replace(f"change to github.{joined}", f"github.{joined}", span)
+        return
     dot = max(line.rfind(sign, span.start.column, case.span.start.column + 1) for sign in (".", "["))
     here = case.scalar
     if not chain or dot <= span.start.column or here is None:
@@ -75,6 +86,15 @@ def fewer_arguments(case: Case) -> Iterable[Repair]:
         return
     start = column + match.end()
     arguments, end = arguments_at(line, start)
+    name = match[0].rstrip("( \t")
+    if name.lower() in ("contains", "startswith", "endswith") and len(arguments) > 2:
+        if line[end:end + 1] == ")":
+            any_of = " || ".join(f"{name}({arguments[0]}, {argument})" for argument in arguments[1:])
+            expression = expression_of(case)
+            is_whole = expression is not None and expression.text.strip() == line[column:end + 1]
+            span = Span.on_line(case.span.start.line, column, end + 1)
+            yield case.replace("ask for each of them", any_of if is_whole else f"({any_of})", span)
+        return
     for kept in range(len(arguments) - 1, -1, -1):
         span = Span.on_line(case.span.start.line, start, end)
         yield case.replace(f"delete {', '.join(arguments[kept:])}", ", ".join(arguments[:kept]), span, deletes=True)

@@ -28,6 +28,7 @@ ODD_SPACE = re.compile("[\u00a0\u2000-\u200a\u202f\u3000]")
 ODD_START = re.compile("[ \u00a0\u2000-\u200a\u202f\u3000-]*(?:[\\w-]+:)?[ \u00a0\u2000-\u200a\u202f\u3000]*")
 MAX_LINES_ABOVE = 200
 IN_QUOTES = re.compile(r"'[^']*'|\"[^\"]*\"")
+EXPRESSION_AS_ITEM = re.compile(r"(?<=[\[,])\s*(\$\{\{[^{}]*\}\})\s*(?=[\],])")
 CLOSERS = {"[": "]", "{": "}"}
 
 
@@ -38,9 +39,25 @@ def with_quotes(case: Case) -> Iterable[Repair]:
         span = case.rest_span(line) if 0 <= line else None
         if span and span.start.column <= (case.span.start.column if line == number else span.end.column):
             text = case.slice(span)
-            if not _opens_quote(text):
+            if not _opens_quote(text) and not _is_collection(text):
                 yield case.replace("put it in quotes", quoted(text), span, is_safe=line == number and _takes_texts(case, span))
-    yield from _quoted_item(case)
+    yield from list(_quoted_expressions(case)) or _quoted_item(case)
+
+
+def _is_collection(text: str) -> bool:
+    """Whether a text is a list or mapping in brackets, closed at its end or nowhere."""
+    closer = CLOSERS.get(text[:1])
+    return closer is not None and not text.startswith("{{") and (text.endswith(closer) or closer not in text)
+
+
+def _quoted_expressions(case: Case) -> Iterable[Repair]:
+    """The expressions that are whole entries of a list in brackets, in quotes."""
+    span = case.rest_span(case.span.start.line)
+    if span and _is_collection(case.slice(span)):
+        edits = [Edit(Span.on_line(span.start.line, match.start(1), match.end(1)), quoted(match[1]))
+                 for match in EXPRESSION_AS_ITEM.finditer(case.line)]
+        if len(edits) > 0:
+            yield case.of("put it in quotes" if len(edits) == 1 else "put the expressions in quotes", *edits)
 
 
 def _opens_quote(text: str) -> bool:

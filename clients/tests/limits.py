@@ -5,7 +5,6 @@
 """
 from __future__ import annotations
 
-import itertools
 import os
 import signal
 import sys
@@ -137,23 +136,31 @@ def other_threads(_: str) -> None:
     assert not is_cut(limit, 0.5, waiting) and ended == [1]
 
 
+class SlowSession(Session):
+    """A session that takes long to send a command."""
+
+    def _send(self, *parts: bytes) -> None:
+        super()._send(*parts)
+        burn(0.6)
+
+
 @CASES.case
 def sessions(program: str) -> None:
-    """A session with the linter is never cut: each command has its reply, however often the time is over."""
-    session, large = Session([program], True, 20.0), (RIGHT + "#" * 200_000).encode()
+    """A session with the linter isn't cut between a command and its reply: the limit is raised after it."""
+    session = SlowSession([program], True, 20.0)
+    for number in range(3):
+        text = f"{WRONG}#{number}".encode()
 
-    def puts() -> None:
-        for number in itertools.count():
-            session.put(FILE, large)
-            burn(0.001 if number % 10 == 0 else 0)
+        def puts() -> None:
+            session.put(FILE, text)
+            burn(1)
 
-    try:
-        for number in range(5):
+        try:
             assert is_cut(LIMIT, 0.01, puts)
-            assert session.put(FILE, f"{WRONG}#{number}".encode()) == "ok 1"
+            assert session.put(FILE, text) == "ok 0"
             assert [line for line in session.report(1 << 20) if b"reff" in line], number
-    except LinterEnded as error:
-        raise AssertionError("the session was cut") from error
+        except LinterEnded as error:
+            raise AssertionError("the session was cut") from error
     session.stop()
 
 

@@ -194,14 +194,13 @@ def ranges_on_a_long_line(_: str) -> None:
     text = "".join(chance.choice("aé\u2028\U0001F600 -") for _ in range(2_000))
     lines = positions.Lines(b"x\n" + text.encode(), True)
     counted = []
-    two_units = positions.TWO_UNITS
+    two_units = positions._two_units
 
-    class Counting:
-        def finditer(self, line):
-            counted.append(1)
-            return two_units.finditer(line)
+    def counting(line: str) -> list[int]:
+        counted.append(1)
+        return two_units(line)
 
-    positions.TWO_UNITS = Counting()
+    positions._two_units = counting
     try:
         for _ in range(500):
             column, width = chance.randrange(1, 2_005), chance.randrange(5)
@@ -209,7 +208,7 @@ def ranges_on_a_long_line(_: str) -> None:
             units = [len(text[:before].encode("utf-16-le")) // 2 for before in (column - 1, column - 1 + width)]
             assert [found["start"]["character"], found["end"]["character"]] == units and found["start"]["line"] == 1
     finally:
-        positions.TWO_UNITS = two_units
+        positions._two_units = two_units
     assert len(counted) == 1
 
 
