@@ -193,7 +193,7 @@ def moves(program: str) -> None:
     assert moved(editor, "greet", "tools/hello") == {here: {"./tools/hello"}}
     assert moved(editor, "greet", "tools/say it") == {here: {"'./tools/say it'"}}
     for old, new in ((FILE, WORKFLOWS + "b.yml"), ("docs", "doc"), ("greet", "file:///elsewhere/greet"), (ACTION, "greet/other.yml"),
-                     (ACTION, ACTION.replace(".yml", ".yaml")), (CALLED, "called.yml"), ("gree", "gre")):
+                     (ACTION, "say/other.yml"), (ACTION, ACTION.replace(".yml", ".yaml")), (CALLED, "called.yml"), ("gree", "gre")):
         assert not moved(editor, old, new), (old, new)
     editor.open(FILE, FOLDER[FILE].replace("uses: ./greet", "uses: './greet'"))
     assert moved(editor, "greet", "it's") == {here: {"./it''s"}}
