@@ -5,6 +5,7 @@ import re
 from typing import Callable, Iterable, NamedTuple
 
 from .expressions import CHAIN, NAME, STRING, links
+from .missing_signs import closed_at_ends, with_apostrophes, with_closed_json
 from .operators import Choice, Token, choice, choice_in, grouped, operators, parts, tokens
 from .repair import NEEDS_QUOTES, Case, Repair, as_scalar, is_within_flow
 from .syntax import is_condition
@@ -17,6 +18,9 @@ DOUBLE_QUOTED = re.compile(r'\\?"([^"\\]*)\\?"')
 CURLY = "\u2018\u2019\u201a\u201c\u201d\u201e\u00b4`"
 CURLY_QUOTED = re.compile(rf"[{CURLY}]([^'\"{CURLY}]*)[{CURLY}]")
 ODD_SPACES = re.compile("[\u00a0\u2000-\u200a\u202f\u3000]")
+OPTIONAL_DOT = re.compile(r"(?<=[\w\])])\?\.(?=[A-Za-z_])")
+OTHER_NULL = re.compile(r"([=!]=\s*)(?:undefined|None|nil)\b")
+VERSION = re.compile(r"(?<![\w.-])v?\d[\w-]*(?:\.[\w-]+)+")
 SINGLE_EQUALS = re.compile(r"(?<![=!<>])=(?!=)")
 WORD_OPERATORS = {"and": "&&", "or": "||", "eq": "==", "ne": "!="}
 WORDS = re.compile(r"(?<![\w.-])(" + "|".join(WORD_OPERATORS) + r")(?![\w.-])", re.I)
@@ -24,6 +28,7 @@ NOT = re.compile(r"(?<![\w.-])not(?![\w.-])\s*", re.I)
 VARIABLE = re.compile(r"\$\{?(GITHUB_|RUNNER_)?([A-Z_][A-Z0-9_]*)\}?")
 METHOD = re.compile(rf"(?<![\w.-])({NAME}(?:\.{NAME})*?)\.(contains|startsWith|endsWith)\(")
 AMONG = re.compile(rf"(?<![\w.-])({NAME}(?:\.{NAME})*)\s+in\s+[\[(]([^\[\]()]*)[\])]")
+LISTED = re.compile(rf"(?<![\w.-])({NAME}(?:\.{NAME})*)\s*([=!])=\s*\[([^\[\]()]*)\]")
 TEXT_IN = re.compile(rf"('[^']*')\s+in\s+({NAME}(?:\.{NAME})*)(?![\w.(\[])")
 LIST_ARGUMENT = re.compile(r"\(\s*\[([^\[\]]*)\]\s*,")
 CALL_OF_CHOICE = re.compile(r"\b(case|iif|if|ternary|choose)\s*\(")
@@ -34,6 +39,7 @@ TWO_QUOTES = "''"
 NO_SIGNS = (";", "$", "\\")
 SUM = re.compile(rf"({CHAIN.pattern}|'[^']*')((?:\s*\+\s*(?:{CHAIN.pattern}|'[^']*'))+)")
 WORD = re.compile(r"[^\s'\"()=!,]*")
+TEST = re.compile(r"[=!<>]=|[<>]|\w\(")
 COMPARISONS = ("==", "!=", "<", ">", "<=", ">=")
 
 
@@ -156,6 +162,14 @@ def _is_in_text(text: str, offset: int) -> bool:
     return any(match.start() < offset < match.end() for match in STRING.finditer(text))
 
 
+def _plain_dots(text: str) -> str:
+    return _outside_texts(text, lambda part: OPTIONAL_DOT.sub(".", part))
+
+
+def _null(text: str) -> str:
+    return _outside_texts(_equals(text), lambda part: OTHER_NULL.sub(r"\1null", part))
+
+
 def _coalesced(text: str) -> str:
     return _outside_texts(text, lambda part: part.replace("??", "||"))
 
@@ -170,7 +184,7 @@ def _all_operators(text: str) -> str:
 
 
 def _double_braces(text: str) -> str | None:
-    bare = text.strip().removeprefix("$")
+    bare = text.strip().removeprefix("$").lstrip()
     return "${{ " + bare.strip("{}").strip() + " }}" if bare[:1] == "{" and bare[-1:] == "}" else None
 
 
@@ -194,6 +208,7 @@ def from_context(case: Case) -> Iterable[Repair]:
 def _called(text: str) -> str:
     """`a.contains(b)` as `contains(a, b)`, `a in [b]` likewise, and `[b]` as a list from JSON."""
     changed = TEXT_IN.sub(r"contains(\2, \1)", text)
+    changed = LISTED.sub(lambda match: ("!" if match[2] == "!" else "") + f"contains({_json_list(match[3])}, {match[1]})", changed)
     changed = METHOD.sub(lambda match: f"{match[2]}({match[1]}, ", changed)
     changed = AMONG.sub(lambda match: f"contains({_json_list(match[2])}, {match[1]})", changed)
     return LIST_ARGUMENT.sub(lambda match: f"({_json_list(match[1])},", changed)
@@ -288,6 +303,18 @@ def _unclosed(text: str) -> list[Token]:
     return found
 
 
+def with_and(case: Case) -> Iterable[Repair]:
+    """`&&` between two parts of a condition, each of which compares or calls something, in one line or in two of a block."""
+    here, line, column = case.scalar, case.span.start.line, case.span.start.column
+    if here is None or not is_in_condition(case) or not TEST.search(case.line[column:]):
+        return
+    before = case.line[:column].rstrip()
+    if not before and here.value.style in ("|", ">") and line > here.value.span.start.line + 1:
+        line, before = line - 1, case.line_at(line - 1).rstrip()
+    if re.search(r"[\w')\]]$", before) and TEST.search(before):
+        yield case.replace('add "&&"', " &&", Span.at(Point(line, len(before))))
+
+
 def without_rest(case: Case) -> Iterable[Repair]:
     """An expression without `&&` or `||` at its end, or without a bracket that closes nothing."""
     expression = expression_of(case)
@@ -331,6 +358,8 @@ def inner_braces(case: Case) -> Iterable[Repair]:
 def closed_text(case: Case) -> Iterable[Repair]:
     expression = expression_of(case)
     if expression:
+        for text in closed_at_ends(decoded(expression)):
+            yield with_expression(case, "close the text", expression, text)
         quote = "''" if expression.style == "'" else "'"
         stripped = expression.text.rstrip()
         for text in (stripped + quote, stripped[:-1] + quote + stripped[-1:] if stripped.endswith(")") else stripped + quote + ")"):
@@ -369,6 +398,13 @@ def word_as_text(case: Case) -> Iterable[Repair]:
     if expression and re.match(r"[\w./*-]", line[start:end]) and is_operand(line[:start], line[end:]):
         span = Span.on_line(case.span.start.line, start, end)
         yield case.replace("put it in quotes", in_yaml(f"'{line[start:end]}'", expression), span)
+
+
+def version_as_text(case: Case) -> Iterable[Repair]:
+    """A version with several dots, which is no number, in quotes."""
+    for match in VERSION.finditer(case.line):
+        if match.start() < case.span.start.column <= match.end() and is_operand(case.line[:match.start()], case.line[match.end():]):
+            yield from word_as_text(case)
 
 
 def is_operand(before: str, after: str) -> bool:
@@ -419,12 +455,13 @@ OPERATORS = rewritten('write "&&", "||", "!"', _operators, True)
 REPAIRS: dict[str, tuple[Callable[[Case], Iterable[Repair]], ...]] = {
     "X1": (SINGLE_QUOTES, rewritten("write plain spaces", _plain_spaces, True), DOUBLED, as_choice, EQUALS, OPERATORS, SPREAD,
            rewritten('write "||", which takes the second for an empty text too', _coalesced), inner_braces,
-           rewritten("write a call of format", _formatted), rewritten("write the operators of expressions", _all_operators, True),
+           rewritten('write "."', _plain_dots, True), rewritten('write "null"', _null), rewritten("write a call of format", _formatted),
+           rewritten("write the operators of expressions", _all_operators, True),
            rewritten('write "${{" and "}}"', _double_braces, True), from_context, word_as_text, without_character),
-    "X2": (closed_text,),
+    "X2": (rewritten("write the apostrophe twice", with_apostrophes), closed_text),
     "X3": (EQUALS, OPERATORS, SPREAD, DOUBLED, as_choice, rewritten("call a function", _called), inner_braces, closed_brackets, with_comma,
-           without_rest, without_character),
-    "X4": (closed_brackets, without_rest),
+           with_and, version_as_text, without_rest, without_character),
+    "X4": (rewritten("close the brackets", with_closed_json), closed_brackets, without_rest),
     "X20": (closed_braces,),
     "G18": (inner_braces, one_pair),
 }

@@ -21,6 +21,9 @@ from .tree import Path
 OTHER_PROPERTIES = {"branch": "ref_name", "branch_name": "ref_name", "tag": "ref_name", "tag_name": "ref_name", "sha_short": "sha",
                     "commit": "sha", "commit_sha": "sha", "user": "actor", "author": "actor", "repo": "repository",
                     "owner": "repository_owner", "event_type": "event_name", "build_number": "run_number", "run": "run_id"}
+# What events have, which is often written without `event`.
+OF_EVENTS = {"pull_request", "issue", "release", "inputs", "comment", "review", "discussion", "head_commit", "commits", "sender", "label",
+             "workflow_run", "deployment", "client_payload", "before", "after", "forced", "number", "check_run", "check_suite"}
 OTHER_FUNCTIONS = {"failed": "failure", "succeeded": "success", "canceled": "cancelled", "toboolean": "fromJSON", "tonumber": "fromJSON",
                    "parsejson": "fromJSON", "tostring": "toJSON", "includes": "contains", "glob": "hashFiles", "hash": "hashFiles"}
 WORDS = ("true", "false", "null")
@@ -95,9 +98,24 @@ def other_property(case: Case) -> Iterable[Repair]:
         name = wrong if wrong in outputs else misspelled(wrong, outputs)
         if name:
             yield case.replace(f'change to "outputs.{name}"', f"outputs.{name}")
-    meant = OTHER_PROPERTIES.get(case.arguments[0].lower())
-    if meant and _chain_before(case)[:1] == ("github",):
+    name = wrong.lower().removeprefix("github_")
+    of_github_ = table()["contexts"]["github"]["properties"]
+    meant = OTHER_PROPERTIES.get(wrong.lower()) or (name if name != wrong.lower() and name in of_github_ else None)
+    if meant is None and wrong.lower() in OF_EVENTS:
+        meant = f"event.{wrong}"
+    if meant and [one.lower() for one in before] == ["github"]:
         yield case.replace(f'change to "{meant}"', meant)
+
+
+def row_of_matrix(case: Case) -> Iterable[Repair]:
+    """`matrix.os` for `matrix.include.os` and `strategy.matrix.os`."""
+    chain, span = whole_chain(case)
+    names_ = [name.lower() for name in chain]
+    scope = scope_of(case)
+    if scope and len(chain) > 2 and names_[:2] in (["matrix", "include"], ["strategy", "matrix"]):
+        if names_[2] in [one.name.lower() for one in scope.properties(("matrix",))]:
+            text = ".".join(("matrix", *chain[2:]))
+            yield case.replace(f"change to {text}", text, span)
 
 
 def declared_row(case: Case) -> Iterable[Repair]:
@@ -182,6 +200,8 @@ def sibling_property(case: Case) -> Iterable[Repair]:
     if scope is None or not 1 < number < len(chain) or joined_property(chain):
         return
     name = chain[number]
+    if (chain[0].lower(), name.lower()) == ("runner", "name"):
+        return
     if name in [one.name for one in scope.properties(chain[:number - 1])]:
         text = ".".join([*chain[:number - 1], *chain[number:]])
         yield case.replace(f"change to {text}", text, span)
@@ -302,7 +322,7 @@ def other_context(case: Case) -> Iterable[Repair]:
         yield from _passed_as_secret(case)
     if _is_condition_of_job(case):
         yield from _moved_to_steps(case, chain, span)
-    if context == "env" and len(chain) == 2:
+    if context == "env" and len(chain) == 2 and (_is_condition_of_job(case) or "${{" not in (case.tree.text("env", chain[1]) or "")):
         yield case.replace(f"change to vars.{chain[1]}, a variable of the repository", f"vars.{chain[1]}", span)
 
 
@@ -486,5 +506,5 @@ REPAIRS: dict[str, tuple[Callable[[Case], Iterable[Repair]], ...]] = {
     "X9": (near_name, choice_by_call),
     "X10": (moved_variable,),
     "X14": (sibling_property,),
-    "X13": (other_property, near_name, needed_job, output_of_job, declared_input, declared_output, declared_row),
+    "X13": (other_property, row_of_matrix, near_name, needed_job, output_of_job, declared_input, declared_output, declared_row),
 }

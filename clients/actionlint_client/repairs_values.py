@@ -12,6 +12,8 @@ from .syntax import table
 from .text import Point, Span
 
 PLACEHOLDER = re.compile(r"\{(\d{1,3})\}")
+# What expressions can't ask of a text.
+LENGTHS = ("length", "len", "size", "count")
 # What of a job or a step is compared with a text, and of which objects.
 COMPARED = {"needs": "result", "steps": "outcome", "job": "status"}
 
@@ -30,9 +32,13 @@ def without_index(case: Case) -> Iterable[Repair]:
     if joined:
         yield case.replace(f"change to github.{joined}", f"github.{joined}", span)
         return
+    names = [name.lower() for name in chain]
+    if names[:2] == ["github", "repository"] and len(chain) == 3 and names[2] not in LENGTHS:
+        yield case.replace(f"change to github.event.repository.{chain[2]}", f"github.event.repository.{chain[2]}", span)
+        return
     dot = max(line.rfind(sign, span.start.column, case.span.start.column + 1) for sign in (".", "["))
     here = case.scalar
-    if not chain or dot <= span.start.column or here is None:
+    if not chain or dot <= span.start.column or here is None or names[-1] in LENGTHS:
         return
     is_test = is_in_condition(case) and not is_operand(line[:span.start.column], line[span.end.column:])
     if not is_test and not line[:span.start.column].rstrip().endswith("!"):
