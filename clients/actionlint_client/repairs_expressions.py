@@ -7,6 +7,8 @@ from typing import Callable, Iterable, NamedTuple
 from .expressions import CHAIN, NAME, STRING, links
 from .missing_signs import closed_at_ends, with_apostrophes, with_closed_json
 from .operators import Choice, Token, choice, choice_in, grouped, operators, parts, tokens
+from .other_syntax import (template_as_format, with_comparison, with_dots, with_equal_quotes, with_round_brackets, with_single_commas,
+                           with_text_in_brackets, without_if, without_spaces_in_operators)
 from .repair import NEEDS_QUOTES, Case, Repair, as_scalar, is_within_flow
 from .syntax import is_condition
 from .text import Point, Span
@@ -29,7 +31,7 @@ VARIABLE = re.compile(r"\$\{?(GITHUB_|RUNNER_)?([A-Z_][A-Z0-9_]*)\}?")
 METHOD = re.compile(rf"(?<![\w.-])({NAME}(?:\.{NAME})*?)\.(contains|startsWith|endsWith)\(")
 AMONG = re.compile(rf"(?<![\w.-])({NAME}(?:\.{NAME})*)\s+in\s+[\[(]([^\[\]()]*)[\])]")
 LISTED = re.compile(rf"(?<![\w.-])({NAME}(?:\.{NAME})*)\s*([=!])=\s*\[([^\[\]()]*)\]")
-TEXT_IN = re.compile(rf"('[^']*')\s+in\s+({NAME}(?:\.{NAME})*)(?![\w.(\[])")
+TEXT_IN = re.compile(rf"(?:\bcontains\(\s*)?('[^']*')\s+in\s+({NAME}(?:\.(?:{NAME}|\*))*)(?![\w.(\[])")
 LIST_ARGUMENT = re.compile(r"\(\s*\[([^\[\]]*)\]\s*,")
 CALL_OF_CHOICE = re.compile(r"\b(case|iif|if|ternary|choose)\s*\(")
 ARGUMENTS = re.compile(r"(?:'(?:[^']|'')*'|[^()']|\((?:[^()']|'[^']*')*\))*")
@@ -116,7 +118,14 @@ def _outside_texts(text: str, change: Callable[[str], str]) -> str:
     return "".join([*found, change(text[at:])])
 
 
+def _outside(change: Callable[[str], str]) -> Callable[[str], str]:
+    """A change of a text that keeps what is in quotes."""
+    return lambda text: _outside_texts(text, change)
+
+
 def _single_quotes(text: str) -> str:
+    if "`" in text and "${" in text:
+        return text
     changed = DOUBLE_QUOTED.sub(lambda match: "'" + match[1].replace("'", "''") + "'", text)
     return _outside_texts(changed, lambda part: CURLY_QUOTED.sub(r"'\1'", part))
 
@@ -207,7 +216,7 @@ def from_context(case: Case) -> Iterable[Repair]:
 
 def _called(text: str) -> str:
     """`a.contains(b)` as `contains(a, b)`, `a in [b]` likewise, and `[b]` as a list from JSON."""
-    changed = TEXT_IN.sub(r"contains(\2, \1)", text)
+    changed = TEXT_IN.sub(lambda match: f"contains({match[2]}, {match[1]}" + ("" if match[0].startswith("contains") else ")"), text)
     changed = LISTED.sub(lambda match: ("!" if match[2] == "!" else "") + f"contains({_json_list(match[3])}, {match[1]})", changed)
     changed = METHOD.sub(lambda match: f"{match[2]}({match[1]}, ", changed)
     changed = AMONG.sub(lambda match: f"contains({_json_list(match[2])}, {match[1]})", changed)
@@ -452,16 +461,26 @@ SPREAD = rewritten("compare it with each", _spread)
 EQUALS = rewritten('write "==" and "!="', _equals, True)
 OPERATORS = rewritten('write "&&", "||", "!"', _operators, True)
 
+DOTS = rewritten('write "." after the context', _outside(with_dots))
+OTHER_SYNTAX = (
+    rewritten("delete the space in the operator", _outside(without_spaces_in_operators), True), DOTS,
+    rewritten("write a call with round brackets", with_round_brackets), rewritten("write one comma", _outside(with_single_commas)),
+    rewritten("write the operator", _outside(with_comparison)), rewritten("write single quotes", with_equal_quotes),
+    rewritten("put it in quotes", with_text_in_brackets), rewritten("delete what isn't the condition", without_if, deletes=True))
+
 REPAIRS: dict[str, tuple[Callable[[Case], Iterable[Repair]], ...]] = {
-    "X1": (SINGLE_QUOTES, rewritten("write plain spaces", _plain_spaces, True), DOUBLED, as_choice, EQUALS, OPERATORS, SPREAD,
+    "X1": (rewritten("write a call of format", template_as_format), SINGLE_QUOTES, rewritten("write plain spaces", _plain_spaces, True),
+           DOUBLED, as_choice, EQUALS, OPERATORS, SPREAD,
            rewritten('write "||", which takes the second for an empty text too', _coalesced), inner_braces,
            rewritten('write "."', _plain_dots, True), rewritten('write "null"', _null), rewritten("write a call of format", _formatted),
            rewritten("write the operators of expressions", _all_operators, True),
-           rewritten('write "${{" and "}}"', _double_braces, True), from_context, word_as_text, without_character),
+           rewritten('write "${{" and "}}"', _double_braces, True), from_context, *OTHER_SYNTAX, word_as_text, without_character),
     "X2": (rewritten("write the apostrophe twice", with_apostrophes), closed_text),
-    "X3": (EQUALS, OPERATORS, SPREAD, DOUBLED, as_choice, rewritten("call a function", _called), inner_braces, closed_brackets, with_comma,
-           with_and, version_as_text, without_rest, without_character),
+    "X3": (EQUALS, OPERATORS, SPREAD, DOUBLED, as_choice, *OTHER_SYNTAX, rewritten("call a function", _called), inner_braces,
+           closed_brackets, with_comma, with_and, version_as_text, without_rest, without_character),
     "X4": (rewritten("close the brackets", with_closed_json), closed_brackets, without_rest),
+    "X7": (DOTS,),
+    "X9": (rewritten("delete what isn't the condition", without_if, deletes=True),),
     "X20": (closed_braces,),
     "G18": (inner_braces, one_pair),
 }

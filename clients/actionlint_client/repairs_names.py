@@ -5,13 +5,14 @@ import re
 from typing import Callable, Iterable
 
 from . import project as files
-from .expressions import Scope, chain_before
+from .expressions import chain_before
 from .names import likely, misspelled
 from .operators import grouped, parts
 from .paths import is_workflow
 from .report import Fault
-from .repair import Case, Edit, Found, Repair, first_entry, levels_of, next_entry, quoted, without_entry, without_key
+from .repair import Case, Edit, Found, Repair, first_entry, next_entry, quoted, without_entry, without_key
 from .repairs_expressions import choice_by_call, expression_of, in_yaml, is_compared, is_operand, whole_chain
+from .repairs_steps import named_step, output_of_any_job, row_of_matrix, scope_of
 from .repairs_values import joined_property
 from .syntax import table
 from .text import Point, Span
@@ -49,13 +50,6 @@ def near_name(case: Case) -> Iterable[Repair]:
         yield case.replace(f'change to "{meant}"', str(meant))
 
 
-def scope_of(case: Case) -> Scope | None:
-    here = case.scalar
-    if here is None:
-        return None
-    return Scope(case.project, case.file, case.tree, here.path, levels_of(case.tree, here.path))
-
-
 def _scope_names(case: Case) -> list[str]:
     scope = scope_of(case)
     if scope is None:
@@ -82,7 +76,8 @@ def of_github(case: Case) -> Iterable[Repair]:
     """A property of `github` that is written without its context, or as the variable of its name."""
     name = case.arguments[0].lower().removeprefix("github_")
     name = OTHER_PROPERTIES.get(name, name)
-    if name in table()["contexts"]["github"]["properties"]:
+    is_property = case.line[:case.span.start.column].endswith("->")
+    if name in table()["contexts"]["github"]["properties"] and not is_property:
         yield case.replace(f"change to github.{name}", f"github.{name}")
 
 
@@ -105,17 +100,6 @@ def other_property(case: Case) -> Iterable[Repair]:
         meant = f"event.{wrong}"
     if meant and [one.lower() for one in before] == ["github"]:
         yield case.replace(f'change to "{meant}"', meant)
-
-
-def row_of_matrix(case: Case) -> Iterable[Repair]:
-    """`matrix.os` for `matrix.include.os` and `strategy.matrix.os`."""
-    chain, span = whole_chain(case)
-    names_ = [name.lower() for name in chain]
-    scope = scope_of(case)
-    if scope and len(chain) > 2 and names_[:2] in (["matrix", "include"], ["strategy", "matrix"]):
-        if names_[2] in [one.name.lower() for one in scope.properties(("matrix",))]:
-            text = ".".join(("matrix", *chain[2:]))
-            yield case.replace(f"change to {text}", text, span)
 
 
 def declared_row(case: Case) -> Iterable[Repair]:
@@ -150,6 +134,12 @@ def unknown_word(case: Case) -> Iterable[Repair]:
         return
     if case.arguments[0].lower() in WORDS:
         yield case.replace(f'change to "{case.arguments[0].lower()}"', case.arguments[0].lower(), is_safe=True)
+        return
+    before, after = case.line[:case.span.start.column], case.line[case.span.end.column:]
+    expression = expression_of(case)
+    if expression and before.endswith("[") and after.startswith("]"):
+        yield case.replace("put it in quotes", in_yaml(f"'{case.written}'", expression))
+    if before.endswith(("[", "->")):
         return
     is_right_side = re.search(r"[=!]=\s*$", case.line[:case.span.start.column]) is not None
     ways = (as_text, with_context) if is_right_side else (with_context, as_text)
@@ -313,6 +303,8 @@ def other_context(case: Case) -> Iterable[Repair]:
             yield from _value_of_variable(case, chain[1], span)
     if context in ("job", "needs") and case.scalar and case.scalar.path[:3] == ("on", "workflow_call", "outputs"):
         yield case.replace('change to "jobs"', "jobs", Span.on_line(span.start.line, span.start.column, span.start.column + len(chain[0])))
+    if context == "steps" and case.scalar and case.scalar.path[:3] == ("on", "workflow_call", "outputs"):
+        yield from output_of_any_job(case, span)
     if context == "jobs" and case.job:
         yield from _needs_for_jobs(case, chain, span)
     if context == "secrets" and not is_workflow(case.file):
@@ -506,5 +498,5 @@ REPAIRS: dict[str, tuple[Callable[[Case], Iterable[Repair]], ...]] = {
     "X9": (near_name, choice_by_call),
     "X10": (moved_variable,),
     "X14": (sibling_property,),
-    "X13": (other_property, row_of_matrix, near_name, needed_job, output_of_job, declared_input, declared_output, declared_row),
+    "X13": (other_property, row_of_matrix, near_name, needed_job, named_step, output_of_job, declared_input, declared_output, declared_row),
 }
