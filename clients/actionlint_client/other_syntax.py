@@ -3,6 +3,9 @@ from __future__ import annotations
 
 import re
 
+from .operators import tokens
+
+PAIRS = {"(": ")", "[": "]"}
 CONTEXTS = "github|env|vars|job|jobs|steps|runner|secrets|strategy|matrix|needs|inputs"
 FUNCTIONS = "contains|startsWith|endsWith|format|join|toJSON|fromJSON|hashFiles|success|always|cancelled|failure"
 TEMPLATE = re.compile(r"`([^`'{}]*(?:\$\{[\w.-]+\}[^`'{}]*)+)`")
@@ -42,6 +45,17 @@ def with_round_brackets(text: str) -> str:
 def with_single_commas(text: str) -> str:
     """A text with one comma between arguments, and none after the last one."""
     return re.sub(r",(?:\s*,)+", ",", text.replace(";", ",")).replace(",)", ")").replace(", )", ")")
+
+
+def with_matching_brackets(text: str) -> str:
+    """A text whose brackets are closed by those of their kind."""
+    signs, is_open = list(text), []
+    for token in tokens(text):
+        if token.text in PAIRS:
+            is_open.append(PAIRS[token.text])
+        elif token.text in PAIRS.values() and is_open:
+            signs[token.start] = is_open.pop()
+    return "".join(signs)
 
 
 def with_comparison(text: str) -> str:

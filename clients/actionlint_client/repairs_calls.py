@@ -251,12 +251,13 @@ def _right_calls(case: Case, text: str) -> Iterable[tuple[str, bool]]:
     if is_workflow(case.file) and text.rpartition("/")[2] and case.project.has(f"{WORKFLOWS}/{text.rpartition('/')[2]}"):
         yield f"./{WORKFLOWS}/{text.rpartition('/')[2]}", False
     if not is_workflow(case.file) or (here := case.value) is None or len(here.path) > 3:
-        image = re.fullmatch(r"[a-z][a-z0-9.-]*:(?:\d[\w.-]*|latest)", text)
-        if image:
+        image = re.fullmatch(r"[a-z][a-z0-9.-]*:(?:\d[\w.-]*|latest)|[\w-]+(?:\.[\w-]+)+/[\w./-]+:[\w.-]+", text)
+        if image and not text.startswith("github.com/"):
             yield f"docker://{text}", False
             return
     if re.fullmatch(r"docker:[\w./:-]+", text):
         yield re.sub(r"^docker:/*", "docker://", text), True
+    text = text.replace("\\", "/")
     bare = re.sub(r"^(?:https?://)?(?:www\.)?github\.com/", "", text)
     bare = re.sub(r"\.git(?=@|$)", "", bare).strip("/")
     name, sign, version = bare.partition("@")

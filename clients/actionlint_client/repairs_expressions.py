@@ -7,8 +7,8 @@ from typing import Callable, Iterable, NamedTuple
 from .expressions import CHAIN, NAME, STRING, links
 from .missing_signs import closed_at_ends, with_apostrophes, with_closed_json
 from .operators import Choice, Token, choice, choice_in, grouped, operators, parts, tokens
-from .other_syntax import (template_as_format, with_comparison, with_dots, with_equal_quotes, with_round_brackets, with_single_commas,
-                           with_text_in_brackets, without_if, without_spaces_in_operators)
+from .other_syntax import (template_as_format, with_comparison, with_dots, with_equal_quotes, with_matching_brackets, with_round_brackets,
+                           with_single_commas, with_text_in_brackets, without_if, without_spaces_in_operators)
 from .repair import NEEDS_QUOTES, Case, Repair, as_scalar, is_within_flow
 from .syntax import is_condition
 from .text import Point, Span
@@ -375,6 +375,14 @@ def closed_text(case: Case) -> Iterable[Repair]:
             yield case.replace("close the text", text + expression.text[len(stripped):], expression.span)
 
 
+def second_brace(case: Case) -> Iterable[Repair]:
+    """Two braces in place of one, or of two with a space between, that end an expression."""
+    line, column = case.line, case.span.start.column
+    match = re.match(r"\}(?!\})(?:\s+\})?", line[column:])
+    if match and "${{" in line[:column]:
+        yield case.replace("close the braces", "}}", Span.on_line(case.span.start.line, column, column + match.end()))
+
+
 def closed_braces(case: Case) -> Iterable[Repair]:
     """Two braces after the expression."""
     rest = case.line[case.span.start.column:]
@@ -465,6 +473,7 @@ DOTS = rewritten('write "." after the context', _outside(with_dots))
 OTHER_SYNTAX = (
     rewritten("delete the space in the operator", _outside(without_spaces_in_operators), True), DOTS,
     rewritten("write a call with round brackets", with_round_brackets), rewritten("write one comma", _outside(with_single_commas)),
+    rewritten("write the other bracket", with_matching_brackets),
     rewritten("write the operator", _outside(with_comparison)), rewritten("write single quotes", with_equal_quotes),
     rewritten("put it in quotes", with_text_in_brackets), rewritten("delete what isn't the condition", without_if, deletes=True))
 
@@ -474,7 +483,8 @@ REPAIRS: dict[str, tuple[Callable[[Case], Iterable[Repair]], ...]] = {
            rewritten('write "||", which takes the second for an empty text too', _coalesced), inner_braces,
            rewritten('write "."', _plain_dots, True), rewritten('write "null"', _null), rewritten("write a call of format", _formatted),
            rewritten("write the operators of expressions", _all_operators, True),
-           rewritten('write "${{" and "}}"', _double_braces, True), from_context, *OTHER_SYNTAX, word_as_text, without_character),
+           rewritten('write "${{" and "}}"', _double_braces, True), from_context, *OTHER_SYNTAX, second_brace, word_as_text,
+           without_character),
     "X2": (rewritten("write the apostrophe twice", with_apostrophes), closed_text),
     "X3": (EQUALS, OPERATORS, SPREAD, DOUBLED, as_choice, *OTHER_SYNTAX, rewritten("call a function", _called), inner_braces,
            closed_brackets, with_comma, with_and, version_as_text, without_rest, without_character),

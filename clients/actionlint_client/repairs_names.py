@@ -11,8 +11,8 @@ from .operators import grouped, parts
 from .paths import is_workflow
 from .report import Fault
 from .repair import Case, Edit, Found, Repair, first_entry, next_entry, quoted, without_entry, without_key
-from .repairs_expressions import choice_by_call, expression_of, in_yaml, is_compared, is_operand, whole_chain
-from .repairs_steps import named_step, output_of_any_job, row_of_matrix, scope_of
+from .repairs_expressions import choice_by_call, expression_of, in_yaml, is_operand, whole_chain
+from .repairs_steps import named_step, output_of_any_job, scope_of, shorter_chain
 from .repairs_values import joined_property
 from .syntax import table
 from .text import Point, Span
@@ -32,6 +32,7 @@ OTHER_NULLS = ("none", "nil", "undefined")
 # Words for the state of a job or a step that the other one has.
 OTHER_STATES = {"needs": {"outcome": "result", "conclusion": "result", "status": "result", "state": "result"},
                 "steps": {"result": "outcome", "status": "outcome", "state": "outcome"}, "job": {"state": "status", "result": "status"}}
+PROPERTIES_OF_ALL = {"needs": ["result", "outputs"], "steps": ["outputs", "outcome", "conclusion"]}
 # Whose properties can be meant by a word without a context.
 OF_STRATEGY = {"fail-fast", "max-parallel"}
 OF_CONTEXTS = ("matrix", "inputs", "env", "needs", "steps", "github", "runner")
@@ -61,6 +62,8 @@ def _properties_before(case: Case) -> list[str]:
     """The properties of what is before the fault."""
     scope = scope_of(case)
     chain = _chain_before(case)
+    if len(chain) == 2 and chain[1] == "*" and chain[0].lower() in PROPERTIES_OF_ALL:
+        return PROPERTIES_OF_ALL[chain[0].lower()]
     return [one.name for one in scope.properties(chain)] if scope and chain else []
 
 
@@ -126,7 +129,7 @@ def unknown_word(case: Case) -> Iterable[Repair]:
     """A function with its missing brackets, a property with its missing context, or a text in quotes: that first, if it is compared with
     what is before it."""
     is_function = case.arguments[0].lower() in [name.lower() for name in _functions(case)]
-    if is_function and not is_compared(case.line[:case.span.start.column], case.line[case.span.end.column:]):
+    if is_function and not is_operand(case.line[:case.span.start.column], case.line[case.span.end.column:]):
         yield case.replace('add "()"', case.written + "()", is_safe=True)
         return
     if case.arguments[0].lower() in OTHER_NULLS:
@@ -137,9 +140,11 @@ def unknown_word(case: Case) -> Iterable[Repair]:
         return
     before, after = case.line[:case.span.start.column], case.line[case.span.end.column:]
     expression = expression_of(case)
-    if expression and before.endswith("[") and after.startswith("]"):
+    chain, _ = whole_chain(case)
+    if expression and before.endswith("[") and after.startswith("]") and chain[:1] and chain[0].lower() in _scope_names(case):
         yield case.replace("put it in quotes", in_yaml(f"'{case.written}'", expression))
-    if before.endswith(("[", "->")):
+        return
+    if before.endswith("->"):
         return
     is_right_side = re.search(r"[=!]=\s*$", case.line[:case.span.start.column]) is not None
     ways = (as_text, with_context) if is_right_side else (with_context, as_text)
@@ -498,5 +503,5 @@ REPAIRS: dict[str, tuple[Callable[[Case], Iterable[Repair]], ...]] = {
     "X9": (near_name, choice_by_call),
     "X10": (moved_variable,),
     "X14": (sibling_property,),
-    "X13": (other_property, row_of_matrix, near_name, needed_job, named_step, output_of_job, declared_input, declared_output, declared_row),
+    "X13": (other_property, shorter_chain, near_name, needed_job, named_step, output_of_job, declared_input, declared_output, declared_row),
 }

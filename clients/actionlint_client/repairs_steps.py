@@ -18,11 +18,14 @@ def scope_of(case: Case) -> Scope | None:
     return Scope(case.project, case.file, case.tree, here.path, levels_of(case.tree, here.path))
 
 
-def row_of_matrix(case: Case) -> Iterable[Repair]:
-    """`matrix.os` for `matrix.include.os` and `strategy.matrix.os`."""
+def shorter_chain(case: Case) -> Iterable[Repair]:
+    """`matrix.os` for `matrix.include.os` and `strategy.matrix.os`; a context that is written as a property of `github`."""
     chain, span = whole_chain(case)
     names_ = [name.lower() for name in chain]
     scope = scope_of(case)
+    if len(chain) > 2 and names_[0] == "github" and names_[1] in ("secrets", "vars", "matrix", "needs", "steps", "runner"):
+        text = ".".join(chain[1:])
+        yield case.replace(f"change to {text}", text, span)
     if scope and len(chain) > 2 and names_[:2] in (["matrix", "include"], ["strategy", "matrix"]):
         if names_[2] in [one.name.lower() for one in scope.properties(("matrix",))]:
             text = ".".join(("matrix", *chain[2:]))

@@ -36,6 +36,9 @@ def without_index(case: Case) -> Iterable[Repair]:
     if names[:2] == ["github", "repository"] and len(chain) == 3 and names[2] not in LENGTHS:
         yield case.replace(f"change to github.event.repository.{chain[2]}", f"github.event.repository.{chain[2]}", span)
         return
+    if names[:2] == ["github", "env"] and len(chain) == 3:
+        yield case.replace(f"change to env.{chain[2]}", f"env.{chain[2]}", span)
+        return
     dot = max(line.rfind(sign, span.start.column, case.span.start.column + 1) for sign in (".", "["))
     here = case.scalar
     if not chain or dot <= span.start.column or here is None or names[-1] in LENGTHS:

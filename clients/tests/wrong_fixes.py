@@ -96,7 +96,7 @@ WRONG_FIXES = (
     ("quotes_are_always_meant", "repairs_yaml.py", KEYS, "is_safe=line == number and _takes_texts(case, span)", "is_safe=True"),
     ("each_fix_is_preferred", "actions.py", "hover_and_fixes.py fixes", '"isPreferred": fix.repair.is_safe', '"isPreferred": True'),
     ("a_state_is_a_function", "repairs_names.py", NAMES,
-     'if is_function and not is_compared(case.line[:case.span.start.column], case.line[case.span.end.column:]):', "if is_function:"),
+     'if is_function and not is_operand(case.line[:case.span.start.column], case.line[case.span.end.column:]):', "if is_function:"),
     ("an_action_needs_a_description", "problems.py", "earlier.py severities", '== ("K2", "description"):', '== ("K2", "none"):'),
     ("versions_of_others_are_not_seen", "repairs_calls.py", NAMES, "[version for version, _ in found.most_common()] or", "[] or"),
 )
