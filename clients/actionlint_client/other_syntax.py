@@ -58,6 +58,12 @@ def with_matching_brackets(text: str) -> str:
     return "".join(signs)
 
 
+def without_stray_brackets(text: str) -> str:
+    """A text without brackets that close nothing."""
+    stray = next((token.start for token in tokens(text) if token.depth < 0), None)
+    return text if stray is None else text[:stray] + text[stray + 1:]
+
+
 def with_comparison(text: str) -> str:
     """A text with operators in place of words that compare."""
     return IS.sub("==", IS_NOT.sub("!=", text))

@@ -8,7 +8,8 @@ from .expressions import CHAIN, NAME, STRING, links
 from .missing_signs import closed_at_ends, with_apostrophes, with_closed_json
 from .operators import Choice, Token, choice, choice_in, grouped, operators, parts, tokens
 from .other_syntax import (template_as_format, with_comparison, with_dots, with_equal_quotes, with_matching_brackets, with_round_brackets,
-                           with_single_commas, with_text_in_brackets, without_if, without_spaces_in_operators)
+                           with_single_commas, with_text_in_brackets, without_if, without_spaces_in_operators,
+                           without_stray_brackets)
 from .repair import NEEDS_QUOTES, Case, Repair, as_scalar, is_within_flow
 from .syntax import is_condition
 from .text import Point, Span
@@ -371,7 +372,8 @@ def closed_text(case: Case) -> Iterable[Repair]:
             yield with_expression(case, "close the text", expression, text)
         quote = "''" if expression.style == "'" else "'"
         stripped = expression.text.rstrip()
-        for text in (stripped + quote, stripped[:-1] + quote + stripped[-1:] if stripped.endswith(")") else stripped + quote + ")"):
+        for text in (stripped + quote, stripped[:-1] + quote + stripped[-1:] if stripped.endswith(")") else stripped + quote + ")",
+                     stripped + quote + "]"):
             yield case.replace("close the text", text + expression.text[len(stripped):], expression.span)
 
 
@@ -487,7 +489,8 @@ REPAIRS: dict[str, tuple[Callable[[Case], Iterable[Repair]], ...]] = {
            without_character),
     "X2": (rewritten("write the apostrophe twice", with_apostrophes), closed_text),
     "X3": (EQUALS, OPERATORS, SPREAD, DOUBLED, as_choice, *OTHER_SYNTAX, rewritten("call a function", _called), inner_braces,
-           closed_brackets, with_comma, with_and, version_as_text, without_rest, without_character),
+           closed_brackets, with_comma, with_and, version_as_text, without_rest,
+           rewritten("delete the bracket", without_stray_brackets, deletes=True), without_character),
     "X4": (rewritten("close the brackets", with_closed_json), closed_brackets, without_rest),
     "X7": (DOTS,),
     "X9": (rewritten("delete what isn't the condition", without_if, deletes=True),),

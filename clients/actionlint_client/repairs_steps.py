@@ -26,6 +26,10 @@ def shorter_chain(case: Case) -> Iterable[Repair]:
     if len(chain) > 2 and names_[0] == "github" and names_[1] in ("secrets", "vars", "matrix", "needs", "steps", "runner"):
         text = ".".join(chain[1:])
         yield case.replace(f"change to {text}", text, span)
+    if scope and len(chain) == 2 and names_[0] == "matrix":
+        rows = [row.name for row in scope.properties(("matrix",))]
+        for row in [row for row in rows if chain[1] in [one.name for one in scope.properties(("matrix", row))]]:
+            yield case.replace(f"change to matrix.{row}.{chain[1]}", f"matrix.{row}.{chain[1]}", span)
     if scope and len(chain) > 2 and names_[:2] in (["matrix", "include"], ["strategy", "matrix"]):
         if names_[2] in [one.name.lower() for one in scope.properties(("matrix",))]:
             text = ".".join(("matrix", *chain[2:]))

@@ -99,4 +99,10 @@ WRONG_FIXES = (
      'if is_function and not is_operand(case.line[:case.span.start.column], case.line[case.span.end.column:]):', "if is_function:"),
     ("an_action_needs_a_description", "problems.py", "earlier.py severities", '== ("K2", "description"):', '== ("K2", "none"):'),
     ("versions_of_others_are_not_seen", "repairs_calls.py", NAMES, "[version for version, _ in found.most_common()] or", "[] or"),
+    ("a_text_ends_anywhere", "missing_signs.py", "slips.py expressions", "rest = text[begin + 1:].partition(\"'\")[0]", "rest = ''"),
+    ("commas_in_texts", "other_syntax.py", "slips.py expressions", 'text.replace(";", ",")', "text"),
+    ("an_operator_in_a_text", "repairs_expressions.py", "slips.py expressions", "_outside(without_spaces_in_operators)",
+     "without_spaces_in_operators"),
+    ("an_id_for_any_step", "repairs_steps.py", "slips.py expressions", "if len(found) == 1:", "if steps and (found := found or steps):"),
+    ("a_registry_is_an_owner", "repairs_calls.py", NAMES, 'yield f"docker://{text}", False', 'yield "./" + text, True'),
 )
