@@ -7,6 +7,7 @@ from typing import Callable, Iterable
 
 from . import project as files
 from .names import likely, misspelled
+from .operators import operators
 from .paths import ACTION_NAMES, WORKFLOW_ENDINGS, WORKFLOWS, is_workflow
 from .repair import Case, Edit, Found, Repair, as_scalar, entries_of, is_within_flow, next_entry, without_entry
 from .repairs_keys import deleted, moved_below
@@ -26,6 +27,8 @@ VERSIONS = {
     "codecov/codecov-action": "v5", "golangci/golangci-lint-action": "v6", "ruby/setup-ruby": "v1", "softprops/action-gh-release": "v2",
 }
 VALUES = {"boolean": "true", "number": "0", "string": "''"}
+# A workflow of another repository whose folder isn't named whole.
+OTHER_FOLDER = re.compile(r"([\w-]+/[\w.-]+)/(?:\.?github/)?(?:workflows?/)?([\w.-]+\.ya?ml@[\w./-]+)")
 OWNER_AND_NAME = re.compile(r"[\w.-]+/[\w./-]+")
 
 
@@ -191,6 +194,8 @@ def other_type(case: Case) -> Iterable[Repair]:
         yield from as_number(case, here.value, {})
     if expression and "}}" not in expression[1]:
         inner = expression[1].strip()
+        if kind == "number" and set(operators(inner)) & {"==", "!=", "<", ">", "<=", ">=", "!"}:
+            return
         changed = "${{ fromJSON(" + inner + ") }}" if kind in ("boolean", "number") else "${{ format('{0}', " + inner + ") }}"
         shown = as_scalar(changed, here.value.style, is_within_flow(case, here.path))
         yield case.replace("read it with fromJSON" if kind != "string" else "write it as a text", shown, here.value.span)
@@ -205,7 +210,13 @@ def right_uses(case: Case) -> Iterable[Repair]:
         return
     text = here.value.value.strip()
     is_workflow_path = ".github/workflows/" in text or text.endswith(WORKFLOW_ENDINGS)
-    if len(here.path) == 3 and here.path[0] == "jobs" and here.key and is_workflow(case.file) and not is_workflow_path:
+    of_job = len(here.path) == 3 and here.path[0] == "jobs" and is_workflow(case.file)
+    other_folder = OTHER_FOLDER.fullmatch(text)
+    if of_job and other_folder:
+        changed = f"{other_folder[1]}/{WORKFLOWS}/{other_folder[2]}"
+        yield case.replace(f'change to "{changed}"', changed, here.value.span)
+        return
+    if of_job and here.key and not is_workflow_path:
         yield from _called_from_step(case, here)
     for changed, is_safe in _right_calls(case, text):
         if changed != text:
@@ -239,15 +250,25 @@ def _right_calls(case: Case, text: str) -> Iterable[tuple[str, bool]]:
         return
     if is_workflow(case.file) and text.rpartition("/")[2] and case.project.has(f"{WORKFLOWS}/{text.rpartition('/')[2]}"):
         yield f"./{WORKFLOWS}/{text.rpartition('/')[2]}", False
+    if not is_workflow(case.file) or (here := case.value) is None or len(here.path) > 3:
+        image = re.fullmatch(r"[a-z][a-z0-9.-]*:(?:\d[\w.-]*|latest)|[\w-]+(?:\.[\w-]+)+/[\w./-]+:[\w.-]+", text)
+        if image and not text.startswith("github.com/"):
+            yield f"docker://{text}", False
+            return
     if re.fullmatch(r"docker:[\w./:-]+", text):
         yield re.sub(r"^docker:/*", "docker://", text), True
+    text = text.replace("\\", "/")
     bare = re.sub(r"^(?:https?://)?(?:www\.)?github\.com/", "", text)
     bare = re.sub(r"\.git(?=@|$)", "", bare).strip("/")
     name, sign, version = bare.partition("@")
     if not sign:
-        match = re.fullmatch(r"([\w.-]+/[\w./-]+?)\s*[:= ]\s*([\w.-]+)", bare)
+        match = re.fullmatch(r"([\w.-]+/[\w./-]+?)\s*(?:[:=# ]|==)\s*([\w.-]+)", bare)
         name, version = (match[1], match[2]) if match else (bare, "")
-    name, version = re.sub(r"\s+", "", name), version.strip()
+    turned = re.fullmatch(r"([\w-]+)@([\w.-]+)/(v?\d[\w.]*)", bare)
+    if turned:
+        yield f"{turned[1]}/{turned[2]}@{turned[3]}", False
+        return
+    name, version = re.sub(r"\s+", "", name).rstrip("/"), version.strip()
     name = f"actions/{name}" if re.fullmatch(r"[\w.-]+", name) else name
     if not OWNER_AND_NAME.fullmatch(name):
         return

@@ -5,7 +5,11 @@ import re
 from typing import Callable, Iterable, NamedTuple
 
 from .expressions import CHAIN, NAME, STRING, links
+from .missing_signs import closed_at_ends, with_apostrophes, with_closed_json
 from .operators import Choice, Token, choice, choice_in, grouped, operators, parts, tokens
+from .other_syntax import (template_as_format, with_comparison, with_dots, with_equal_quotes, with_matching_brackets, with_round_brackets,
+                           with_single_commas, with_text_in_brackets, without_if, without_spaces_in_operators,
+                           without_stray_brackets)
 from .repair import NEEDS_QUOTES, Case, Repair, as_scalar, is_within_flow
 from .syntax import is_condition
 from .text import Point, Span
@@ -17,6 +21,9 @@ DOUBLE_QUOTED = re.compile(r'\\?"([^"\\]*)\\?"')
 CURLY = "\u2018\u2019\u201a\u201c\u201d\u201e\u00b4`"
 CURLY_QUOTED = re.compile(rf"[{CURLY}]([^'\"{CURLY}]*)[{CURLY}]")
 ODD_SPACES = re.compile("[\u00a0\u2000-\u200a\u202f\u3000]")
+OPTIONAL_DOT = re.compile(r"(?<=[\w\])])\?\.(?=[A-Za-z_])")
+OTHER_NULL = re.compile(r"([=!]=\s*)(?:undefined|None|nil)\b")
+VERSION = re.compile(r"(?<![\w.-])v?\d[\w-]*(?:\.[\w-]+)+")
 SINGLE_EQUALS = re.compile(r"(?<![=!<>])=(?!=)")
 WORD_OPERATORS = {"and": "&&", "or": "||", "eq": "==", "ne": "!="}
 WORDS = re.compile(r"(?<![\w.-])(" + "|".join(WORD_OPERATORS) + r")(?![\w.-])", re.I)
@@ -24,7 +31,8 @@ NOT = re.compile(r"(?<![\w.-])not(?![\w.-])\s*", re.I)
 VARIABLE = re.compile(r"\$\{?(GITHUB_|RUNNER_)?([A-Z_][A-Z0-9_]*)\}?")
 METHOD = re.compile(rf"(?<![\w.-])({NAME}(?:\.{NAME})*?)\.(contains|startsWith|endsWith)\(")
 AMONG = re.compile(rf"(?<![\w.-])({NAME}(?:\.{NAME})*)\s+in\s+[\[(]([^\[\]()]*)[\])]")
-TEXT_IN = re.compile(rf"('[^']*')\s+in\s+({NAME}(?:\.{NAME})*)(?![\w.(\[])")
+LISTED = re.compile(rf"(?<![\w.-])({NAME}(?:\.{NAME})*)\s*([=!])=\s*\[([^\[\]()]*)\]")
+TEXT_IN = re.compile(rf"(?:\bcontains\(\s*)?('[^']*')\s+in\s+({NAME}(?:\.(?:{NAME}|\*))*)(?![\w.(\[])")
 LIST_ARGUMENT = re.compile(r"\(\s*\[([^\[\]]*)\]\s*,")
 CALL_OF_CHOICE = re.compile(r"\b(case|iif|if|ternary|choose)\s*\(")
 ARGUMENTS = re.compile(r"(?:'(?:[^']|'')*'|[^()']|\((?:[^()']|'[^']*')*\))*")
@@ -34,6 +42,7 @@ TWO_QUOTES = "''"
 NO_SIGNS = (";", "$", "\\")
 SUM = re.compile(rf"({CHAIN.pattern}|'[^']*')((?:\s*\+\s*(?:{CHAIN.pattern}|'[^']*'))+)")
 WORD = re.compile(r"[^\s'\"()=!,]*")
+TEST = re.compile(r"[=!<>]=|[<>]|\w\(")
 COMPARISONS = ("==", "!=", "<", ">", "<=", ">=")
 
 
@@ -110,7 +119,14 @@ def _outside_texts(text: str, change: Callable[[str], str]) -> str:
     return "".join([*found, change(text[at:])])
 
 
+def _outside(change: Callable[[str], str]) -> Callable[[str], str]:
+    """A change of a text that keeps what is in quotes."""
+    return lambda text: _outside_texts(text, change)
+
+
 def _single_quotes(text: str) -> str:
+    if "`" in text and "${" in text:
+        return text
     changed = DOUBLE_QUOTED.sub(lambda match: "'" + match[1].replace("'", "''") + "'", text)
     return _outside_texts(changed, lambda part: CURLY_QUOTED.sub(r"'\1'", part))
 
@@ -156,6 +172,14 @@ def _is_in_text(text: str, offset: int) -> bool:
     return any(match.start() < offset < match.end() for match in STRING.finditer(text))
 
 
+def _plain_dots(text: str) -> str:
+    return _outside_texts(text, lambda part: OPTIONAL_DOT.sub(".", part))
+
+
+def _null(text: str) -> str:
+    return _outside_texts(_equals(text), lambda part: OTHER_NULL.sub(r"\1null", part))
+
+
 def _coalesced(text: str) -> str:
     return _outside_texts(text, lambda part: part.replace("??", "||"))
 
@@ -170,7 +194,7 @@ def _all_operators(text: str) -> str:
 
 
 def _double_braces(text: str) -> str | None:
-    bare = text.strip().removeprefix("$")
+    bare = text.strip().removeprefix("$").lstrip()
     return "${{ " + bare.strip("{}").strip() + " }}" if bare[:1] == "{" and bare[-1:] == "}" else None
 
 
@@ -193,7 +217,8 @@ def from_context(case: Case) -> Iterable[Repair]:
 
 def _called(text: str) -> str:
     """`a.contains(b)` as `contains(a, b)`, `a in [b]` likewise, and `[b]` as a list from JSON."""
-    changed = TEXT_IN.sub(r"contains(\2, \1)", text)
+    changed = TEXT_IN.sub(lambda match: f"contains({match[2]}, {match[1]}" + ("" if match[0].startswith("contains") else ")"), text)
+    changed = LISTED.sub(lambda match: ("!" if match[2] == "!" else "") + f"contains({_json_list(match[3])}, {match[1]})", changed)
     changed = METHOD.sub(lambda match: f"{match[2]}({match[1]}, ", changed)
     changed = AMONG.sub(lambda match: f"contains({_json_list(match[2])}, {match[1]})", changed)
     return LIST_ARGUMENT.sub(lambda match: f"({_json_list(match[1])},", changed)
@@ -288,6 +313,18 @@ def _unclosed(text: str) -> list[Token]:
     return found
 
 
+def with_and(case: Case) -> Iterable[Repair]:
+    """`&&` between two parts of a condition, each of which compares or calls something, in one line or in two of a block."""
+    here, line, column = case.scalar, case.span.start.line, case.span.start.column
+    if here is None or not is_in_condition(case) or not TEST.search(case.line[column:]):
+        return
+    before = case.line[:column].rstrip()
+    if not before and here.value.style in ("|", ">") and line > here.value.span.start.line + 1:
+        line, before = line - 1, case.line_at(line - 1).rstrip()
+    if re.search(r"[\w')\]]$", before) and TEST.search(before):
+        yield case.replace('add "&&"', " &&", Span.at(Point(line, len(before))))
+
+
 def without_rest(case: Case) -> Iterable[Repair]:
     """An expression without `&&` or `||` at its end, or without a bracket that closes nothing."""
     expression = expression_of(case)
@@ -331,10 +368,21 @@ def inner_braces(case: Case) -> Iterable[Repair]:
 def closed_text(case: Case) -> Iterable[Repair]:
     expression = expression_of(case)
     if expression:
+        for text in closed_at_ends(decoded(expression)):
+            yield with_expression(case, "close the text", expression, text)
         quote = "''" if expression.style == "'" else "'"
         stripped = expression.text.rstrip()
-        for text in (stripped + quote, stripped[:-1] + quote + stripped[-1:] if stripped.endswith(")") else stripped + quote + ")"):
+        for text in (stripped + quote, stripped[:-1] + quote + stripped[-1:] if stripped.endswith(")") else stripped + quote + ")",
+                     stripped + quote + "]"):
             yield case.replace("close the text", text + expression.text[len(stripped):], expression.span)
+
+
+def second_brace(case: Case) -> Iterable[Repair]:
+    """Two braces in place of one, or of two with a space between, that end an expression."""
+    line, column = case.line, case.span.start.column
+    match = re.match(r"\}(?!\})(?:\s+\})?", line[column:])
+    if match and "${{" in line[:column]:
+        yield case.replace("close the braces", "}}", Span.on_line(case.span.start.line, column, column + match.end()))
 
 
 def closed_braces(case: Case) -> Iterable[Repair]:
@@ -369,6 +417,13 @@ def word_as_text(case: Case) -> Iterable[Repair]:
     if expression and re.match(r"[\w./*-]", line[start:end]) and is_operand(line[:start], line[end:]):
         span = Span.on_line(case.span.start.line, start, end)
         yield case.replace("put it in quotes", in_yaml(f"'{line[start:end]}'", expression), span)
+
+
+def version_as_text(case: Case) -> Iterable[Repair]:
+    """A version with several dots, which is no number, in quotes."""
+    for match in VERSION.finditer(case.line):
+        if match.start() < case.span.start.column <= match.end() and is_operand(case.line[:match.start()], case.line[match.end():]):
+            yield from word_as_text(case)
 
 
 def is_operand(before: str, after: str) -> bool:
@@ -416,15 +471,29 @@ SPREAD = rewritten("compare it with each", _spread)
 EQUALS = rewritten('write "==" and "!="', _equals, True)
 OPERATORS = rewritten('write "&&", "||", "!"', _operators, True)
 
+DOTS = rewritten('write "." after the context', _outside(with_dots))
+OTHER_SYNTAX = (
+    rewritten("delete the space in the operator", _outside(without_spaces_in_operators), True), DOTS,
+    rewritten("write a call with round brackets", with_round_brackets), rewritten("write one comma", _outside(with_single_commas)),
+    rewritten("write the other bracket", with_matching_brackets),
+    rewritten("write the operator", _outside(with_comparison)), rewritten("write single quotes", with_equal_quotes),
+    rewritten("put it in quotes", with_text_in_brackets), rewritten("delete what isn't the condition", without_if, deletes=True))
+
 REPAIRS: dict[str, tuple[Callable[[Case], Iterable[Repair]], ...]] = {
-    "X1": (SINGLE_QUOTES, rewritten("write plain spaces", _plain_spaces, True), DOUBLED, as_choice, EQUALS, OPERATORS, SPREAD,
+    "X1": (rewritten("write a call of format", template_as_format), SINGLE_QUOTES, rewritten("write plain spaces", _plain_spaces, True),
+           DOUBLED, as_choice, EQUALS, OPERATORS, SPREAD,
            rewritten('write "||", which takes the second for an empty text too', _coalesced), inner_braces,
-           rewritten("write a call of format", _formatted), rewritten("write the operators of expressions", _all_operators, True),
-           rewritten('write "${{" and "}}"', _double_braces, True), from_context, word_as_text, without_character),
-    "X2": (closed_text,),
-    "X3": (EQUALS, OPERATORS, SPREAD, DOUBLED, as_choice, rewritten("call a function", _called), inner_braces, closed_brackets, with_comma,
-           without_rest, without_character),
-    "X4": (closed_brackets, without_rest),
+           rewritten('write "."', _plain_dots, True), rewritten('write "null"', _null), rewritten("write a call of format", _formatted),
+           rewritten("write the operators of expressions", _all_operators, True),
+           rewritten('write "${{" and "}}"', _double_braces, True), from_context, *OTHER_SYNTAX, second_brace, word_as_text,
+           without_character),
+    "X2": (rewritten("write the apostrophe twice", with_apostrophes), closed_text),
+    "X3": (EQUALS, OPERATORS, SPREAD, DOUBLED, as_choice, *OTHER_SYNTAX, rewritten("call a function", _called), inner_braces,
+           closed_brackets, with_comma, with_and, version_as_text, without_rest,
+           rewritten("delete the bracket", without_stray_brackets, deletes=True), without_character),
+    "X4": (rewritten("close the brackets", with_closed_json), closed_brackets, without_rest),
+    "X7": (DOTS,),
+    "X9": (rewritten("delete what isn't the condition", without_if, deletes=True),),
     "X20": (closed_braces,),
     "G18": (inner_braces, one_pair),
 }

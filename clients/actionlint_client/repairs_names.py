@@ -5,13 +5,14 @@ import re
 from typing import Callable, Iterable
 
 from . import project as files
-from .expressions import Scope, chain_before
+from .expressions import chain_before
 from .names import likely, misspelled
 from .operators import grouped, parts
 from .paths import is_workflow
 from .report import Fault
-from .repair import Case, Edit, Found, Repair, first_entry, levels_of, next_entry, quoted, without_entry, without_key
-from .repairs_expressions import choice_by_call, expression_of, in_yaml, is_compared, is_operand, whole_chain
+from .repair import Case, Edit, Found, Repair, first_entry, next_entry, quoted, without_entry, without_key
+from .repairs_expressions import choice_by_call, expression_of, in_yaml, is_operand, whole_chain
+from .repairs_steps import named_step, output_of_any_job, scope_of, shorter_chain
 from .repairs_values import joined_property
 from .syntax import table
 from .text import Point, Span
@@ -21,6 +22,9 @@ from .tree import Path
 OTHER_PROPERTIES = {"branch": "ref_name", "branch_name": "ref_name", "tag": "ref_name", "tag_name": "ref_name", "sha_short": "sha",
                     "commit": "sha", "commit_sha": "sha", "user": "actor", "author": "actor", "repo": "repository",
                     "owner": "repository_owner", "event_type": "event_name", "build_number": "run_number", "run": "run_id"}
+# What events have, which is often written without `event`.
+OF_EVENTS = {"pull_request", "issue", "release", "inputs", "comment", "review", "discussion", "head_commit", "commits", "sender", "label",
+             "workflow_run", "deployment", "client_payload", "before", "after", "forced", "number", "check_run", "check_suite"}
 OTHER_FUNCTIONS = {"failed": "failure", "succeeded": "success", "canceled": "cancelled", "toboolean": "fromJSON", "tonumber": "fromJSON",
                    "parsejson": "fromJSON", "tostring": "toJSON", "includes": "contains", "glob": "hashFiles", "hash": "hashFiles"}
 WORDS = ("true", "false", "null")
@@ -28,6 +32,7 @@ OTHER_NULLS = ("none", "nil", "undefined")
 # Words for the state of a job or a step that the other one has.
 OTHER_STATES = {"needs": {"outcome": "result", "conclusion": "result", "status": "result", "state": "result"},
                 "steps": {"result": "outcome", "status": "outcome", "state": "outcome"}, "job": {"state": "status", "result": "status"}}
+PROPERTIES_OF_ALL = {"needs": ["result", "outputs"], "steps": ["outputs", "outcome", "conclusion"]}
 # Whose properties can be meant by a word without a context.
 OF_STRATEGY = {"fail-fast", "max-parallel"}
 OF_CONTEXTS = ("matrix", "inputs", "env", "needs", "steps", "github", "runner")
@@ -46,13 +51,6 @@ def near_name(case: Case) -> Iterable[Repair]:
         yield case.replace(f'change to "{meant}"', str(meant))
 
 
-def scope_of(case: Case) -> Scope | None:
-    here = case.scalar
-    if here is None:
-        return None
-    return Scope(case.project, case.file, case.tree, here.path, levels_of(case.tree, here.path))
-
-
 def _scope_names(case: Case) -> list[str]:
     scope = scope_of(case)
     if scope is None:
@@ -64,6 +62,8 @@ def _properties_before(case: Case) -> list[str]:
     """The properties of what is before the fault."""
     scope = scope_of(case)
     chain = _chain_before(case)
+    if len(chain) == 2 and chain[1] == "*" and chain[0].lower() in PROPERTIES_OF_ALL:
+        return PROPERTIES_OF_ALL[chain[0].lower()]
     return [one.name for one in scope.properties(chain)] if scope and chain else []
 
 
@@ -79,7 +79,8 @@ def of_github(case: Case) -> Iterable[Repair]:
     """A property of `github` that is written without its context, or as the variable of its name."""
     name = case.arguments[0].lower().removeprefix("github_")
     name = OTHER_PROPERTIES.get(name, name)
-    if name in table()["contexts"]["github"]["properties"]:
+    is_property = case.line[:case.span.start.column].endswith("->")
+    if name in table()["contexts"]["github"]["properties"] and not is_property:
         yield case.replace(f"change to github.{name}", f"github.{name}")
 
 
@@ -95,8 +96,12 @@ def other_property(case: Case) -> Iterable[Repair]:
         name = wrong if wrong in outputs else misspelled(wrong, outputs)
         if name:
             yield case.replace(f'change to "outputs.{name}"', f"outputs.{name}")
-    meant = OTHER_PROPERTIES.get(case.arguments[0].lower())
-    if meant and _chain_before(case)[:1] == ("github",):
+    name = wrong.lower().removeprefix("github_")
+    of_github_ = table()["contexts"]["github"]["properties"]
+    meant = OTHER_PROPERTIES.get(wrong.lower()) or (name if name != wrong.lower() and name in of_github_ else None)
+    if meant is None and wrong.lower() in OF_EVENTS:
+        meant = f"event.{wrong}"
+    if meant and [one.lower() for one in before] == ["github"]:
         yield case.replace(f'change to "{meant}"', meant)
 
 
@@ -124,7 +129,7 @@ def unknown_word(case: Case) -> Iterable[Repair]:
     """A function with its missing brackets, a property with its missing context, or a text in quotes: that first, if it is compared with
     what is before it."""
     is_function = case.arguments[0].lower() in [name.lower() for name in _functions(case)]
-    if is_function and not is_compared(case.line[:case.span.start.column], case.line[case.span.end.column:]):
+    if is_function and not is_operand(case.line[:case.span.start.column], case.line[case.span.end.column:]):
         yield case.replace('add "()"', case.written + "()", is_safe=True)
         return
     if case.arguments[0].lower() in OTHER_NULLS:
@@ -132,6 +137,14 @@ def unknown_word(case: Case) -> Iterable[Repair]:
         return
     if case.arguments[0].lower() in WORDS:
         yield case.replace(f'change to "{case.arguments[0].lower()}"', case.arguments[0].lower(), is_safe=True)
+        return
+    before, after = case.line[:case.span.start.column], case.line[case.span.end.column:]
+    expression = expression_of(case)
+    chain, _ = whole_chain(case)
+    if expression and before.endswith("[") and after.startswith("]") and chain[:1] and chain[0].lower() in _scope_names(case):
+        yield case.replace("put it in quotes", in_yaml(f"'{case.written}'", expression))
+        return
+    if before.endswith("->"):
         return
     is_right_side = re.search(r"[=!]=\s*$", case.line[:case.span.start.column]) is not None
     ways = (as_text, with_context) if is_right_side else (with_context, as_text)
@@ -182,6 +195,8 @@ def sibling_property(case: Case) -> Iterable[Repair]:
     if scope is None or not 1 < number < len(chain) or joined_property(chain):
         return
     name = chain[number]
+    if (chain[0].lower(), name.lower()) == ("runner", "name"):
+        return
     if name in [one.name for one in scope.properties(chain[:number - 1])]:
         text = ".".join([*chain[:number - 1], *chain[number:]])
         yield case.replace(f"change to {text}", text, span)
@@ -293,6 +308,8 @@ def other_context(case: Case) -> Iterable[Repair]:
             yield from _value_of_variable(case, chain[1], span)
     if context in ("job", "needs") and case.scalar and case.scalar.path[:3] == ("on", "workflow_call", "outputs"):
         yield case.replace('change to "jobs"', "jobs", Span.on_line(span.start.line, span.start.column, span.start.column + len(chain[0])))
+    if context == "steps" and case.scalar and case.scalar.path[:3] == ("on", "workflow_call", "outputs"):
+        yield from output_of_any_job(case, span)
     if context == "jobs" and case.job:
         yield from _needs_for_jobs(case, chain, span)
     if context == "secrets" and not is_workflow(case.file):
@@ -302,7 +319,7 @@ def other_context(case: Case) -> Iterable[Repair]:
         yield from _passed_as_secret(case)
     if _is_condition_of_job(case):
         yield from _moved_to_steps(case, chain, span)
-    if context == "env" and len(chain) == 2:
+    if context == "env" and len(chain) == 2 and (_is_condition_of_job(case) or "${{" not in (case.tree.text("env", chain[1]) or "")):
         yield case.replace(f"change to vars.{chain[1]}, a variable of the repository", f"vars.{chain[1]}", span)
 
 
@@ -486,5 +503,5 @@ REPAIRS: dict[str, tuple[Callable[[Case], Iterable[Repair]], ...]] = {
     "X9": (near_name, choice_by_call),
     "X10": (moved_variable,),
     "X14": (sibling_property,),
-    "X13": (other_property, near_name, needed_job, output_of_job, declared_input, declared_output, declared_row),
+    "X13": (other_property, shorter_chain, near_name, needed_job, named_step, output_of_job, declared_input, declared_output, declared_row),
 }

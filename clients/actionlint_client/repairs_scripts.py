@@ -252,6 +252,7 @@ def _can_be_number(operand: str) -> bool:
 REPAIRS: dict[str, tuple[Callable[[Case], Iterable[Repair]], ...]] = {
     "G17": (written_to_file,),
     "X1": (computed_by_shell,),
+    "X3": (computed_by_shell,),
     "X9": (computed_by_shell,),
     "X19": (by_variable,),
 }

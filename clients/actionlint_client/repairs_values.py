@@ -5,13 +5,15 @@ import itertools
 import re
 from typing import Callable, Iterable, Sequence
 
-from .expressions import CHAIN, NAME, links
+from .expressions import CHAIN, NAME, STRING, links
 from .repair import Case, Repair
 from .repairs_expressions import TWO_QUOTES, arguments_at, expression_of, in_yaml, is_compared, is_in_condition, is_operand, whole_chain
 from .syntax import table
 from .text import Point, Span
 
 PLACEHOLDER = re.compile(r"\{(\d{1,3})\}")
+# What expressions can't ask of a text.
+LENGTHS = ("length", "len", "size", "count")
 # What of a job or a step is compared with a text, and of which objects.
 COMPARED = {"needs": "result", "steps": "outcome", "job": "status"}
 
@@ -30,9 +32,16 @@ def without_index(case: Case) -> Iterable[Repair]:
     if joined:
         yield case.replace(f"change to github.{joined}", f"github.{joined}", span)
         return
+    names = [name.lower() for name in chain]
+    if names[:2] == ["github", "repository"] and len(chain) == 3 and names[2] not in LENGTHS:
+        yield case.replace(f"change to github.event.repository.{chain[2]}", f"github.event.repository.{chain[2]}", span)
+        return
+    if names[:2] == ["github", "env"] and len(chain) == 3:
+        yield case.replace(f"change to env.{chain[2]}", f"env.{chain[2]}", span)
+        return
     dot = max(line.rfind(sign, span.start.column, case.span.start.column + 1) for sign in (".", "["))
     here = case.scalar
-    if not chain or dot <= span.start.column or here is None:
+    if not chain or dot <= span.start.column or here is None or names[-1] in LENGTHS:
         return
     is_test = is_in_condition(case) and not is_operand(line[:span.start.column], line[span.end.column:])
     if not is_test and not line[:span.start.column].rstrip().endswith("!"):
@@ -87,10 +96,16 @@ def fewer_arguments(case: Case) -> Iterable[Repair]:
     start = column + match.end()
     arguments, end = arguments_at(line, start)
     name = match[0].rstrip("( \t")
+    literals = [argument.strip("'") for argument in arguments[:-1] if STRING.fullmatch(argument)]
+    expression = expression_of(case)
+    if expression and name.lower() == "contains" and len(literals) == len(arguments) - 1 > 1 and not STRING.fullmatch(arguments[-1]):
+        texts = ", ".join(f'"{text}"' for text in literals)
+        listed = in_yaml(f"fromJSON('[{texts}]')", expression) + f", {arguments[-1]}"
+        yield case.replace("make a list of the texts", listed, Span.on_line(case.span.start.line, start, end))
+        return
     if name.lower() in ("contains", "startswith", "endswith") and len(arguments) > 2:
         if line[end:end + 1] == ")":
             any_of = " || ".join(f"{name}({arguments[0]}, {argument})" for argument in arguments[1:])
-            expression = expression_of(case)
             is_whole = expression is not None and expression.text.strip() == line[column:end + 1]
             span = Span.on_line(case.span.start.line, column, end + 1)
             yield case.replace("ask for each of them", any_of if is_whole else f"({any_of})", span)

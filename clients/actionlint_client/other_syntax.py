@@ -1,0 +1,90 @@
+"""Expressions that are written as another language has them, in GitHub's syntax."""
+from __future__ import annotations
+
+import re
+
+from .operators import tokens
+
+PAIRS = {"(": ")", "[": "]"}
+CONTEXTS = "github|env|vars|job|jobs|steps|runner|secrets|strategy|matrix|needs|inputs"
+FUNCTIONS = "contains|startsWith|endsWith|format|join|toJSON|fromJSON|hashFiles|success|always|cancelled|failure"
+TEMPLATE = re.compile(r"`([^`'{}]*(?:\$\{[\w.-]+\}[^`'{}]*)+)`")
+IN_TEMPLATE = re.compile(r"\$\{([\w.-]+)\}")
+BETWEEN_NAMES = re.compile(rf"(?<![\w.-])({CONTEXTS})(?:->|\.\.|::?|/)(?=[A-Za-z_])")
+OTHER_BRACKETS = re.compile(rf"(?<![\w.-])({FUNCTIONS})\s*(?:\[([^\[\]{{}}]*)\]|\{{([^\[\]{{}}]*)\}})", re.I)
+NO_BRACKETS = re.compile(rf"(?<![\w.-])({FUNCTIONS})\s+([\w.*-]+\s*,\s*'[^']*')", re.I)
+BETWEEN_OPERANDS = re.compile(r"(?<![\w.*-])([\w.*-]+)\s+(contains|startsWith|endsWith)\s+('[^']*')", re.I)
+IS_NOT = re.compile(r"(?<=\s)is\s+not(?=\s)", re.I)
+IS = re.compile(r"(?<=\s)(?:is|equals?)(?=\s)", re.I)
+SPACE_IN_OPERATOR = re.compile(r"([=!]) =|& &|\| \|")
+BRACKETED_WORDS = re.compile(r"(,\s*)(\[[A-Za-z][\w -]*\])(?=\s*\))")
+IF_AND_THEN = re.compile(r"(?<!.)(\s*)if\b\s*|(?<!\s)\s+then(?=\s*$)", re.S)
+
+
+def template_as_format(text: str) -> str:
+    """A template literal as a call of `format`."""
+    def call(match: re.Match[str]) -> str:
+        names = IN_TEMPLATE.findall(match[1])
+        numbers = iter(range(len(names)))
+        return "format('%s', %s)" % (IN_TEMPLATE.sub(lambda _: "{%d}" % next(numbers), match[1]), ", ".join(names))
+    return TEMPLATE.sub(call, text)
+
+
+def with_dots(text: str) -> str:
+    """A text with dots between a context and its property."""
+    return BETWEEN_NAMES.sub(r"\1.", text)
+
+
+def with_round_brackets(text: str) -> str:
+    """A text whose calls have round brackets."""
+    changed = OTHER_BRACKETS.sub(lambda match: f"{match[1]}({match[2] or match[3] or ''})", text)
+    changed = NO_BRACKETS.sub(r"\1(\2)", changed)
+    return BETWEEN_OPERANDS.sub(r"\2(\1, \3)", changed)
+
+
+def with_single_commas(text: str) -> str:
+    """A text with one comma between arguments, and none after the last one."""
+    return re.sub(r",(?:\s*,)+", ",", text.replace(";", ",")).replace(",)", ")").replace(", )", ")")
+
+
+def with_matching_brackets(text: str) -> str:
+    """A text whose brackets are closed by those of their kind."""
+    signs, is_open = list(text), []
+    for token in tokens(text):
+        if token.text in PAIRS:
+            is_open.append(PAIRS[token.text])
+        elif token.text in PAIRS.values() and is_open:
+            signs[token.start] = is_open.pop()
+    return "".join(signs)
+
+
+def without_stray_brackets(text: str) -> str:
+    """A text without brackets that close nothing."""
+    stray = next((token.start for token in tokens(text) if token.depth < 0), None)
+    return text if stray is None else text[:stray] + text[stray + 1:]
+
+
+def with_comparison(text: str) -> str:
+    """A text with operators in place of words that compare."""
+    return IS.sub("==", IS_NOT.sub("!=", text))
+
+
+def without_spaces_in_operators(text: str) -> str:
+    return SPACE_IN_OPERATOR.sub(lambda match: match[0].replace(" ", ""), text)
+
+
+def with_text_in_brackets(text: str) -> str:
+    """A text whose last arguments are quoted if they are words in brackets."""
+    return BRACKETED_WORDS.sub(r"\1'\2'", text)
+
+
+def with_equal_quotes(text: str) -> str:
+    """A text whose only double quote is a single one, like the other end of its string, or that has a quote before a string too."""
+    if text.count('"') == 1 and text.count("'") % 2:
+        return text.replace('"', "'")
+    return re.sub(r"([=!]=\s*)([\w./-]+')", r"\1'\2", text) if text.count("'") % 2 else text
+
+
+def without_if(text: str) -> str:
+    """A condition without `if` and `then` around it."""
+    return IF_AND_THEN.sub(lambda match: match[1] or "", text)
