@@ -28,7 +28,8 @@ OTHER_NAMES = {"timeout": "timeout-minutes", "command": "run", "script": "run", 
                "allow-failure": "continue-on-error", "allow_failure": "continue-on-error", "os": "runs-on", "type": "types", "job": "jobs",
                "workdir": "working-directory", "inputs": "with", "input": "with", "parameters": "with", "environment": "env",
                "cmd": "run", "commands": "run", "action": "uses", "runner": "runs-on", "dependencies": "needs", "description": "name",
-               "continue-on-failure": "continue-on-error", "ignore-errors": "continue-on-error", "matrix": "strategy"}
+               "continue-on-failure": "continue-on-error", "ignore-errors": "continue-on-error", "matrix": "strategy",
+               "choices": "options", "values": "options", "enum": "options"}
 # Where a missing key is looked for.
 MAX_PLACES = 20
 STEP_STARTS = ("name", "id", "if")

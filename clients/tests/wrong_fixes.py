@@ -5,7 +5,7 @@ KNOWN, EXPRESSIONS, KEYS, NAMES = ("slips.py " + name for name in ("known", "exp
 
 WRONG_FIXES = (
     ("fixes_are_not_tried", "fixes.py", KNOWN, "if result is not Result.WRONG:", "if True:"),
-    ("fixes_may_cause_faults", "fixes.py", KEYS, "return Result.UNCOVERS if all(", "return Result.UNCOVERS if True or all("),
+    ("fixes_may_cause_faults", "fixes.py", KEYS, "is_uncovered = all(", "is_uncovered = True or all("),
     ("what_uncovers_faults_is_safe", "fixes.py", EXPRESSIONS,
      "repair if result is Result.CLEAN else replace(repair, is_safe=False)", "repair"),
     ("what_deletes_comes_first", "fixes.py", KEYS, "(not repair.is_safe, repair.deletes)", "(not repair.is_safe, not repair.deletes)"),
