@@ -26,6 +26,7 @@ ANCHOR = re.compile(r"(?<!\S)&([^\s,\[\]{}]+)")
 ALIAS = re.compile(r"\*([^\s,\[\]{}]+)")
 ODD_SPACE = re.compile("[\u00a0\u2000-\u200a\u202f\u3000]")
 ODD_START = re.compile("[ \u00a0\u2000-\u200a\u202f\u3000-]*(?:[\\w-]+:)?[ \u00a0\u2000-\u200a\u202f\u3000]*")
+IS_STEP = re.compile(r" *- +[a-z-]+:(?: |$)")
 MAX_LINES_ABOVE = 200
 IN_QUOTES = re.compile(r"'[^']*'|\"[^\"]*\"")
 EXPRESSION_AS_ITEM = re.compile(r"(?<=[\[,])\s*(\$\{\{[^{}]*\}\})\s*(?=[\],])")
@@ -296,6 +297,37 @@ def _is_text(case: Case, number: int, column: int) -> bool:
     return not line.elements or line.indent > column
 
 
+def text_in_script(case: Case) -> Iterable[Repair]:
+    """The lines of a script that are less indented than its other lines, indented as these; another line of the script follows."""
+    number = case.span.start.line
+    header = next((one for one in range(number - 1, max(number - MAX_LINES_ABOVE, -1), -1) if case.outline.lines[one].elements), None)
+    line = case.outline.lines[header] if header is not None else None
+    if header is None or line is None or not line.elements or line.elements[-1].name != "run" or line.rest[:1] not in ("|", ">"):
+        return
+    column = next((case.outline.lines[one].indent for one in range(header + 1, number) if case.lines[one].strip()), 0)
+    last = number
+    while last + 1 < len(case.lines) and (not case.lines[last + 1].strip() or case.outline.lines[last + 1].indent < column
+                                          and IS_STEP.match(case.lines[last + 1]) is None):
+        last += 1
+    is_followed = last + 1 < len(case.lines) and case.outline.lines[last + 1].indent >= column > line.elements[-1].column
+    if is_followed:
+        more = " " * (column - case.outline.lines[number].indent)
+        yield case.of("indent the lines of the script", *(Edit(Span.at(Point(one, 0)), more) for one in range(number, last + 1)
+                                                          if case.lines[one].strip()))
+
+
+def script_without_sign(case: Case) -> Iterable[Repair]:
+    """A script that begins on the line below its key, with the sign of a text in lines."""
+    number = case.span.start.line
+    for header in range(number - 1, max(number - MAX_LINES_ABOVE, -1), -1):
+        line = case.outline.lines[header]
+        if line.elements and line.elements[-1].name == "run":
+            below = [one for one in range(header + 1, number + 1) if case.lines[one].strip()]
+            if not line.rest and all(case.outline.lines[one].indent > line.elements[-1].column for one in below):
+                yield case.replace('write "|" after "run:"', " |", Span.at(Point(header, line.elements[-1].end)))
+            return
+
+
 def comment(case: Case) -> Iterable[Repair]:
     """A comment that begins as in other languages."""
     match = re.match(r" *(//)(?!\S*:)", case.line)
@@ -406,7 +438,7 @@ REPAIRS: dict[str, tuple[Callable[[Case], Iterable[Repair]], ...]] = {
     "Y11": (without_line,),
     "Y12": (single_quotes,),
     "Y13": (plain_spaces, comment, as_condition, as_expression, as_schedule, list_in_line, closed_above, inner_quotes, pair_below,
-            script_in_lines, script_below, with_quotes, as_block, with_space, with_colon, brackets_closed_above, moved_line,
+            script_without_sign, text_in_script, script_in_lines, script_below, with_quotes, as_block, with_space, with_colon, brackets_closed_above, moved_line,
             without_character),
     "Y16": (text_on_next_line,),
     "Y17": (as_expression, with_colon, with_quotes, quoted_key),
