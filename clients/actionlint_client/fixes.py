@@ -212,7 +212,7 @@ def _was_hidden(one: Fault, fault: Fault, repair: Repair, before: list[str], lin
     if hidden[:1] != "Y" or not edits:
         return False
     if code in UNREADABLE or code[:1] in ("Y", "K"):
-        return all(_keeps_key(edit, before) for edit in edits) and _is_past(lines, _last_touched(edits), one.line)
+        return all(_keeps_key(edit, before) for edit in edits) and _is_past(lines, _last_touched(edits), one)
     touched = {line + 1 for edit in edits for line in range(edit.span.start.line, edit.span.end.line + 1)}
     keeps_lines = all("\n" not in edit.text and edit.span.start.line == edit.span.end.line for edit in edits)
     return keeps_lines and one.line not in touched
@@ -232,10 +232,14 @@ def _last_touched(edits: Iterable[Edit]) -> int:
     return max(edit.span.end.line for edit in edits) + 1 + more
 
 
-def _is_past(lines: list[str], above: int, below: int) -> bool:
-    """Whether a line is below another one and not in the value of its key."""
+def _is_past(lines: list[str], above: int, fault: Fault) -> bool:
+    """Whether a fault is below a line and what belongs to its key. The first line there may not fit the line above it."""
     found = INDENT.match(lines[above - 1]) if above <= len(lines) else None
-    return found is not None and any(line.strip() and len(line) - len(line.lstrip(" ")) <= found.end() for line in lines[above:below])
+    below = enumerate(lines[above:fault.line], above + 1)
+    indents = ((number, len(line) - len(line.lstrip(" "))) for number, line in below if line.strip())
+    past = next(((number, indent) for number, indent in indents if found and indent <= found.end()), None)
+    is_misfit = past == (fault.line, fault.column - 1) and code_of(fault)[:1] == "Y" and code_of(fault) != "Y3"
+    return past is not None and not is_misfit
 
 
 def code_of(fault: Fault) -> str:

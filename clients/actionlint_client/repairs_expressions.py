@@ -111,8 +111,16 @@ def _outside_texts(text: str, change: Callable[[str], str]) -> str:
 
 
 def _single_quotes(text: str) -> str:
+    if _without_curly_quotes(text):
+        return text
     changed = DOUBLE_QUOTED.sub(lambda match: "'" + match[1].replace("'", "''") + "'", text)
     return _outside_texts(changed, lambda part: CURLY_QUOTED.sub(r"'\1'", part))
+
+
+def _without_curly_quotes(text: str) -> str | None:
+    """What stands in curly quotes that are around all of an expression, if it isn't a name."""
+    whole = CURLY_QUOTED.fullmatch(text.strip())
+    return whole[1] if whole and re.search(r"[(.=&|]", whole[1]) else None
 
 
 def _plain_spaces(text: str) -> str:
@@ -417,7 +425,8 @@ EQUALS = rewritten('write "==" and "!="', _equals, True)
 OPERATORS = rewritten('write "&&", "||", "!"', _operators, True)
 
 REPAIRS: dict[str, tuple[Callable[[Case], Iterable[Repair]], ...]] = {
-    "X1": (SINGLE_QUOTES, rewritten("write plain spaces", _plain_spaces, True), DOUBLED, as_choice, EQUALS, OPERATORS, SPREAD,
+    "X1": (SINGLE_QUOTES, rewritten("leave out the quotes", _without_curly_quotes),
+           rewritten("write plain spaces", _plain_spaces, True), DOUBLED, as_choice, EQUALS, OPERATORS, SPREAD,
            rewritten('write "||", which takes the second for an empty text too', _coalesced), inner_braces,
            rewritten("write a call of format", _formatted), rewritten("write the operators of expressions", _all_operators, True),
            rewritten('write "${{" and "}}"', _double_braces, True), from_context, word_as_text, without_character),
