@@ -297,6 +297,25 @@ def merge(case: Case) -> Iterable[Repair]:
         yield from _without_merge(case)
 
 
+def script_without_sign(case: Case) -> Iterable[Repair]:
+    """A script below its key that looks like a mapping or a list, with the sign of a text in lines."""
+    here = case.value
+    if here and here.key and here.path[-1:] == ("run",) and here.value.kind != "scalar" and not here.value.is_flow:
+        end = here.key.span.end
+        if here.value.span.start.line > end.line and case.line_at(end.line)[end.column:].strip() == ":":
+            yield case.replace('write "|" after "run:"', " |", Span.at(Point(end.line, end.column + 1)))
+
+
+def value_of_output(case: Case) -> Iterable[Repair]:
+    """The text of an output as its value."""
+    here = case.value
+    if here and here.key and here.path[-2:-1] == ("outputs",) and here.value.kind == "scalar" and not is_within_flow(case, here.path):
+        if here.value.value and here.value.style not in ("|", ">"):
+            indent = "\n" + " " * (here.key.span.start.column + 2)
+            start = Point(here.key.span.end.line, here.key.span.end.column + 1)
+            yield case.replace('put it below "value"', f"{indent}value: {case.slice(here.value.span)}", Span(start, here.value.span.end))
+
+
 def in_a_job(case: Case) -> Iterable[Repair]:
     """The keys of a job that stand below `jobs`, as a job."""
     here, jobs = case.value, case.at("jobs")
@@ -375,7 +394,7 @@ def skeleton(case: Case) -> Iterable[Repair]:
 REPAIRS: dict[str, tuple[Callable[[Case], Iterable[Repair]], ...]] = {
     "K1": (jobs_below, merge),
     "K2": (merge,),
-    "K4": (in_a_job, other_kind),
+    "K4": (in_a_job, script_without_sign, value_of_output, other_kind),
     "K5": (other_type,),
     "K7": (skeleton,),
 }
