@@ -380,6 +380,14 @@ def with_space(case: Case) -> Iterable[Repair]:
         yield case.replace(f"add a space after the {'colon' if match[0].endswith(':') else 'dash'}", " ", place, is_safe=True)
 
 
+def with_dash(case: Case) -> Iterable[Repair]:
+    """A dash before a text that follows an entry of a list of texts."""
+    number = case.span.start.line
+    above, here = (case.outline.lines[one].elements for one in (max(number - 1, 0), number))
+    if above and not here and above[-1].name is None and case.rest_span(number - 1):
+        yield case.replace("add a dash", " " * above[-1].column + "- ", Span.on_line(number, 0, indent_of(case.line)))
+
+
 def with_colon(case: Case) -> Iterable[Repair]:
     """A colon after a word that is alone on its line, or before the value on it, also in place of an equals sign."""
     for place, match in _after_match(case, EQUALS):
@@ -448,7 +456,7 @@ def quoted_key(case: Case) -> Iterable[Repair]:
 REPAIRS: dict[str, tuple[Callable[[Case], Iterable[Repair]], ...]] = {
     "Y2": (without_character,),
     "Y3": (spaces_for_tabs,),
-    "Y4": (plain_spaces, comment, list_in_line, with_colon, with_space, script_below, moved_line, with_quotes),
+    "Y4": (plain_spaces, comment, list_in_line, with_dash, with_colon, with_space, script_below, moved_line, with_quotes),
     "Y5": (closed_quote,),
     "Y6": (closed_bracket, with_quotes),
     "Y7": (with_quotes, quoted_key),

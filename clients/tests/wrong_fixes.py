@@ -19,6 +19,7 @@ WRONG_FIXES = (
     ("a_list_ends_on_its_first_line", "repairs_yaml.py", KEYS, "is_list = last > line and", "is_list = False and"),
     ("all_keys_are_of_a_job", "repairs_kinds.py", KEYS,
      'if set(jobs.names()) <= set(table()["shapes"]["Job"]["keys"]):', "if not jobs:"),
+    ("an_option_is_a_row", "repairs_rules.py", KEYS, 'and here.path[-1] in table()["shapes"]["Strategy"]["keys"]:', "and False:"),
     ("all_names_are_near", "names.py", KEYS, "LEAST_LIKENESS = 0.61", "LEAST_LIKENESS = 0.3"),
     ("digits_are_slips", "names.py", NAMES, "if DIGITS.findall(wrong) != DIGITS.findall(name):", "if False:"),
     ("short_words_are_slips", "names.py", NAMES, "if short < 3 or short > MAX_WORD_CHARACTERS:", "if short > MAX_WORD_CHARACTERS:"),
