@@ -168,11 +168,12 @@ def check_fix(program: str, folder: Folder, faults: list[Fault], fault: Fault, r
         new[key] += 1
     else:
         assert counted(after)[key] < counted(faults)[key], (repair.title, fault, folder.texts, changed)
-    codes = {shown.code for _, message in new if (shown := entry_of(message))}
+    codes = {found.code for _, message in new if (found := entry_of(message))}
     hides = entry is not None and entry.code in (*UNREADABLE, *(f"Y{number}" for number in range(1, 19)))
     of_unknown = OF_UNKNOWN.get(entry.code, ()) if entry else ()
-    are_below = is_yaml and all(below(one, folder, changed) for one in after if (one.path, one.message) in new)
-    was_hidden = hides and all(code[0] in "XGC" for code in codes) or codes <= set(of_unknown) or are_below
+    shown = [one for one in after if (one.path, one.message) in new and not (is_yaml and below(one, folder, changed))]
+    others = {found.code for one in shown if (found := entry_of(one.message))}
+    was_hidden = hides and all(code[0] in "XGC" for code in others) or codes <= set(of_unknown)
     assert not new or not repair.is_safe and was_hidden, (repair.title, fault, folder.texts, changed)
 
 
