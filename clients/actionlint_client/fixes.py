@@ -15,7 +15,7 @@ from .disk import MAX_FILE_BYTES
 from .entries import entry_of
 from .paths import is_workflow
 from .project import Project
-from .repair import Case, Repair, replaced
+from .repair import Case, Edit, Repair, replaced
 from .report import Fault, parse_report
 from .session import LinterEnded, ReportTooLong, Session
 
@@ -31,6 +31,8 @@ UNREADABLE = ("X1", "X2", "X3", "X4", "X5", "X6", "X20")
 # What isn't looked at as long as the event, the kind of an action or the called file isn't known.
 HIDES = {"G1": ("G2", "G3", "K1", "K6"), "G20": ("K1", "K2", "K6", "G21"), "C1": ("C2", "C3", "C4", "C5", "C6"),
          "C7": ("C2", "C3", "C4", "C5", "C6")}
+INDENT = re.compile(r" *(?:- +)*")
+KEY = re.compile(r"['\"]?[\w-]+['\"]?:(?:\s|$)|\s*$")
 LOCAL_CALL = re.compile(r"\./[^\s'\"#,}\]]*")
 MODULES = (repairs_yaml, repairs_levels, repairs_keys, repairs_kinds, repairs_rules, repairs_expressions, repairs_names, repairs_values,
            repairs_scripts, repairs_calls)
@@ -76,16 +78,16 @@ def fixes(words: list[str], timeout: float, project: Project, faults: Iterable[F
         for fault in islice(faults, MAX_FAULTS):
             if trial and time.monotonic() > deadline or len(project.read(fault.path) or b"") > MAX_FILE_BYTES:
                 break
-            right = []
-            for repair in repairs(project, fault):
+            found: dict[Result, list[Repair]] = {result: [] for result in Result}
+            for repair in sorted(repairs(project, fault), key=lambda repair: not repair.is_safe):
                 if trial is None:
                     trial = Trial(words, timeout, project, fault.path)
                     trial.earlier = _counted(earlier)
                 elif time.monotonic() > deadline:
                     break
                 result = trial.result(repair, fault)
-                if result is not Result.WRONG:
-                    right.append(repair if result is Result.CLEAN else replace(repair, is_safe=False))
+                found[result].append(repair if result is Result.CLEAN else replace(repair, is_safe=False))
+            right = [*found[Result.CLEAN], *found[Result.UNCOVERS]] or found[Result.STOPS]
             mended += [Fix(fault, repair) for repair in _to_show(right)]
     except (LinterEnded, ReportTooLong):
         pass
@@ -108,11 +110,13 @@ def _to_show(found: list[Repair]) -> list[Repair]:
 
 
 class Result(Enum):
-    """What a repair does: it leaves the fault or causes another one, it leaves neither, or it shows what the fault has hidden."""
+    """What a repair does: it leaves the fault or causes another one, it leaves neither, or it shows what the fault has hidden, perhaps that
+    the file isn't YAML further below."""
 
     WRONG = "wrong"
     CLEAN = "clean"
     UNCOVERS = "uncovers"
+    STOPS = "stops"
 
 
 class Trial:
@@ -134,12 +138,17 @@ class Trial:
         after = self.report_after(changed | repair.new_files)
         counted = _counted(after)
         key = fault.path, fault.message
-        new = counted - self.before - self.earlier
+        shown = [one for one in after if (one.path, one.message) in counted - self.before - self.earlier]
         if counted[key] >= self.before[key]:
-            return Result.WRONG
-        if not new:
+            # There is one fault of YAML at a time; the next one may have the same message.
+            shown += [one for one in after if (one.path, one.message) == key and code_of(one)[:1] == "Y" and one.line > fault.line]
+            if counted[key] > self.before[key] or not shown or shown[-1].message != fault.message:
+                return Result.WRONG
+        if not shown:
             return Result.CLEAN
-        return Result.UNCOVERS if all(_was_hidden(one, fault, repair) for one in after if (one.path, one.message) in new) else Result.WRONG
+        before, lines = (text.split("\n") for text in (self.project.text(fault.path), changed.get(fault.path, "")))
+        is_uncovered = all(_was_hidden(one, fault, repair, before, lines) for one in shown)
+        return (Result.STOPS if any(code_of(one)[:1] == "Y" for one in shown) else Result.UNCOVERS) if is_uncovered else Result.WRONG
 
     def faults_after(self, texts: dict[str, str]) -> Counted:
         """The faults if some files had other texts. The session is unchanged afterwards."""
@@ -187,20 +196,54 @@ class Trial:
         self.session.put(path, text.encode("utf-8", "surrogatepass"))
 
 
-def _was_hidden(one: Fault, fault: Fault, repair: Repair) -> bool:
+def _was_hidden(one: Fault, fault: Fault, repair: Repair, before: list[str], lines: list[str]) -> bool:
     """Whether a fault was there before a repair, hidden by the repaired one: an expression that can't be read has no other fault, and a
-    file that isn't YAML has none on its other lines."""
-    code, hidden = (entry.code if (entry := entry_of(each.message)) else "" for each in (one, fault))
-    if one.path != fault.path or code in UNREADABLE or code[:1] in ("Y", "K") and hidden not in HIDES:
+    file that isn't YAML has none on its other lines. `before` and `lines` are those before and after the repair."""
+    code, hidden = code_of(one), code_of(fault)
+    if one.path != fault.path:
         return False
     if hidden in HIDES:
         return code in HIDES[hidden] and one.line >= fault.line and not repair.new_files
     if hidden in UNREADABLE:
-        return one.line == fault.line and code[:1] == "X" and code not in ("X7", "X9")
+        return one.line == fault.line and code[:1] == "X" and code not in UNREADABLE and code not in ("X7", "X9")
     edits = repair.edits.get(fault.path, ())
+    if hidden[:1] != "Y" or not edits:
+        return False
+    if code in UNREADABLE or code[:1] in ("Y", "K"):
+        return all(_keeps_key(edit, before) for edit in edits) and _is_past(lines, _last_touched(edits), one)
     touched = {line + 1 for edit in edits for line in range(edit.span.start.line, edit.span.end.line + 1)}
     keeps_lines = all("\n" not in edit.text and edit.span.start.line == edit.span.end.line for edit in edits)
-    return hidden[:1] == "Y" and keeps_lines and one.line not in touched
+    return keeps_lines and one.line not in touched
+
+
+def _keeps_key(edit: Edit, lines: list[str]) -> bool:
+    """Whether an edit leaves the indentation, the dashes and the key of its first line as they are."""
+    line = lines[edit.span.start.line] if edit.span.start.line < len(lines) else ""
+    found = INDENT.match(line)
+    start = found.end() if found else 0
+    return edit.span.start.column > start or "-" in line[:start] and edit.span.start.column == start and not KEY.match(edit.text)
+
+
+def _last_touched(edits: Iterable[Edit]) -> int:
+    """The number of the last line that edits change, in the text after them, from 1."""
+    more = sum(edit.text.count("\n") - edit.span.end.line + edit.span.start.line for edit in edits)
+    return max(edit.span.end.line for edit in edits) + 1 + more
+
+
+def _is_past(lines: list[str], above: int, fault: Fault) -> bool:
+    """Whether a fault is below a line and what belongs to its key. The first line there may not fit the line above it."""
+    found = INDENT.match(lines[above - 1]) if above <= len(lines) else None
+    below = enumerate(lines[above:fault.line], above + 1)
+    indents = ((number, len(line) - len(line.lstrip(" "))) for number, line in below if line.strip())
+    past = next(((number, indent) for number, indent in indents if found and indent <= found.end()), None)
+    is_misfit = past == (fault.line, fault.column - 1) and code_of(fault)[:1] == "Y" and code_of(fault) != "Y3"
+    return past is not None and not is_misfit
+
+
+def code_of(fault: Fault) -> str:
+    """The code of a fault, or nothing if its message is unknown."""
+    entry = entry_of(fault.message)
+    return entry.code if entry else ""
 
 
 def _counted(faults: Iterable[Fault]) -> Counted:

@@ -184,11 +184,26 @@ def _touch(one: Edit, other: Edit) -> bool:
 
 def _is_better(after: dict[str, FileFaults], before: dict[str, FileFaults], may_uncover: bool) -> bool:
     """Whether there are fewer faults, and none that wasn't there. Places aren't compared, since they move. A fix that was tried alone may
-    also leave fewer of those faults that hide others, whatever they have hidden."""
-    if may_uncover and _count_hiding(after) < _count_hiding(before):
+    also leave fewer of those faults that hide others, whatever they have hidden, or a file that is read further before it isn't YAML."""
+    if may_uncover and (_count_hiding(after) < _count_hiding(before) or _is_read_further(after, before)):
         return True
     return (_count_hiding(after) <= _count_hiding(before) and _count(after) < _count(before)
             and not _messages(after) - _messages(before))
+
+
+def _is_read_further(after: dict[str, FileFaults], before: dict[str, FileFaults]) -> bool:
+    """Whether the files that aren't YAML are the same ones, and their faults are further below."""
+    now, then = (dict(_of_yaml(faults)) for faults in (after, before))
+    moved = [path for path in then if now.get(path) != then[path]]
+    return now.keys() == then.keys() and bool(moved) and all(now[path] > then[path] for path in moved)
+
+
+def _of_yaml(faults: dict[str, FileFaults]) -> Iterator[tuple[str, int]]:
+    """The lines of the faults of files that aren't YAML. Each has one."""
+    for path, of_file in faults.items():
+        for fault in of_file.faults:
+            if (entry := entry_of(fault.message)) and entry.code.startswith("Y"):
+                yield path, fault.line
 
 
 def _count_hiding(faults: dict[str, FileFaults]) -> int:

@@ -150,6 +150,17 @@ def action_of_job(case: Case) -> Iterable[Repair]:
         yield from _called_from_step(case, Found((*here.path[:-1], "uses"), key, uses, here.parent))
 
 
+def variables_as_inputs(case: Case) -> Iterable[Repair]:
+    """The variables of a job that calls a workflow of the folder, passed as inputs if the workflow has them all."""
+    here = case.key
+    job, callee, of_job = _call(case)
+    if here is None or job is None or callee is None or not of_job or here.path[-1] != "env" or job.get("with") or not here.value.entries:
+        return
+    declared = {one.name for one in files.declarations(callee, case.project.good_tree(callee), "inputs", True)}
+    if declared.issuperset(here.value.names()):
+        yield case.replace('change to "with"', "with")
+
+
 def _all_secrets(case: Case, job: Node) -> Iterable[Repair]:
     """All secrets of the caller, unless some are passed one by one."""
     secrets = job.get("secrets")
@@ -332,7 +343,7 @@ def without_step(case: Case) -> Iterable[Repair]:
 
 REPAIRS: dict[str, tuple[Callable[[Case], Iterable[Repair]], ...]] = {
     "C1": (near_file,),
-    "K6": (action_of_job,),
+    "K6": (action_of_job, variables_as_inputs),
     "C2": (declared_as_secret, near_declared("inputs"),),
     "C3": (required("inputs"),),
     "C4": (other_type,),

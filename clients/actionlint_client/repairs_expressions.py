@@ -125,10 +125,16 @@ def _outside(change: Callable[[str], str]) -> Callable[[str], str]:
 
 
 def _single_quotes(text: str) -> str:
-    if "`" in text and "${" in text:
+    if "`" in text and "${" in text or _without_curly_quotes(text):
         return text
     changed = DOUBLE_QUOTED.sub(lambda match: "'" + match[1].replace("'", "''") + "'", text)
     return _outside_texts(changed, lambda part: CURLY_QUOTED.sub(r"'\1'", part))
+
+
+def _without_curly_quotes(text: str) -> str | None:
+    """What stands in curly quotes that are around all of an expression, if it isn't a name."""
+    whole = CURLY_QUOTED.fullmatch(text.strip())
+    return whole[1] if whole and re.search(r"[(.=&|]", whole[1]) else None
 
 
 def _plain_spaces(text: str) -> str:
@@ -480,7 +486,8 @@ OTHER_SYNTAX = (
     rewritten("put it in quotes", with_text_in_brackets), rewritten("delete what isn't the condition", without_if, deletes=True))
 
 REPAIRS: dict[str, tuple[Callable[[Case], Iterable[Repair]], ...]] = {
-    "X1": (rewritten("write a call of format", template_as_format), SINGLE_QUOTES, rewritten("write plain spaces", _plain_spaces, True),
+    "X1": (rewritten("write a call of format", template_as_format), SINGLE_QUOTES,
+           rewritten("leave out the quotes", _without_curly_quotes), rewritten("write plain spaces", _plain_spaces, True),
            DOUBLED, as_choice, EQUALS, OPERATORS, SPREAD,
            rewritten('write "||", which takes the second for an empty text too', _coalesced), inner_braces,
            rewritten('write "."', _plain_dots, True), rewritten('write "null"', _null), rewritten("write a call of format", _formatted),

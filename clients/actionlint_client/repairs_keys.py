@@ -28,7 +28,8 @@ OTHER_NAMES = {"timeout": "timeout-minutes", "command": "run", "script": "run", 
                "allow-failure": "continue-on-error", "allow_failure": "continue-on-error", "os": "runs-on", "type": "types", "job": "jobs",
                "workdir": "working-directory", "inputs": "with", "input": "with", "parameters": "with", "environment": "env",
                "cmd": "run", "commands": "run", "action": "uses", "runner": "runs-on", "dependencies": "needs", "description": "name",
-               "continue-on-failure": "continue-on-error", "ignore-errors": "continue-on-error", "matrix": "strategy"}
+               "continue-on-failure": "continue-on-error", "ignore-errors": "continue-on-error", "matrix": "strategy",
+               "choices": "options", "values": "options", "enum": "options", "name": "group"}
 # Where a missing key is looked for.
 MAX_PLACES = 20
 STEP_STARTS = ("name", "id", "if")
@@ -259,7 +260,7 @@ def _takes_list(case: Case, here: Found) -> bool:
 def missing_key(case: Case) -> Iterable[Repair]:
     """The missing key: a misspelled one of the mapping, or a new one with a first value."""
     here, name = case.value, case.arguments[0]
-    if here is None or here.value.kind != "mapping":
+    if here is None or here.value.kind != "mapping" or here.value.get("<<"):
         return
     shape = shape_at(case.file, here.path, case.levels((*here.path, "")))
     row = shape["keys"].get(name, {}) if shape and "keys" in shape else {}

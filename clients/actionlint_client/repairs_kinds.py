@@ -272,12 +272,59 @@ def _without_merge(case: Case) -> Iterable[Repair]:
             continue
         if len(parent.entries) == 1 and len(path) > 1:
             edits.append(_alias_alone(case, parent, value))
-        elif value.entries and all(entry.kind == "scalar" for _, entry in value.entries):
-            entries = [f"{name.value}: {case.slice(entry.span)}" for name, entry in value.entries]
+        elif entries := _merged(case, parent, key, value):
             between = ", " if parent.is_flow else "\n" + " " * key.span.start.column
             edits.append(Edit(Span(key.span.start, value.span.end), between.join(entries)))
     if edits:
         yield case.of('replace "<<"', *edits)
+
+
+def _merged(case: Case, parent: Node, key: Node, alias: Node) -> list[str]:
+    """The entries that a mapping gets from an alias, as they are written there, or none if one is a text in lines, has an anchor, or can't
+    stand in brackets."""
+    more = key.span.start.column - alias.entries[0][0].span.start.column if alias.entries else 0
+    entries = [(name, value) for name, value in alias.entries if parent.get(name.value) is None]
+    texts = [case.slice(Span(name.span.start, tight(case, value).end)) for name, value in entries]
+    if any("&" in text or "\n" in text and (parent.is_flow or more < 0) for text in texts):
+        return []
+    return [text.replace("\n", "\n" + " " * more) for text in texts]
+
+
+def merge(case: Case) -> Iterable[Repair]:
+    """What an alias stands for in place of `<<`, which lacks a key or isn't one."""
+    here = case.value
+    if case.arguments[0] == "<<" or here and here.value.get("<<"):
+        yield from _without_merge(case)
+
+
+def script_without_sign(case: Case) -> Iterable[Repair]:
+    """A script below its key that looks like a mapping or a list, with the sign of a text in lines."""
+    here = case.value
+    if here and here.key and here.path[-1:] == ("run",) and here.value.kind != "scalar" and not here.value.is_flow:
+        end = here.key.span.end
+        if here.value.span.start.line > end.line and case.line_at(end.line)[end.column:].strip() == ":":
+            yield case.replace('write "|" after "run:"', " |", Span.at(Point(end.line, end.column + 1)))
+
+
+def value_of_output(case: Case) -> Iterable[Repair]:
+    """The text of an output as its value."""
+    here = case.value
+    if here and here.key and here.path[-2:-1] == ("outputs",) and here.value.kind == "scalar" and not is_within_flow(case, here.path):
+        if here.value.value and here.value.style not in ("|", ">"):
+            indent = "\n" + " " * (here.key.span.start.column + 2)
+            start = Point(here.key.span.end.line, here.key.span.end.column + 1)
+            yield case.replace('put it below "value"', f"{indent}value: {case.slice(here.value.span)}", Span(start, here.value.span.end))
+
+
+def in_a_job(case: Case) -> Iterable[Repair]:
+    """The keys of a job that stand below `jobs`, as a job."""
+    here, jobs = case.value, case.at("jobs")
+    if here is None or jobs is None or here.path[:-1] != ("jobs",) or jobs.is_flow or not is_workflow(case.file):
+        return
+    if set(jobs.names()) <= set(table()["shapes"]["Job"]["keys"]):
+        first, *others = indented(case, jobs.entries, "  ")
+        start = " " * jobs.entries[0][0].span.start.column + "build:\n"
+        yield case.of('put them into a job "build"', first._replace(text=start + first.text), *others)
 
 
 def _alias_alone(case: Case, mapping: Node, alias: Node) -> Edit:
@@ -345,8 +392,9 @@ def skeleton(case: Case) -> Iterable[Repair]:
 
 
 REPAIRS: dict[str, tuple[Callable[[Case], Iterable[Repair]], ...]] = {
-    "K1": (jobs_below,),
-    "K4": (other_kind,),
+    "K1": (jobs_below, merge),
+    "K2": (merge,),
+    "K4": (in_a_job, script_without_sign, value_of_output, other_kind),
     "K5": (other_type,),
     "K7": (skeleton,),
 }

@@ -19,7 +19,7 @@ MAX_LINES = 5_000
 def moved_line(case: Case) -> Iterable[Repair]:
     """The line and those below it with the indentation of one of the lines above: first where a section knows its key, and there as deep as
     possible, since a key usually belongs to what it follows."""
-    number, own = case.span.start.line, _indent(case.line)
+    number, own = case.span.start.line, indent_of(case.line)
     above = case.outline.lines[max(number - MAX_LINES_ABOVE, 0):number]
     columns = {column for line in above if line.elements for column in (line.elements[-1].column, line.indent)} - {own}
     nearest = sorted(columns, key=lambda column: (abs(column - own), -column))[:MAX_COLUMNS]
@@ -35,7 +35,7 @@ def moved_line(case: Case) -> Iterable[Repair]:
     yield from (repair for *_, repair in sorted(likely, key=lambda one: (one[0], one[2])))
 
 
-def _indent(line: str) -> int:
+def indent_of(line: str) -> int:
     return len(line) - len(line.lstrip(" "))
 
 
@@ -44,7 +44,7 @@ def _last_line(case: Case, number: int, own: int) -> int:
     last = number
     for below in range(number + 1, len(case.lines)):
         if case.lines[below].strip():
-            if _indent(case.lines[below]) <= own:
+            if indent_of(case.lines[below]) <= own:
                 break
             last = below
     return last
@@ -77,7 +77,8 @@ def _destination(case: Case, path: Path, column: int) -> str:
 def moved(case: Case, title: str, lines: Iterable[int], by: int) -> Repair:
     """Lines with more or fewer spaces before them, except blank ones. The first alone if the others fit it then."""
     first, *others = lines
-    if min((_indent(case.lines[line]) for line in others if case.lines[line].strip()), default=0) == _indent(case.lines[first]) + by + 2:
+    below = min((indent_of(case.lines[line]) for line in others if case.lines[line].strip()), default=0)
+    if below == indent_of(case.lines[first]) + by + 2:
         others = []
     edits = [Edit(Span.at(Point(line, 0)), " " * by) if by > 0 else Edit(Span.on_line(line, 0, -by), "")
              for line in (first, *others) if case.lines[line].strip()]

@@ -11,6 +11,7 @@ from .repair import Case, Edit, Found, Repair, as_scalar, is_within_flow, next_e
 from .repairs_expressions import BRACES
 from .repairs_keys import deleted, in_its_quotes
 from .repairs_kinds import as_list, as_mapping
+from .repairs_levels import moves
 from .stricter import takes_access
 from .syntax import table
 from .text import Point, Span
@@ -260,8 +261,12 @@ def _without_item(case: Case, sequence: Node, item: Node) -> Edit:
 
 
 def list_of_row(case: Case) -> Iterable[Repair]:
+    """A row as a list, or an option of the strategy moved there."""
     here = case.value
     if here is None:
+        return
+    if here.path[-2:-1] == ("matrix",) and here.path[-1] in table()["shapes"]["Strategy"]["keys"]:
+        yield from (repair for goal, repair in moves(case, here) if goal == here.path[:-2])
         return
     if here.value.kind == "sequence":
         yield from _as_include(case, here)

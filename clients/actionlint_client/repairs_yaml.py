@@ -7,9 +7,9 @@ from typing import Callable, Iterable
 from .expressions import expressions_in
 from .names import likely
 from .operators import OPERATORS, choice_in, grouped
-from .repair import Case, Edit, Repair, quoted
+from .repair import COMMENT, Case, Edit, Repair, quoted
 from .repairs_expressions import title_of
-from .repairs_levels import moved_line
+from .repairs_levels import indent_of, moved_line
 from .syntax import shape_at
 from .text import Point, Span
 
@@ -27,6 +27,8 @@ ALIAS = re.compile(r"\*([^\s,\[\]{}]+)")
 ODD_SPACE = re.compile("[\u00a0\u2000-\u200a\u202f\u3000]")
 ODD_START = re.compile("[ \u00a0\u2000-\u200a\u202f\u3000-]*(?:[\\w-]+:)?[ \u00a0\u2000-\u200a\u202f\u3000]*")
 MAX_LINES_ABOVE = 200
+MAX_LINES_OF_LIST = 30
+HERE_DOCUMENT = re.compile(r"<<-?\s*['\"]?(\w+)")
 IN_QUOTES = re.compile(r"'[^']*'|\"[^\"]*\"")
 EXPRESSION_AS_ITEM = re.compile(r"(?<=[\[,])\s*(\$\{\{[^{}]*\}\})\s*(?=[\],])")
 CLOSERS = {"[": "]", "{": "}"}
@@ -190,12 +192,24 @@ def closed_bracket(case: Case) -> Iterable[Repair]:
 
 
 def brackets_closed_above(case: Case) -> Iterable[Repair]:
-    """The brackets that are open on a line above, closed at its end."""
-    for line in range(case.span.start.line, max(case.span.start.line - 4, -1), -1):
+    """The brackets that are open on a line above, closed at its end, or after the last of the deeper lines below it."""
+    number = case.span.start.line
+    for line in range(number, max(number - MAX_LINES_OF_LIST, -1), -1):
         span = case.rest_span(line)
         open_signs = _open_signs(case.slice(span)) if span else []
         if span and open_signs:
-            yield case.replace("close the bracket", "".join(CLOSERS[sign] for sign in reversed(open_signs)), Span.at(span.end))
+            last = next((one for one in range(number - 1, line, -1) if case.lines[one].strip()), line)
+            lines = case.outline.lines[line + 1:last + 1]
+            is_list = last > line and all(below.indent > case.outline.lines[line].indent for below in lines)
+            end = _end_of_text(case.lines[last]) if is_list else span.end.column
+            here = Point(last if is_list else line, end)
+            open_signs = _open_signs(case.slice(Span(span.start, here)))
+            yield case.replace("close the bracket", "".join(CLOSERS[sign] for sign in reversed(open_signs)), Span.at(here))
+
+
+def _end_of_text(line: str) -> int:
+    """Where the text of a line ends, before a comment."""
+    return len(COMMENT.sub("", line))
 
 
 def _open_signs(text: str) -> list[str]:
@@ -296,6 +310,44 @@ def _is_text(case: Case, number: int, column: int) -> bool:
     return not line.elements or line.indent > column
 
 
+def text_in_script(case: Case) -> Iterable[Repair]:
+    """The lines of a script that are less indented than its first line, indented as that: up to the end of a here-document, or if another
+    line of the script follows."""
+    number, lines, outline = case.span.start.line, case.lines, case.outline.lines
+    above = range(number - 1, max(number - MAX_LINES_ABOVE, -1), -1)
+    header = next((one for one in above if [found.name for found in outline[one].elements[-1:]] == ["run"]), None)
+    if header is None or outline[header].rest[:1] not in ("|", ">"):
+        return
+    texts = [one for one in range(header + 1, number + 1) if lines[one].strip()] or [number]
+    column = indent_of(lines[texts[0]])
+    first = next((one for one in texts if indent_of(lines[one]) < column), None)
+    if first is None or column <= outline[header].elements[-1].column:
+        return
+    words = {word for one in lines[header:first] for word in HERE_DOCUMENT.findall(one)} - {line.strip() for line in lines[header:first]}
+    last = next((one for one in range(number, min(number + MAX_LINES_ABOVE, len(lines))) if lines[one].strip() in words), None)
+    if last is None and not any(outline[one].elements for one in range(first, number + 1)):
+        after = (one for one in range(number + 1, len(lines)) if lines[one].strip())
+        end = next((one for one in after if indent_of(lines[one]) >= column or outline[one].elements), None)
+        last = end - 1 if end is not None and indent_of(lines[end]) >= column else None
+    if last is not None:
+        has_end = indent_of(lines[last]) >= column
+        wrong = [one for one in range(first, last + 1) if lines[one].strip() and (not has_end or indent_of(lines[one]) < column)]
+        more = " " * (column - indent_of(lines[first]))
+        yield case.of("indent the lines of the script", *(Edit(Span.at(Point(one, 0)), more) for one in wrong))
+
+
+def script_without_sign(case: Case) -> Iterable[Repair]:
+    """A script that begins on the line below its key, with the sign of a text in lines."""
+    number = case.span.start.line
+    for header in range(number - 1, max(number - MAX_LINES_ABOVE, -1), -1):
+        line = case.outline.lines[header]
+        if line.elements and line.elements[-1].name == "run":
+            below = [one for one in range(header + 1, number + 1) if case.lines[one].strip()]
+            if not line.rest and all(case.outline.lines[one].indent > line.elements[-1].column for one in below):
+                yield case.replace('write "|" after "run:"', " |", Span.at(Point(header, line.elements[-1].end)))
+            return
+
+
 def comment(case: Case) -> Iterable[Repair]:
     """A comment that begins as in other languages."""
     match = re.match(r" *(//)(?!\S*:)", case.line)
@@ -326,6 +378,14 @@ def with_space(case: Case) -> Iterable[Repair]:
     """A space after a colon or a dash that has none."""
     for place, match in _after_match(case, COLON_WITHOUT_SPACE, DASH_WITHOUT_SPACE):
         yield case.replace(f"add a space after the {'colon' if match[0].endswith(':') else 'dash'}", " ", place, is_safe=True)
+
+
+def with_dash(case: Case) -> Iterable[Repair]:
+    """A dash before a text that follows an entry of a list of texts."""
+    number = case.span.start.line
+    above, here = (case.outline.lines[one].elements for one in (max(number - 1, 0), number))
+    if above and not here and above[-1].name is None and case.rest_span(number - 1):
+        yield case.replace("add a dash", " " * above[-1].column + "- ", Span.on_line(number, 0, indent_of(case.line)))
 
 
 def with_colon(case: Case) -> Iterable[Repair]:
@@ -396,7 +456,7 @@ def quoted_key(case: Case) -> Iterable[Repair]:
 REPAIRS: dict[str, tuple[Callable[[Case], Iterable[Repair]], ...]] = {
     "Y2": (without_character,),
     "Y3": (spaces_for_tabs,),
-    "Y4": (plain_spaces, comment, list_in_line, with_colon, with_space, script_below, moved_line, with_quotes),
+    "Y4": (plain_spaces, comment, list_in_line, with_dash, with_colon, with_space, script_below, moved_line, with_quotes),
     "Y5": (closed_quote,),
     "Y6": (closed_bracket, with_quotes),
     "Y7": (with_quotes, quoted_key),
@@ -406,8 +466,8 @@ REPAIRS: dict[str, tuple[Callable[[Case], Iterable[Repair]], ...]] = {
     "Y11": (without_line,),
     "Y12": (single_quotes,),
     "Y13": (plain_spaces, comment, as_condition, as_expression, as_schedule, list_in_line, closed_above, inner_quotes, pair_below,
-            script_in_lines, script_below, with_quotes, as_block, with_space, with_colon, brackets_closed_above, moved_line,
-            without_character),
+            script_without_sign, script_in_lines, script_below, with_quotes, as_block, with_space, with_colon, text_in_script,
+            brackets_closed_above, moved_line, without_character),
     "Y16": (text_on_next_line,),
     "Y17": (as_expression, with_colon, with_quotes, quoted_key),
     "Y18": (near_alias, with_quotes),

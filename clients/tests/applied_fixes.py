@@ -304,6 +304,10 @@ def what_a_fault_hides(program: str) -> None:
     with new_folder({FILE: text, CALLED: FILES[CALLED], ACTION: FILES[ACTION]}) as folder:
         status, _, _ = report(program, folder, "--fix", "--guesses", "--form", "jsonl")
         assert contents(folder)[FILE].decode() == RIGHT and status == 0, contents(folder)
+    text = "name: A: b\non: push\njobs: {a: {runs-on: u, steps: [{run: make}]}}\nrun-name: C: d\n"
+    with new_folder({FILE: text}) as folder:
+        status, _, _ = report(program, folder, "--fix", "--guesses", "--form", "jsonl")
+        assert contents(folder)[FILE].decode() == text.replace("A: b", "'A: b'").replace("C: d", "'C: d'") and status == 0, contents(folder)
 
 
 @CASES.case

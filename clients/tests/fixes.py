@@ -82,15 +82,18 @@ def nothing_for_some(program: str) -> None:
 
 @CASES.case
 def faults_that_come_back(program: str) -> None:
-    """A text that isn't valid YAML hides its other faults. A fix after which those of the previous text come back is offered, but no others
-    may."""
+    """A text that isn't valid YAML hides its other faults. A fix after which others come further below is a guess, unless the previous text
+    had these. None after which there are others where it was made."""
     folder = Folder(program, {FILE: STEP + "name: `x`\n        shel: bash\n" + "        run: make\n"})
     (fault,) = folder.faults()
-    assert not fixes([program], SECONDS, folder.project, [fault])
+    found = fixes([program], SECONDS, folder.project, [fault])
+    assert [(fix.repair.title, fix.repair.is_safe) for fix in found] == [("put it in quotes", False)], found
     earlier = Folder(program, {FILE: STEP + "name: x\n        shel: bash\n" + "        run: make\n"}).faults()
     assert len(earlier) == 1
     found = fixes([program], SECONDS, folder.project, [fault], earlier)
-    assert [fix.repair.title for fix in found] == ["put it in quotes"], found
+    assert [(fix.repair.title, fix.repair.is_safe) for fix in found] == [("put it in quotes", True)], found
+    folder = Folder(program, {FILE: STEP + "nam: `x`\n        run: make\n"})
+    assert not fixes([program], SECONDS, folder.project, folder.faults())
 
 
 @contextmanager
@@ -159,12 +162,26 @@ def check_fix(program: str, folder: Folder, faults: list[Fault], fault: Fault, r
     changed = {path: replaced(folder.project.text(path), edits) for path, edits in repair.edits.items()} | repair.new_files
     after = Folder(program, {**folder.texts, **changed}).faults()
     key, new = (fault.path, fault.message), counted(after) - counted(faults)
-    assert counted(after)[key] < counted(faults)[key], (repair.title, fault, folder.texts, changed)
-    codes = {entry.code for _, message in new if (entry := entry_of(message))}
-    hides = (entry := entry_of(fault.message)) is not None and entry.code in (*UNREADABLE, *(f"Y{number}" for number in range(1, 19)))
+    entry = entry_of(fault.message)
+    is_yaml = entry is not None and entry.code[0] == "Y"
+    if is_yaml and any(below(one, folder, changed) for one in after if (one.path, one.message) == key):
+        new[key] += 1
+    else:
+        assert counted(after)[key] < counted(faults)[key], (repair.title, fault, folder.texts, changed)
+    codes = {found.code for _, message in new if (found := entry_of(message))}
+    hides = entry is not None and entry.code in (*UNREADABLE, *(f"Y{number}" for number in range(1, 19)))
     of_unknown = OF_UNKNOWN.get(entry.code, ()) if entry else ()
-    was_hidden = hides and all(code[0] in "XGC" for code in codes) or codes <= set(of_unknown)
+    shown = [one for one in after if (one.path, one.message) in new and not (is_yaml and below(one, folder, changed))]
+    others = {found.code for one in shown if (found := entry_of(one.message))}
+    was_hidden = hides and all(code[0] in "XGC" for code in others) or codes <= set(of_unknown)
     assert not new or not repair.is_safe and was_hidden, (repair.title, fault, folder.texts, changed)
+
+
+def below(fault: Fault, folder: Folder, changed: dict[str, str]) -> bool:
+    """Whether a fault of a changed text is on one of the lines at its end that are as before, of a file that can't be read."""
+    before, after = (text.split("\n")[::-1] for text in (folder.texts.get(fault.path, ""), changed.get(fault.path, "")))
+    same = next((number for number, (old, new) in enumerate(zip(before, after)) if old != new), min(len(before), len(after)))
+    return fault.path in changed and fault.line > len(after) - same
 
 
 @CASES.case
