@@ -90,7 +90,7 @@ class Disk:
             return
         self._passed_over.add(path)
         told = len(self._passed_over) <= MAX_TOLD
-        self._say(f"passed over, since {why}: {path!r}" if told else "more files are passed over")
+        self._say(f"skipped, since {why}: {path!r}" if told else "more files are skipped")
 
     def _update(self, path: str) -> SavedFile:
         whole = os.path.join(self._root, path.encode("utf-8", "surrogatepass"))

@@ -253,7 +253,7 @@ def many_links_that_leave(_: str) -> None:
         for _ in range(2):
             looked_at.rescan()
             assert all(looked_at.file(path).data is None for path in looked_at.workflows) and len(looked_at.workflows) == 50
-        assert len(said) == 11 and all(OUTSIDE in one for one in said[:10]) and said[10] == "more files are passed over", said
+        assert len(said) == 11 and all(OUTSIDE in one for one in said[:10]) and said[10] == "more files are skipped", said
 
 
 @CASES.case
@@ -335,7 +335,7 @@ def check_unreadable(top: str, listed: str, outside: str) -> None:
     assert len(said) == 2 and all(OUTSIDE in one for one in said), said
     for _ in range(2):
         Disk(os.fsencode(top + "/other"), said.append).rescan()
-    assert said[2:] == ["passed over, since it can't be listed (Permission denied): '.github/workflows'"] * 2, said
+    assert said[2:] == ["skipped, since it can't be listed (Permission denied): '.github/workflows'"] * 2, said
 
 
 def as_nobody(check: Callable[[], None]) -> None:
