@@ -17,7 +17,7 @@ import sys
 import tempfile
 import time
 
-from common import TOP, program
+from common import TOP, program, tell
 
 sys.path.insert(0, str(TOP / "clients/tests"))
 from editor import Editor, children, memory
@@ -108,11 +108,18 @@ def processor_seconds(process):
     return (int(fields[11]) + int(fields[12])) / os.sysconf("SC_CLK_TCK")
 
 
-def tell(name, seconds):
+def tell_times(name, what, seconds):
     """Prints a line of times."""
-    times = sorted(1000 * it for it in seconds)
+    times = sorted(seconds)
     median, p99 = statistics.median(times), times[int(len(times) * 0.99)]
-    print(f"{name:58} median {median:8.2f} ms, p99 {p99:8.2f}, most {times[-1]:8.2f}", flush=True)
+    tell(f"{name:58} median {1e3 * median:8.2f} ms, p99 {1e3 * p99:8.2f}, most {1e3 * times[-1]:8.2f}", what, median=median, p99=p99)
+
+
+def tell_processor_time(what, before, folder, count):
+    """Prints the processor time of server and linter since that before, for each of so many edits."""
+    server, child = ((after - first) / count for first, after in zip(before, folder.processor_seconds()))
+    line = f"    of which processor time: server {1e3 * server:.2f} ms, linter {1e3 * child:.2f} ms"
+    tell(line, f"processor time of {what}", this=server + child)
 
 
 def tell_edits(linter, count, faults):
@@ -120,11 +127,11 @@ def tell_edits(linter, count, faults):
     folder = Folder(linter, workflows(count, workflow(faults)))
     print(f"{count} workflows of {len(workflow(faults))} bytes with {faults} faults each: all shown after {folder.start_seconds:.2f} s")
     before = folder.processor_seconds()
-    tell("  an edit of one workflow", [folder.edit() for _ in range(EDITS)])
-    server, child = ((after - first) / EDITS for first, after in zip(before, folder.processor_seconds()))
-    print(f"    of which processor time: server {1000 * server:.2f} ms, linter {1000 * child:.2f} ms")
+    tell_times("  an edit of one workflow", f"an edit of one workflow, {faults}", [folder.edit() for _ in range(EDITS)])
+    tell_processor_time(f"an edit of one workflow, {faults}", before, folder, EDITS)
     folder.editor.open(ACTION, FILES[ACTION])
-    tell("  an edit of the interface of the action that all call", [folder.edit_action(number) for number in range(EDITS_OF_THE_ACTION)])
+    tell_times("  an edit of the interface of the action that all call", f"an edit of the interface, {faults}",
+               [folder.edit_action(number) for number in range(EDITS_OF_THE_ACTION)])
     folder.close()
 
 
@@ -146,7 +153,7 @@ def tell_requests(linter):
             folder.editor.request(f"textDocument/{method}", {"textDocument": document, "position": places[word]})
             seconds.append(time.monotonic() - begun)
             server += folder.processor_seconds()[0]
-        tell(f"  {method} of {what}", seconds)
+        tell_times(f"  {method} of {what}", f"{method} of {what}", seconds)
         print(f"    of which processor time: server {1000 * server / len(seconds):.2f} ms")
     folder.close()
 
@@ -157,9 +164,8 @@ def tell_full_folder(linter):
         folder = Folder(linter, workflows(4_096, text))
         before = folder.processor_seconds()
         edits = EDITS // 5
-        tell(f"an edit beside {name}", [folder.edit() for _ in range(edits)])
-        server, child = ((after - first) / edits for first, after in zip(before, folder.processor_seconds()))
-        print(f"    of which processor time: server {1000 * server:.2f} ms, linter {1000 * child:.2f} ms")
+        tell_times(f"an edit beside {name}", f"an edit beside {name}", [folder.edit() for _ in range(edits)])
+        tell_processor_time(f"an edit beside {name}", before, folder, edits)
         folder.close()
 
 
@@ -208,7 +214,8 @@ def tell_shapes(linter):
             folder.close()
         told = ", ".join(f"{what} {1000 * row:.0f} ms ({row / first:.1f})" for (what, row), first in zip(rows[1].items(), rows[0].values())
                          if what != "memory")
-        print(f"{2 * count} {name}: {told}; server {rows[1]['memory']:,} KiB", flush=True)
+        line = f"{2 * count} {name}: {told}; server {rows[1]['memory']:,} KiB"
+        tell(line, name, **rows[1])
 
 
 def tell_buffers(linter):
@@ -223,7 +230,8 @@ def tell_buffers(linter):
         folder.editor.settle()
         took.append(time.monotonic() - begun)
         folder.close()
-    print(f"2,000 buffers opened: {took[1]:.2f} s ({took[1] / took[0]:.1f} times as long as 1,000)", flush=True)
+    line = f"2,000 buffers opened: {took[1]:.2f} s ({took[1] / took[0]:.1f} times as long as 1,000)"
+    tell(line, "2,000 buffers opened", this=took[1])
 
 
 def tell_missing_inputs(linter):
@@ -232,8 +240,10 @@ def tell_missing_inputs(linter):
     action = f"name: A\ndescription: d\ninputs:\n{inputs}runs: {{using: node20, main: m.js}}\n"
     caller = HEAD + "".join(f"      - uses: ./b\n        with:\n          x{number}: 1\n" for number in range(600))
     folder = Folder(linter, {f"{WORKFLOWS}a.yml": caller, "b/action.yml": action})
-    tell(f"600 calls that lack 1,000 inputs each: {folder.start_seconds:.1f} s; an edit", [folder.edit() for _ in range(5)])
-    print(f"    server {memory(folder.processes[0], 'VmHWM'):,} KiB", flush=True)
+    name = "600 calls that lack 1,000 inputs each"
+    tell_times(f"{name}: {folder.start_seconds:.1f} s; an edit", name, [folder.edit() for _ in range(5)])
+    most = memory(folder.processes[0], "VmHWM")
+    tell(f"    server {most:,} KiB", f"start and memory of {name}", start=folder.start_seconds, memory=most)
     folder.close()
 
 
@@ -246,7 +256,8 @@ def tell_memory(linter):
         if number % EDITS_BETWEEN == EDITS_BETWEEN - 1:
             sizes.append([memory(process) for process in folder.processes])
     for name, first, last in zip(("server", "linter"), sizes[0], sizes[-1]):
-        print(f"memory of the {name} after {EDITS_BETWEEN:,} edits {first:,} KiB, after {EDITS_OF_MEMORY:,} more {last:,} KiB", flush=True)
+        line = f"memory of the {name} after {EDITS_BETWEEN:,} edits {first:,} KiB, after {EDITS_OF_MEMORY:,} more {last:,} KiB"
+        tell(line, f"memory of the {name}", first=first, last=last)
     folder.close()
 
 
@@ -262,7 +273,8 @@ def tell_folders(linter, count=1_000):
     subprocess.run(["xargs", "-P", str(processors), "-I", "{}", *command.split()], input="\n".join(names).encode(), check=False)
     took = time.monotonic() - begun
     written = len(list(pathlib.Path(top).glob("*/actionlint.sarif")))
-    print(f"{written} of {count} folders of 5 workflows and an action, {processors} at a time, with a file of SARIF each: {took:.1f} s")
+    line = f"{written} of {count} folders of 5 workflows and an action, {processors} at a time, with a file of SARIF each: {took:.1f} s"
+    tell(line, "folders", this=took, folders=written, at_a_time=processors)
     shutil.rmtree(top)
 
 

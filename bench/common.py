@@ -1,10 +1,15 @@
-"""What the scripts of bench/ share: the programs that are timed, folders and scripts of files, and the least time of runs that take turns.
+"""What the scripts of bench/ share: the programs that are timed, folders and scripts of files, the least time of runs that take turns, and
+how a figure is told.
 
 All times are processor times. Files are pairs of a path and a text.
 """
 
+import functools
+import json
+import os
 import pathlib
 import resource
+import shutil
 import subprocess
 import sys
 import tempfile
@@ -13,29 +18,60 @@ TOP = pathlib.Path(__file__).resolve().parent.parent
 SESSION = ["--session", "--oneline"]
 WORKFLOW = ".github/workflows/a.yml"
 EMPTY = "on: push\njobs: {}\n"
+# the names of the carried programs, by their crates
+CARRIED = {"actionlint": "actionlint", "al_facts": "actionlint-facts"}
+# the variable that names a file for the figures, one JSON object a line; bench/all.py sets it
+RESULTS = "BENCH_RESULTS"
 # the event parsers with which reading and linting are compared: the program in bench/ for each library
 PEERS = {"yaml": "yaml_events.c", "fyaml": "fyaml_events.c"}
 
 
+@functools.lru_cache(maxsize=None)
 def program(crate):
-    """The program of a crate, as left by ./test or a build of the crate, otherwise the carried one."""
-    built = TOP / "crates" / crate / "out" / crate
-    return built if built.is_file() else TOP / "prebuilt" / crate
+    """The program of a crate that was built from these sources, otherwise the one that was built last or is carried."""
+    found = subprocess.run([TOP / CARRIED[crate], "--which"], stdout=subprocess.PIPE, stderr=subprocess.DEVNULL, check=False)
+    if found.returncode == 0:
+        return pathlib.Path(os.fsdecode(found.stdout.rstrip(b"\n")))
+    for path in (TOP / "crates" / crate / "out" / crate, TOP / "prebuilt" / CARRIED[crate]):
+        if path.is_file():
+            return path
+    sys.exit(f"there is no program of {crate}: ./{CARRIED[crate]} --build-anew builds it")
+
+
+def tell(line, what, **figures):
+    """Prints a line about something, and adds its figures to the file of results, if there is one."""
+    print(line, flush=True)
+    if path := os.environ.get(RESULTS):
+        with open(path, "a", encoding="utf-8") as results:
+            results.write(json.dumps({"what": what, **figures}) + "\n")
+
+
+def leave_out(what, why):
+    """Says that something isn't measured."""
+    print(f"left out: {what}, since {why}", file=sys.stderr, flush=True)
+
+
+def is_there(command, package, what):
+    """Whether a command is installed. If not, what is measured with it is left out."""
+    if shutil.which(command):
+        return True
+    leave_out(what, f"{command} isn't installed (Debian's {package})")
+    return False
 
 
 def peers(folder):
-    """The programs around libyaml and then libfyaml, compiled into a folder. A library that isn't installed with its headers is left out,
-    and named."""
-    made = []
+    """The programs around libyaml and then libfyaml, compiled into a folder, by the library's name. A library that isn't installed with its
+    headers is left out."""
+    if not is_there("cc", "gcc", "libyaml and libfyaml"):
+        return {}
+    made = {}
     for library, source in PEERS.items():
         path = pathlib.Path(folder) / library
         compiled = subprocess.run(["cc", "-O2", "-o", path, TOP / "bench" / source, f"-l{library}"], capture_output=True, check=False)
         if compiled.returncode:
-            print(f"lib{library} is left out, since cc found no lib{library} or no headers of it", file=sys.stderr)
+            leave_out(f"lib{library}", f"cc found no lib{library} or no headers of it (Debian's lib{library}-dev)")
         else:
-            made.append(path)
-    if not made:
-        sys.exit("there is nothing to compare with: install Debian's libyaml-dev")
+            made[f"lib{library}"] = path
     return made
 
 

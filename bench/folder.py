@@ -14,7 +14,7 @@ import pathlib
 import sys
 import tempfile
 
-from common import TOP, least_in_turns, program, put_seconds, run_seconds, write_files
+from common import TOP, least_in_turns, program, put_seconds, run_seconds, tell, write_files
 
 EXAMPLE = TOP / "examples" / "release" / ".github" / "workflows" / "release.yml"
 WORKFLOWS = ".github/workflows"
@@ -76,7 +76,7 @@ def compare(name, sizes, times):
     for (before, less), (size, took) in zip(sizes_and_times, sizes_and_times[1:]):
         line += f", {size} {took:.3f}s, {took / less:.2f} times as long"
         kept = kept and took <= MOST[size // before] * less
-    print(line, flush=True)
+    tell(line, name, this=times[-1], growth=times[-1] / times[-2])
     return kept
 
 
@@ -95,8 +95,9 @@ def beside_scripts(name, files):
         write_files(top, files)
         runs = [functools.partial(put_seconds, files), functools.partial(put_seconds, files[::-1]), functools.partial(seconds, top)]
         called, callers, folder = least_in_turns(RUNS, runs)
-    print(f"{name}: {folder:.3f}s in a folder, {called:.3f}s as a script with called files first, {folder / called:.2f} times as long; "
-          f"{callers:.3f}s with callers first, {callers / called:.1f} times", flush=True)
+    line = (f"{name}: {folder:.3f}s in a folder, {called:.3f}s as a script with called files first, {folder / called:.2f} times as long; "
+            f"{callers:.3f}s with callers first, {callers / called:.1f} times")
+    tell(line, name, this=folder, called_first=called, callers_first=callers)
     return folder <= MOST[1] * called
 
 

@@ -5,8 +5,8 @@
 The command's output is passed through. A few times a second the processes that the command started are looked up in /proc: those of the
 prover, with their crate and their task (a must-fail edit has a folder of its own, a check of tests the flag --test), their processor
 seconds and the largest memory of a single process. What a process used between the last look and its end is missing there, so the total is
-taken from the kernel, which has it exactly. When the command has ended, a table for docs/PROVING.md is printed. TOP is the repository with
-the crates.txt, sources and edits of the table.
+taken from the kernel, which has it exactly. When the command has ended, a table is printed, from which bench/all.py writes
+docs/PROVING.md. TOP is the repository with the crates.txt, sources and edits of the table.
 """
 
 import os

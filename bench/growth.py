@@ -11,7 +11,7 @@ import functools
 import re
 import sys
 
-from common import EMPTY, WORKFLOW, least_in_turns, put_seconds
+from common import EMPTY, WORKFLOW, least_in_turns, put_seconds, tell
 
 RUNS = 5
 
@@ -211,8 +211,8 @@ def main():
             folders = [[(WORKFLOW, EMPTY)], *(files(count) for files in (checked, read) for count in (size // 2, size))]
             nothing, *times = least_in_turns(RUNS, [functools.partial(put_seconds, it) for it in folders])
             halves, wholes = ([took - nothing for took in times[at::2]] for at in (0, 1))
-            told = [f" {half:8.3f}s {whole:8.3f}s {whole / half:10.2f}" for half, whole in zip(halves, wholes)]
-            print(f"{name:34}", *told, sep="", flush=True)
+            told = "".join(f" {half:8.3f}s {whole:8.3f}s {whole / half:10.2f}" for half, whole in zip(halves, wholes))
+            tell(f"{name:34}{told}", name, this=wholes[0], growth=wholes[0] / halves[0])
 
 
 if __name__ == "__main__":

@@ -1,22 +1,21 @@
 """What a whole lint takes, compared with the bare event parsers of libyaml and libfyaml on the same bytes: bench/lint.py [BEFORE], after
 ./test or a build of crates/actionlint. BEFORE is a program of another version, which takes its turns in the same run.
 
-Needs a C compiler, the libraries with their headers (Debian's libyaml-dev and libfyaml-dev; one that is missing is left out) and valgrind.
-Each file is put into a session that reports; a peer reads it and keeps nothing. Ratios are to the first peer, libyaml. Times are the least
-of several runs that take turns, including the start of the process; instructions are counted by callgrind, since times on a shared machine
-vary by half. Folders are linted without arguments, compared with the peers on the same files, each opened by its name, and with yamllint,
-if Debian's package of it is installed. One small file is also compared with a program that only reads it.
+Uses a C compiler, the libraries with their headers (Debian's libyaml-dev and libfyaml-dev), valgrind and yamllint; what is measured with
+one that is missing is left out, and named. Each file is put into a session that reports; a peer reads it and keeps nothing. Ratios are to
+the first peer, libyaml. Times are the least of several runs that take turns, including the start of the process; instructions are counted
+by callgrind, since times on a shared machine vary by half. Folders are linted without arguments, compared with the peers on the same files,
+each opened by its name, and with yamllint. One small file is also compared with a program that only reads it.
 """
 
 import functools
 import pathlib
 import re
-import shutil
 import subprocess
 import sys
 import tempfile
 
-from common import SESSION, TOP, WORKFLOW, least_in_turns, peers, program, put_commands, run_seconds, write_files
+from common import SESSION, TOP, WORKFLOW, is_there, least_in_turns, peers, program, put_commands, run_seconds, tell, write_files
 
 RUNS = 9
 # of a run that takes a millisecond
@@ -128,57 +127,65 @@ def instructions(command, data, folder):
     return int(re.search(rb"Collected : (\d+)", run.stderr)[1]) / 1e6
 
 
-def compare(name, size, commands, inputs, folder=None):
-    """Prints the times and instructions of the commands on files with this many bytes, each with its own standard input."""
-    measures = [functools.partial(seconds, *it, folder) for it in zip(commands, inputs)]
-    first, *others = least_in_turns(RUNS, measures)
-    counted = [instructions(*it, folder) for it in zip(commands, inputs)]
-    cells = "".join(f" {took:8.3f}s {took / first:6.2f} {count:9.1f}M" for took, count in zip(others, counted[1:]))
-    print(f"{name:42} {size:9} {first:8.3f}s {counted[0]:8.1f}M{cells}", flush=True)
+def compare(name, size, commands, inputs, counts, folder=None):
+    """Prints the times and, if they are counted, the instructions of the commands, by their names, on files with this many bytes. Each has
+    its own standard input."""
+    measures = [functools.partial(seconds, *it, folder) for it in zip(commands.values(), inputs)]
+    times = dict(zip(commands, least_in_turns(RUNS, measures)))
+    counted = [instructions(*it, folder) for it in zip(commands.values(), inputs)] if counts else []
+    first, *others = times.values()
+    cells = [f" {first:8.3f}s", *(f" {took:8.3f}s {took / first:6.2f}" for took in others)]
+    told = zip(cells, [f" {it:8.1f}M" for it in counted] or [""] * len(cells))
+    line = f"{name:42} {size:9}" + "".join(cell + count for cell, count in told)
+    tell(line, name, size=size, **times, **{f"instructions of {it}": count for it, count in zip(commands, counted)})
 
 
-def compare_with_reading(program_path, folder, path, peer):
-    """Prints what one small file takes: only read, parsed by the first peer, and linted."""
+def compare_with_reading(program_path, folder, path, found):
+    """Prints what one small file takes: only read, parsed by the peers, and linted."""
     reader = pathlib.Path(folder) / "read_only"
     subprocess.run(["cc", "-O2", "-o", reader, TOP / "bench" / "read_only.c"], check=True)
-    measures = [functools.partial(seconds, it, b"", folder) for it in ([reader, path], [*peer, path], [program_path])]
-    read, parsed, linted = least_in_turns(SMALL_RUNS, measures)
-    print(f"one file of 4 KB: read {read * 1e3:.2f} ms, lib{peer[0].name} {parsed / read:.2f}, this {linted / read:.2f}", flush=True)
+    commands = {"read": [reader, path], **{name: [peer, path] for name, peer in found.items()}, "this": [program_path]}
+    times = dict(zip(commands, least_in_turns(SMALL_RUNS, [functools.partial(seconds, it, b"", folder) for it in commands.values()])))
+    told = ", ".join(f"{name} {took / times['read']:.2f}" for name, took in times.items() if name != "read")
+    tell(f"one file of 4 KB: read {times['read'] * 1e3:.2f} ms, {told}", "one file of 4 KB", **times)
 
 
 def compare_with_yamllint(program_path, made):
     """Prints what this program and yamllint take for the same folders."""
     print(f"\n{'folder':42} {'bytes':>9} {'yamllint':>9} {'this':>9} {'ratio':>6}")
-    for count, jobs_of_each in ((1, 5), (1, 1_336), (200, 5)):
+    for count, jobs_of_each in ((1, 6), (1, 1_336), (200, 6)):
         folder = pathlib.Path(made) / f"yamllint-{count}-{jobs_of_each}"
         _, size = fill(folder, count, jobs_of_each)
         runs = [functools.partial(seconds, command, b"", folder) for command in (YAMLLINT, [program_path])]
         theirs, ours = least_in_turns(YAMLLINT_RUNS, runs)
-        print(f"{count:,} workflows of {jobs_of_each:,} jobs {size:9} {theirs:8.3f}s {ours:8.3f}s {theirs / ours:6.0f}", flush=True)
+        name = f"{count:,} workflows of {jobs_of_each:,} jobs"
+        tell(f"{name} {size:9} {theirs:8.3f}s {ours:8.3f}s {theirs / ours:6.0f}", name, size=size, yamllint=theirs, this=ours)
 
 
 def main():
     """Prints a table: the peers, this program and the earlier one for each shape."""
-    programs = [program("actionlint"), *(pathlib.Path(it).resolve() for it in sys.argv[1:])]
+    programs = dict(zip(("this", "before"), [program("actionlint"), *(pathlib.Path(it).resolve() for it in sys.argv[1:2])]))
+    counts = is_there("valgrind", "valgrind", "instructions")
     with tempfile.TemporaryDirectory() as made:
-        others = [[it] for it in peers(made)]
-        first, *names = [f"lib{it.name}" for [it] in others] + ["this", "before"][: len(programs)]
-        columns = "".join(f" {name:>9} {'ratio':>6} {'':10}" for name in names)
-        print(f"{'file':42} {'bytes':>9} {first:>9} {'':9}{columns}")
+        found = peers(made)
+        names = [*found, *programs]
+        instructions_of_one = f" {'':9}" if counts else ""
+        columns = [f" {names[0]:>9}", *(f" {name:>9} {'ratio':>6}" for name in names[1:])]
+        print(f"{'file':42} {'bytes':>9}" + "".join(it + instructions_of_one for it in columns))
         for name, text in shapes():
             script = put_commands([(WORKFLOW, text)]) + b"report\n"
             data = text.encode()
-            inputs = [data] * len(others) + [script] * len(programs)
-            compare(name, len(data), others + [[it, *SESSION] for it in programs], inputs)
+            commands = {**{it: [peer] for it, peer in found.items()}, **{it: [path, *SESSION] for it, path in programs.items()}}
+            compare(name, len(data), commands, [data] * len(found) + [script] * len(programs), counts)
         for count, jobs_of_each in ((1, 6), (200, 5), (4_096, 1)):
             folder = pathlib.Path(made) / str(count)
             paths, size = fill(folder, count, jobs_of_each)
-            commands = [[*it, *paths] for it in others] + [[it] for it in programs]
-            compare(f"a folder of {count:,} workflows", size, commands, [b""] * len(commands), folder)
-            if count == 1:
-                compare_with_reading(programs[0], folder, paths[0], others[0])
-        if shutil.which(YAMLLINT[0]):
-            compare_with_yamllint(programs[0], made)
+            commands = {**{it: [peer, *paths] for it, peer in found.items()}, **{it: [path] for it, path in programs.items()}}
+            compare(f"a folder of {count:,} workflows", size, commands, [b""] * len(commands), counts, folder)
+            if count == 1 and found:
+                compare_with_reading(programs["this"], folder, paths[0], found)
+        if is_there("yamllint", "yamllint", "yamllint"):
+            compare_with_yamllint(programs["this"], made)
 
 
 if __name__ == "__main__":

@@ -10,7 +10,7 @@ import subprocess
 import sys
 import tempfile
 
-from common import SESSION, WORKFLOW, measured, program, put_commands, write_files
+from common import SESSION, WORKFLOW, is_there, measured, program, put_commands, tell, write_files
 
 STEP = 8 << 10
 AMPLE = 8 << 20
@@ -85,15 +85,19 @@ def least_stack(text):
 
 def main():
     """Prints a line for each file."""
-    for name, text in LARGE.items():
-        print(f"{name:40} {greatest_memory(text) / (1 << 20):6.0f} MiB", flush=True)
     for name, text in DEEP.items():
-        print(f"{name:40} {least_stack(text) / (1 << 10):6.0f} KiB of stack", flush=True)
+        stack = least_stack(text)
+        tell(f"{name:40} {stack / (1 << 10):6.0f} KiB of stack", name, stack=stack)
+    if not is_there("time", "time", "memory"):
+        return
+    for name, text in LARGE.items():
+        memory = greatest_memory(text)
+        tell(f"{name:40} {memory / (1 << 20):6.0f} MiB", name, memory=memory)
     for name, files in FOLDERS.items():
         with tempfile.TemporaryDirectory() as folder:
             write_files(folder, files)
             seconds, memory = measured([program("actionlint"), "--oneline"], folder=folder)
-        print(f"{name:40} {memory / (1 << 20):6.0f} MiB {seconds:6.2f} s", flush=True)
+        tell(f"{name:40} {memory / (1 << 20):6.0f} MiB {seconds:6.2f} s", name, memory=memory, this=seconds)
 
 
 if __name__ == "__main__":

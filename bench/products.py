@@ -9,7 +9,7 @@ import subprocess
 import sys
 import tempfile
 
-from common import TOP, measured, program, write_files
+from common import TOP, is_there, measured, program, tell, write_files
 
 sys.path.insert(0, str(TOP / "tests"))
 from products import FOLDERS  # type: ignore[attr-defined]  # of tests/: mypy takes it for this file
@@ -24,6 +24,8 @@ def reported(folder):
 
 def main():
     """Prints a line for each folder."""
+    if not is_there("time", "time", "time and memory"):
+        return
     print(f"{'folder':50} {'seconds':>8} {'memory':>10} {'report':>10}")
     for name, make in FOLDERS.items():
         files, told = make()
@@ -32,7 +34,8 @@ def main():
             if reported(folder) != told:
                 sys.exit(f"{name}: the report isn't the one that is told")
             seconds, memory = zip(*(measured([program("actionlint"), "--oneline"], folder=folder) for _ in range(RUNS)))
-        print(f"{name:50} {min(seconds):7.2f}s {max(memory) / 1e6:7.0f} MB {len(told) / 1e6:7.1f} MB", flush=True)
+        line = f"{name:50} {min(seconds):7.2f}s {max(memory) / 1e6:7.0f} MB {len(told) / 1e6:7.1f} MB"
+        tell(line, name, this=min(seconds), memory=max(memory), report=len(told))
 
 
 if __name__ == "__main__":

@@ -10,7 +10,7 @@ workflow would take hundreds of times as long.
 import functools
 import sys
 
-from common import SESSION, WORKFLOW, least_in_turns, program, put_commands, run_seconds
+from common import SESSION, WORKFLOW, least_in_turns, program, put_commands, run_seconds, tell
 
 RUNS = 5
 REPORTS = 3
@@ -37,8 +37,8 @@ def main():
     scripts = [(text, reports) for text in (ONE_LINE, OWN_LINES) for reports in (0, REPORTS)]
     times = least_in_turns(RUNS, [functools.partial(seconds, *script) for script in scripts])
     one_line, own_lines = ((reported - put) / REPORTS for put, reported in (times[:2], times[2:]))
-    print(f"{FAULTS} faults on one line: {one_line:.3f} s a report")
-    print(f"{FAULTS} faults on lines of their own: {own_lines:.3f} s a report")
+    for name, took in (("faults on one line", one_line), ("faults on lines of their own", own_lines)):
+        tell(f"{FAULTS} {name}: {took:.3f} s a report", name, this=took)
     print(f"ratio {one_line / own_lines:.2f}")
 
 

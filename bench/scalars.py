@@ -1,6 +1,6 @@
-"""How the time to read one scalar grows with its bytes: bench/scalars.py, after ./test or a build of crates/al_dump.
+"""How the time to read one scalar grows with its bytes: bench/scalars.py, after ./test or a build of crates/al_facts.
 
-Each shape of scalar is read at a quarter, half and all of its size by the program `al_dump`, which also prints its text with the offset of
+Each shape of scalar is read at a quarter, half and all of its size by the program `al_facts`, which also prints its text with the offset of
 each byte. If reading is linear, the time doubles with the size. The times are the least of several runs, minus the time of the empty
 scalar.
 """
@@ -8,7 +8,7 @@ scalar.
 import functools
 import sys
 
-from common import least_in_turns, program, run_seconds
+from common import least_in_turns, program, run_seconds, tell
 
 RUNS = 5
 SIZE = 1_000_000
@@ -28,7 +28,7 @@ SHAPES = {
 
 def seconds(file):
     """What one run takes to read a scalar."""
-    took, status, _ = run_seconds([program("al_dump"), "scalar"], file)
+    took, status, _ = run_seconds([program("al_facts"), "scalar"], file)
     if status != 0:
         sys.exit(f"the scalar was not read: {file[:80]}")
     return took
@@ -41,7 +41,8 @@ def main():
         files = [b""] + [shape(size) for size in (SIZE // 4, SIZE // 2, SIZE)]
         nothing, *times = least_in_turns(RUNS, [functools.partial(seconds, file) for file in files])
         quarter, half, whole = (took - nothing for took in times)
-        print(f"{name:38} {quarter:8.3f}s {half:8.3f}s {whole:8.3f}s  {half / quarter:12.2f} {whole / half:10.2f}")
+        line = f"{name:38} {quarter:8.3f}s {half:8.3f}s {whole:8.3f}s  {half / quarter:12.2f} {whole / half:10.2f}"
+        tell(line, name, this=whole, growth=whole / half)
 
 
 if __name__ == "__main__":

@@ -18,7 +18,7 @@ import subprocess
 import sys
 
 import lint
-from common import EMPTY, SESSION, least_in_turns, program, put_commands, run_seconds
+from common import EMPTY, SESSION, least_in_turns, program, put_commands, run_seconds, tell
 
 RUNS = 7
 # how many edits are timed together: more if the difference of two scripts would be small compared with both
@@ -159,14 +159,15 @@ def print_reports(way):
         if counts != [FILES * (faults + on_cycles)] * 2:
             sys.exit(f"{name}: the reports have {counts} lines")
         with_calls, without = report_times([(it, edits_between(way, *folder)) for it, folder in zip(puts, folders)])
-        print(f"  {name:24} {counts[0]:6} faults {with_calls * 1000:10.2f} ms {with_calls / without:8.2f} times {without * 1000:.2f} ms")
+        line = f"  {name:24} {counts[0]:6} faults {with_calls * 1000:10.2f} ms {with_calls / without:8.2f} times {without * 1000:.2f} ms"
+        tell(line, f"report: {name}, {way}", this=with_calls, without=without)
 
 
 def print_edits(name, counts, times):
     """Prints the time of an edit at each count, and its ratio to the first."""
     print(name)
     for count, time in zip(counts, times):
-        print(f"  {count:6} files {time * 1e6:10.2f} µs {time / times[0]:8.2f} times the first", flush=True)
+        tell(f"  {count:6} files {time * 1e6:10.2f} µs {time / times[0]:8.2f} times the first", f"{name}: {count}", this=time)
 
 
 def main():
@@ -175,8 +176,9 @@ def main():
         print_edits(name, counts, edit_times(text, texts, edits, counts))
     for count in CALLERS[1:]:
         edit, put = large_caller_times(count)
-        print(f"an edit of an interface, for each of {count} callers of {len(LARGE_CALLER)} bytes with 200 expressions: "
-              f"{edit * 1e3:.3f} ms, {edit / put:.2f} times a put of one, {put * 1e3:.3f} ms", flush=True)
+        line = (f"an edit of an interface, for each of {count} callers of {len(LARGE_CALLER)} bytes with 200 expressions: "
+                f"{edit * 1e3:.3f} ms, {edit / put:.2f} times a put of one, {put * 1e3:.3f} ms")
+        tell(line, f"edit of an interface: {count} large callers", this=edit, put=put)
     print_edits("put of a new first path, and its delete", BESIDE, first_path_times(BESIDE))
     for name, is_backward in ORDERS.items():
         print_edits(name, NEW, new_times(is_backward, NEW))

@@ -1,10 +1,10 @@
 """How long a YAML file takes to read, compared with the event parsers of libyaml and libfyaml on the same bytes: bench/yaml.py [BEFORE],
-after ./test or a build of crates/al_dump. BEFORE is an `al_dump` program of another version, whose times are taken in the same run.
+after ./test or a build of crates/al_facts. BEFORE is an `al_facts` program of another version, whose times are taken in the same run.
 
-Needs a C compiler and the libraries with their headers (Debian's libyaml-dev and libfyaml-dev; one that is missing is left out). Each file
-ends with a line at which all readers stop with a fault, so none prints a tree, and each reads everything before it. Each time is the least
-of several runs that take turns, minus that for this line alone. Each shape is read at half and at full size: if reading is linear, the time
-grows like the bytes.
+Uses a C compiler and the libraries with their headers (Debian's libyaml-dev and libfyaml-dev); one that is missing is left out, and named.
+Each file ends with a line at which all readers stop with a fault, so none prints a tree, and each reads everything before it. Each time is
+the least of several runs that take turns, minus that for this line alone. Each shape is read at half and at full size: if reading is
+linear, the time grows like the bytes.
 """
 
 import functools
@@ -12,7 +12,7 @@ import json
 import sys
 import tempfile
 
-from common import least_in_turns, peers, program, run_seconds
+from common import least_in_turns, peers, program, run_seconds, tell
 
 RUNS = 25
 SIZE = 1_000_000
@@ -99,23 +99,29 @@ def least(others, commands, files):
     return [times[first : first + len(every)] for first in range(0, len(times), len(every))]
 
 
+def compare(name, names, commands, whole, half):
+    """Prints what each reader takes for a file, compared with the first of ours, and how that grows with the bytes."""
+    others = commands[: len(commands) - names.count("this") - names.count("before")]
+    nothing, smaller, all_of_it = least(others, commands[len(others):], [LAST, half + LAST, whole + LAST])
+    times = dict(zip(names, (a - b for a, b in zip(all_of_it, nothing))))
+    took = times["this"]
+    growth = took / (smaller[len(others)] - nothing[len(others)])
+    beside = "".join(f" {it:8.3f}s {took / it:6.2f}" for reader, it in times.items() if reader != "this")
+    tell(f"{name:44} {len(whole):9} {took:8.3f}s {growth:5.2f} of {len(whole) / len(half):.2f}{beside}", name, growth=growth, **times)
+
+
 def main():
     """Prints a table. A reader of another version may not know aliases, so it isn't given files with any."""
     with tempfile.TemporaryDirectory() as folder:
-        others = [[it] for it in peers(folder)]
-        commands = [[path, "yaml"] for path in [program("al_dump"), *sys.argv[1:]]]
-        before = "  this/before" if sys.argv[1:] else ""
-        columns = "".join(f" {'lib' + it.name:>9} {'ratio':>6}" for [it] in others)
-        print(f"{'file':44} {'bytes':>9} {'this':>9}{columns}{before}  whole/half of bytes")
-        for ours, of_each in ((commands, shapes), (commands[:1], shared_shapes)):
-            for (name, whole), (_, half) in zip(of_each(SIZE), of_each(SIZE // 2)):
-                nothing, smaller, all_of_it = least(others, ours, [LAST, half + LAST, whole + LAST])
-                times = [a - b for a, b in zip(all_of_it, nothing)]
-                took = times[len(others)]
-                theirs = "".join(f" {it:8.3f}s {took / it:6.2f}" for it in times[: len(others)])
-                beside = "".join(f"{took / it:13.2f}" for it in times[len(others) + 1 :])
-                growth = f"{took / (smaller[len(others)] - nothing[len(others)]):.2f} of {len(whole) / len(half):.2f}"
-                print(f"{name:44} {len(whole):9} {took:8.3f}s{theirs}{beside}  {growth}", flush=True)
+        found = peers(folder)
+        ours = [[path, "yaml"] for path in [program("al_facts"), *sys.argv[1:2]]]
+        names = [*found, *["this", "before"][: len(ours)]]
+        commands = [*([it] for it in found.values()), *ours]
+        columns = "".join(f" {name:>9} {'ratio':>6}" for name in names if name != "this")
+        print(f"{'file':44} {'bytes':>9} {'this':>9} whole/half   {columns}")
+        for shapes_of_kind, count in ((shapes, len(names)), (shared_shapes, len(found) + 1)):
+            for (name, whole), (_, half) in zip(shapes_of_kind(SIZE), shapes_of_kind(SIZE // 2)):
+                compare(name, names[:count], commands[:count], whole, half)
 
 
 if __name__ == "__main__":

@@ -3,25 +3,27 @@
 
     make_tables.py [--check]        --check compares them, and writes nothing
 
-`actionlint_client/faults.json` has the entries of docs/FAULTS*.md: the code, message and place of each fault, and what the page says.
+`actionlint_client/faults.json` has the entries of docs/FAULTS*.md: the code, message and place of each fault, and what the page says;
+`actionlint_client/notes/notes.json` those of docs/NOTES.md.
 `actionlint_client/names.json` has the lists of names that the linter knows, from the definitions that its code is proved to match.
-`actionlint_client/syntax.json` has what is allowed where, from the same definitions, and what docs/MEANINGS.md says about each name.
+`actionlint_client/syntax.json` has what is allowed where, from the same definitions, and what meanings.toml says about each name.
 """
 from __future__ import annotations
 
 import json
 import re
 import sys
+import tomllib
 from pathlib import Path
 
 TOP = Path(__file__).resolve().parent.parent
-sys.path.insert(0, str(TOP / "tests"))
+sys.path[:0] = [str(TOP / "tests"), str(TOP / "clients/tests")]
 import fault_entries
 import lists_page
+from note_cases import cases_by_name
 
 OUT = Path(__file__).resolve().parent / "actionlint_client"
 LINK_IN_PAGE = re.compile(r"\]\((#[^)]*)\)")
-MEANINGS_ROW = re.compile(r"^\| (?:\*([^*]+)\* )?\| `([^`]+)` \| (.+) \|$", re.M)
 UNCHECKED = " (unchecked)"
 # The places of the sections that the linter doesn't check: the key of a shape above each, and whether free names come between.
 UNCHECKED_PLACES = {("Job", "environment"): ("Environment", False), ("Job", "services"): ("Container", True),
@@ -34,7 +36,7 @@ def main(words: list[str]) -> int:
     if words not in ([], ["--check"]):
         print("make_tables.py [--check]", file=sys.stderr)
         return 2
-    tables = {"faults.json": faults(TOP / "docs"), "names.json": names(TOP / "crates"), "syntax.json": syntax(TOP)}
+    tables = {"faults.json": faults(TOP / "docs"), "notes/notes.json": notes(TOP / "docs/NOTES.md"), "names.json": names(TOP / "crates"), "syntax.json": syntax(TOP)}
     differing = []
     for file, table in tables.items():
         text = json.dumps(table, indent=1, ensure_ascii=False) + "\n"
@@ -49,20 +51,30 @@ def main(words: list[str]) -> int:
 
 def faults(docs: Path) -> list[dict]:
     """The entries of all pages, in the order of their codes. Links within a page work from everywhere."""
-    rows, cases = [], fault_entries.cases_of_entries(docs.parent)
-    for entry in fault_entries.entries(docs):
-        local = lambda markdown: LINK_IN_PAGE.sub(rf"]({entry.page}\1)", markdown)
-        repair = "\n\n".join([entry.repair, *repaired_files(cases[f"{entry.code}-repaired"])])
-        rows.append({"code": entry.code, "message": entry.message, "page": entry.page, "anchor": entry.anchor,
-                     "text": local(entry.what), "why": local(entry.why), "repair": local(repair)})
-    return rows
+    cases = fault_entries.cases_of_entries(docs.parent)
+    return [row_of(entry, {path: data.decode() for path, data in fault_entries.files_of(cases[f"{entry.code}-repaired"]).items()})
+            for entry in fault_entries.entries(docs)]
 
 
-def repaired_files(case: fault_entries.Case) -> list[str]:
-    """The repaired file of a fault's case as Markdown, preceded by the other files of its folder, by path."""
-    files = fault_entries.files_of(case)
-    shown = [f"`{path}`:\n\n```yaml\n{data.decode()}```" for path, data in list(files.items())[:-1]]
-    return [*shown, f"```yaml\n{list(files.values())[-1].decode()}```"]
+def notes(page: Path) -> list[dict]:
+    """The entries of the page of notes, in their order."""
+    cases = cases_by_name()
+    # (the files of these cases begin with the one that has the note)
+    return [row_of(entry, dict(reversed(cases[entry.code, "repaired"].files.items()))) for entry in fault_entries.entries_of(page)]
+
+
+def row_of(entry: fault_entries.Entry, repaired: dict[str, str]) -> dict:
+    """An entry with the files of its repaired case."""
+    local = lambda markdown: LINK_IN_PAGE.sub(rf"]({entry.page}\1)", markdown)
+    repair = "\n\n".join([entry.repair, *shown_files(repaired)])
+    return {"code": entry.code, "message": entry.message, "page": entry.page, "anchor": entry.anchor,
+            "text": local(entry.what), "why": local(entry.why), "repair": local(repair)}
+
+
+def shown_files(files: dict[str, str]) -> list[str]:
+    """Files as Markdown: the last one, preceded by the others, by path."""
+    shown = [f"`{path}`:\n\n```yaml\n{text}```" for path, text in list(files.items())[:-1]]
+    return [*shown, f"```yaml\n{list(files.values())[-1]}```"]
 
 
 def names(crates: Path) -> dict[str, list[str]]:
@@ -97,10 +109,7 @@ def names(crates: Path) -> dict[str, list[str]]:
 def syntax(top: Path) -> dict[str, dict | list]:
     """What each shape of a value accepts, the rows of the table of places, contexts, functions, activity types, and meanings by list."""
     crates = top / "crates"
-    meanings, heading = {}, ""
-    for begun, name, meaning in MEANINGS_ROW.findall((top / "docs/MEANINGS.md").read_text(encoding="utf-8")):
-        heading = begun or heading
-        meanings.setdefault(heading, {})[name] = meaning
+    meanings = tomllib.loads((top / "clients/meanings.toml").read_text(encoding="utf-8"))
     rows = lists_page.availability_rows(crates)
     return {
         "shapes": shapes(lists_page.shape_table(crates), meanings),

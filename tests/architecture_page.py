@@ -1,10 +1,9 @@
 """Compares docs/ARCHITECTURE.md with crates.txt: architecture_page.py TOP [--write].
 
-Each crate of crates.txt has one row in the page's table of crates, whose last column lists the crates and libraries it depends on, and each
-crate of the program is in one row of the table of public crates. docs/layers.dot is the picture of the program's crates in graphviz's
-language: each is above those it depends on, and colored by that row. docs/layers.svg, drawn by graphviz's `dot`, has exactly its nodes and
-arrows. `--write` rewrites the column and both files, and needs `dot` (Debian's graphviz). The table on docs/PROVING.md of what the gate
-costs has only crates of crates.txt.
+Each crate of the program is in one row of the table of public crates, and the page names each other crate of crates.txt. docs/layers.dot is
+the picture of the program's crates in graphviz's language: each is above those it depends on, and colored by that row. docs/layers.svg,
+drawn by graphviz's `dot`, has exactly its nodes and arrows. `--write` rewrites both files, and needs `dot` (Debian's graphviz). Only crates
+of crates.txt have noted seconds (tools/proof_seconds.txt).
 """
 
 import html
@@ -13,9 +12,7 @@ import re
 import subprocess
 import sys
 
-ROW = re.compile(r"^\| `(\w+)` \| (.*) \| ?(.*?) ?\|$")
 PUBLIC = "| Public | With it | Cut by |"
-TABLE = "| Crate | Does | Depends on |"
 PROGRAM = "actionlint"
 COLOURS = ["#dbe9f6", "#dff0d8", "#fde9c9", "#f6dbe2", "#e6e0f3", "#d9f0ef", "#eeeeee", "#f3efc4", "#e3d5c8"]
 HEAD = """\
@@ -33,30 +30,11 @@ def crates_in(text):
     return {name.strip(): below.split() for name, _, below in (it.partition(":") for it in lines)}
 
 
-def rows_of(page):
-    """The crates of the page's table of crates, in order."""
-    return [match[1] for line in page[page.index(TABLE) :].splitlines() if (match := ROW.match(line))]
-
-
 def groups_of(page):
     """For each crate in the table of public crates, its row."""
-    lines = page[page.index(PUBLIC) : page.index(TABLE)].splitlines()
+    lines = page[page.index(PUBLIC) :].partition("\n\n")[0].splitlines()
     rows = [re.findall(r"`(\w+)`", "".join(line.split("|")[1:3])) for line in lines if line.startswith("| `")]
     return [(name, number) for number, names in enumerate(rows) for name in names]
-
-
-def with_columns(page, crates):
-    """The page with the last column of its tables as in crates.txt."""
-
-    def row(line):
-        match = ROW.match(line)
-        if not match or match[1] not in crates:
-            return line
-        below = ", ".join(f"`{it}`" for it in crates[match[1]])
-        return f"| `{match[1]}` | {match[2]} | {below} |" if below else f"| `{match[1]}` | {match[2]} | |"
-
-    head, table = page[: page.index(TABLE)], page[page.index(TABLE) :]
-    return head + "".join(row(line) + "\n" for line in table.splitlines())
 
 
 def all_below(crates, name):
@@ -108,27 +86,24 @@ def read(path):
 def differences(top):
     """Where the page and its picture differ from crates.txt."""
     crates, page = crates_in(read(top / "crates.txt")), read(top / "docs/ARCHITECTURE.md")
-    rows, groups = rows_of(page), groups_of(page)
+    groups = groups_of(page)
     grouped = [name for name, _ in groups]
-    found = [f"{it} has {rows.count(it)} rows" for it in crates if rows.count(it) != 1]
-    found += [f"{it} has {grouped.count(it)} rows in the table of public crates" for it in shown_in(crates) if grouped.count(it) != 1]
-    measured = re.findall(r"^\| `(\w+)` \| [\d,]+ \|", read(top / "docs/PROVING.md"), re.MULTILINE)
-    found += [f"there is no crate {it}" for it in sorted({*rows, *grouped, *measured} - set(crates))]
+    found = [f"{it} has {grouped.count(it)} rows in the table of public crates" for it in shown_in(crates) if grouped.count(it) != 1]
+    found += [f"{it} isn't named" for it in crates if f"`{it}`" not in page]
+    noted = re.findall(r"^(\w+): ", read(top / "tools/proof_seconds.txt"), re.MULTILINE)
+    found += [f"there is no crate {it}" for it in sorted({*grouped, *noted} - set(crates))]
     if found:
         return found
     dot, svg = read(top / "docs/layers.dot"), read(top / "docs/layers.svg")
-    found += [] if page == with_columns(page, crates) else ["a row has other dependencies than crates.txt"]
-    found += [] if dot == dot_of(crates, groups) else ["docs/layers.dot isn't the one of crates.txt"]
+    found = [] if dot == dot_of(crates, groups) else ["docs/layers.dot isn't the one of crates.txt"]
     found += [] if drawn_in(svg) == titles_of(dot) and titles_of(dot) else ["docs/layers.svg isn't the drawing of docs/layers.dot"]
     return found
 
 
 def write(top):
-    """Rewrites the column and the picture."""
-    crates, path = crates_in(read(top / "crates.txt")), top / "docs/ARCHITECTURE.md"
-    path.write_text(with_columns(read(path), crates), encoding="utf-8")
-    dot = top / "docs/layers.dot"
-    dot.write_text(dot_of(crates, groups_of(read(path))), encoding="utf-8")
+    """Rewrites the picture."""
+    crates, dot = crates_in(read(top / "crates.txt")), top / "docs/layers.dot"
+    dot.write_text(dot_of(crates, groups_of(read(top / "docs/ARCHITECTURE.md"))), encoding="utf-8")
     subprocess.run(["dot", "-Tsvg", "-o", top / "docs/layers.svg", dot], check=True)
 
 

@@ -23,6 +23,7 @@ TOP = pathlib.Path(__file__).resolve().parent.parent
 PAGE = (TOP / "docs" / "COMMAND-LINE.md").read_text(encoding="utf-8")
 CI = (TOP / "docs" / "CI.md").read_text(encoding="utf-8")
 SLIPS = TOP / "examples" / "slips"
+MATCHER = TOP / "clients/github/matcher.json"
 PATH = ".github/workflows/release.yml"
 
 # places and messages of the example's faults, by hand
@@ -53,7 +54,7 @@ def has_all(name, found):
 
 def matcher(lines):
     """The problem matcher, on every line."""
-    pattern = json.loads(block("matcher"))["problemMatcher"][0]["pattern"][0]
+    pattern = json.loads(MATCHER.read_text(encoding="utf-8"))["problemMatcher"][0]["pattern"][0]
     found, bad = [], []
     for line in lines:
         match = re.search(pattern["regexp"], line)

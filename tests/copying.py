@@ -10,7 +10,9 @@ import sys
 TOP = pathlib.Path(__file__).resolve().parent.parent
 COMMITTED = {"GIT_AUTHOR_DATE": "2026-01-02T03:04:05Z", "GIT_COMMITTER_DATE": "2026-01-02T03:04:05Z", "GIT_CONFIG_GLOBAL": "/dev/null"}
 AS = ["-c", "user.name=a", "-c", "user.email=a@example.com"]
-HASH = 'top=$0; . "$0/tools/find_program.sh"; sources=$(list_sources); hash_of_sources "$1"'
+HASH = 'top=$0; name=$1; . "$0/tools/find_program.sh"; sources=$(list_sources); hash_of_sources "$2"'
+# The carried programs, each with the file of its sources' hash.
+CARRIED = {"actionlint": "sources.sha256", "actionlint-facts": "actionlint-facts.sha256"}
 
 # A test may run in a hook of git, which names its repository to each git below it. That of a test must not change it.
 for name in ("GIT_DIR", "GIT_WORK_TREE", "GIT_INDEX_FILE"):
@@ -39,14 +41,15 @@ def copy_few_sources(folder):
 
 
 def carry(folder, program):
-    """Makes a copy of the repository carry a program as if it had been built from its sources."""
-    carried = folder / "prebuilt/actionlint"
-    carried.parent.mkdir(exist_ok=True)
-    shutil.copyfile(program, carried)
-    carried.chmod(0o755)
+    """Makes a copy of the repository carry a program, in place of both, as if it had been built from its sources."""
     version = subprocess.run(["rt", "version"], capture_output=True, text=True, check=False).stdout.strip() if shutil.which("rt") else "kit"
-    hashed = subprocess.run(["sh", "-c", HASH, folder, version], capture_output=True, text=True, check=True)
-    (folder / "prebuilt/sources.sha256").write_text(hashed.stdout)
+    (folder / "prebuilt").mkdir(exist_ok=True)
+    for name, file in CARRIED.items():
+        carried = folder / "prebuilt" / name
+        shutil.copyfile(program, carried)
+        carried.chmod(0o755)
+        hashed = subprocess.run(["sh", "-c", HASH, folder, name, version], capture_output=True, text=True, check=True)
+        (folder / "prebuilt" / file).write_text(hashed.stdout)
 
 
 def commit(folder):

@@ -2,8 +2,8 @@
 
 An entry is a section `### CODE `MESSAGE``. It says what the fault is, then in a list *Why it matters* and the *Repair*, and shows a repair
 as a block `diff`. The block's lines are those of two cases of tests/faults.cases: CODE, whose report has the fault, and CODE-repaired,
-whose report is clean. A line `@@ MESSAGE @@` is a message of that report, the lines after `+++ PATH` are those of another file than the
-faulty one, and `…` matches any text.
+whose report is clean. If that report has several messages, each stands before its lines, as `@@ MESSAGE @@`. The lines after `+++ PATH`
+are those of another file than the faulty one, and `…` matches any text.
 """
 
 import re
@@ -56,9 +56,13 @@ def entry_of(page, code, message, body):
 
 def entries(docs):
     """The entries of all pages, in the order of their codes."""
-    pages = [(path.name, path.read_text()) for path in sorted(docs.glob("FAULTS*.md"))]
-    every = [entry_of(name, *found.groups()) for name, text in pages for found in SECTION.finditer(text)]
+    every = [entry for path in sorted(docs.glob("FAULTS*.md")) for entry in entries_of(path)]
     return sorted(every, key=lambda entry: entry.rank)
+
+
+def entries_of(page):
+    """The entries of a page, in its order."""
+    return [entry_of(page.name, *found.groups()) for found in SECTION.finditer(page.read_text())]
 
 
 def cases_of_entries(top):

@@ -1,9 +1,9 @@
 """Compares the pages of faults with the code, the definitions and the cases of tests/faults.cases: fault_pages.py TOP [--write].
 
-Each fault code of al_base has a comment with its identifier (`/// K2: ..`), the row with that number in specs/Codes.antt, and one entry on
-a page docs/FAULTS*.md (tests/fault_entries.py) with the row's message, why it matters, its repair, and a diff whose lines are those of its
-cases. docs/FAULTS.md has indexes by code and by message, which `--write` rewrites, and docs/READING.md has a table of the definitions that
-decide each fault, all of which exist.
+Each fault code of al_base has a comment with its identifier (`/// K2: ..`), that number in specs/Codes.antt, a row in
+specs/Wordings.antt of al_text, and one entry on a page docs/FAULTS*.md (tests/fault_entries.py) with the row's message, why it matters,
+its repair, and a diff whose lines are those of its cases. docs/FAULTS.md has a table of kinds, which `--write` rewrites, and
+reading_page.py names the definitions that decide each fault.
 """
 
 import pathlib
@@ -13,18 +13,15 @@ import sys
 from fault_entries import cases_of_entries, entries, files_of, report_of
 
 CODE = re.compile(r"/// ([YKGXC][0-9]+): .*\n\s+([A-Za-z0-9]+),")
-DECIDED = re.compile(r"^\| `(\w+/specs/\w+\.antt)` \| (.*) \|$", re.MULTILINE)
-ROW = re.compile(r"^code_row \(C\.(\w+) (\w+)(?: by)?\) = (\w+)(?: by)? (\d+) (.*)$", re.MULTILINE)
-EVERY_KIND = re.compile(r'^(\w+) number = row number "(.*)"$', re.MULTILINE)  # of all rows that this makes
+NUMBER = re.compile(r"^code_place \(C\.(\w+) (\w+)(?: by)?\) = (?:2 \* )?(\d+)(?: \+ turn by)?$", re.MULTILINE)
+ROW = re.compile(r"^code_row \(C\.(\w+) (\w+)(?: by)?\) = (\w+)(?: by)? (.*)$", re.MULTILINE)
+EVERY_KIND = re.compile(r'^(\w+) = row "(.*)"$', re.MULTILINE)  # of all rows that this makes
 CALL_KIND = re.compile(r'^call_kind caller\.\w+ = "(.*)"$', re.MULTILINE)
 LETTERS = {"Yaml": "Y", "Key": "K", "Rule": "G", "Expression": "X", "Call": "C"}
 NO_ROW: tuple[str, str, list[str]] = "", "", []
-SUBJECTS = {"Y": "the file isn't YAML as this program reads it", "K": "keys and values that GitHub's syntax doesn't have",
-            "G": "what GitHub refuses, or accepts and never does", "X": "expressions in `${{ .. }}` and in conditions",
-            "C": "calls of the folder's actions and workflows"}
 OF_JOBS = {"C1", "C4", "C5", "C6"}  # faults that only a job's call has
-BY_CODE = "| Faults of | Entries |\n|---|---|\n"
-BY_MESSAGE = "| Message | KIND | Entry |\n|---|---|---|\n"
+BY_KIND = "| KIND | Page |\n|---|---|\n"
+SUBJECTS = {"Y": "YAML (Y)", "K": "keys and values (K)", "G": "rules (G)", "X": "expressions (X)", "C": "calls (C)"}
 FILE = re.compile(r"\+\+\+ (\S+\.ya?ml)")
 
 
@@ -35,13 +32,15 @@ def codes(top):
 
 def tables(top):
     """The row of each variant, by letter and name: the number, the words of its message, and its kinds."""
-    text = (top / "crates/al_base/specs/Codes.antt").read_text()
+    numbers = {(group, variant): number
+               for group, variant, number in NUMBER.findall((top / "crates/al_base/specs/Codes.antt").read_text())}
+    text = (top / "crates/al_text/specs/Wordings.antt").read_text()
     every, of_calls = dict(EVERY_KIND.findall(text)), sorted(CALL_KIND.findall(text))
     rows = {}
-    for group, variant, maker, number, words in ROW.findall(text):
+    for group, variant, maker, words in ROW.findall(text):
         own = re.match('"([^"]*)" ', words) if maker == "row" else None
         kinds = of_calls if group == "Call" else [own[1] if own else every[maker]]
-        rows[LETTERS[group], variant] = number, words[own.end():] if own else words, kinds
+        rows[LETTERS[group], variant] = numbers.get((group, variant), ""), words[own.end():] if own else words, kinds
     return rows
 
 
@@ -83,8 +82,9 @@ def wrong_repair(cases, entry):
     messages = {re.sub(r"^.*?:\d+:\d+: (.*) \[[\w-]+\]$", r"\1", line) for line in report}
     if not any(like(re.split(r"\{[01]\}", entry.message)).fullmatch(message) for message in messages) or report_of(after):
         yield "isn't in the report of its case, or the repaired one isn't clean"
-    if {line[3:-3] for line in entry.shown if line.startswith("@@")} != messages:
-        yield f"shows other messages than {messages}"
+    told = {line[3:-3] for line in entry.shown if line.startswith("@@")}
+    if told != (messages if len(messages) > 1 else set()):
+        yield f"shows the messages {told}, and has {messages}"
     files, path = {}, report[0].split(":")[0] if report else ""
     for line in entry.shown:
         path = FILE.fullmatch(line)[1] if FILE.fullmatch(line) else path
@@ -104,50 +104,29 @@ def wrong_of(cases, entry):
     yield from wrong_repair(cases, entry)
 
 
-def wrong_definitions(top, found):
-    """Definitions in the table that don't exist, and faults that no definition in it decides."""
-    decided = set()
-    for file, row in DECIDED.findall((top / "docs/READING.md").read_text()):
-        path = top / "crates" / file
-        text = path.read_text() if path.is_file() else ""
-        decided |= set(re.findall(r"\b[YKGXC][0-9]+\b", re.sub(r"`\w+`", "", row)))
-        for name in re.findall(r"`(\w+)`", row):
-            if not re.search(rf"^\s*(abbrev |unfoldable )?(pub )?{name}\b.* :|^(pub )?(data|record) {name}\b", text, re.MULTILINE):
-                yield f"docs/READING.md names {name}, which {file} doesn't define"
-    yield from (f"docs/READING.md names no definition that decides {code}" for code in sorted(found - decided))
+def by_kind(listed, kinds):
+    """The table of kinds: those whose faults have their entries on the same pages are one row."""
+    pages = {}
+    for entry in sorted(listed, key=lambda it: it.rank):
+        for kind in kinds.get(entry.code, []):
+            pages.setdefault(kind, {}).setdefault(entry.page, entry.code[0])
+    rows = {}
+    for kind, found in pages.items():
+        link = " or ".join(f"[{SUBJECTS[letter]}]({page})" if page != "FAULTS.md" else f"[{SUBJECTS[letter]}](#keys-and-values)"
+                           for page, letter in found.items())
+        rows.setdefault(link, []).append(f"`{kind}`")
+    return BY_KIND + "".join(f"| {', '.join(names)} | {link} |\n" for link, names in rows.items())
 
 
-def link(entry, text):
-    """A link to an entry from docs/FAULTS.md."""
-    return f"[{text}]({'' if entry.page == 'FAULTS.md' else entry.page}#{entry.anchor})"
-
-
-def by_code(listed):
-    """The table of codes."""
-    links = {letter: ", ".join(link(entry, entry.code) for entry in listed if entry.code[0] == letter) for letter in SUBJECTS}
-    return BY_CODE + "".join(f"| {subject} | {links[letter]} |\n" for letter, subject in SUBJECTS.items())
-
-
-def in_order(message):
-    """The sort key of the index of messages: the letters of a message without its arguments."""
-    return re.sub(r"[^a-z ]", "", re.sub(r"\{[01]\}", "", message).lower()).split()
-
-
-def by_message(listed, kinds):
-    """The table of messages, sorted."""
-    row = lambda entry: f"| `{entry.message}` | {', '.join(kinds.get(entry.code, []))} | {link(entry, entry.code)} |\n"
-    return BY_MESSAGE + "".join(map(row, sorted(listed, key=lambda entry: in_order(entry.message))))
-
-
-def compare_index(top, head, wanted, write):
-    """Compares an index of docs/FAULTS.md, or writes it."""
+def compare_table(top, head, wanted, write):
+    """Compares the table of docs/FAULTS.md, or writes it."""
     path = top / "docs" / "FAULTS.md"
     text = path.read_text()
     index = re.search(re.escape(head) + r"(?:\|.*\n)*", text)
     if write and index:
         path.write_text(text.replace(index[0], wanted))
     elif not index or index[0] != wanted:
-        return ["an index of docs/FAULTS.md isn't that of the entries: fault_pages.py TOP --write writes it"]
+        return ["the table of docs/FAULTS.md isn't that of the entries: fault_pages.py TOP --write writes it"]
     return []
 
 
@@ -176,10 +155,8 @@ def main(folder, *write):
     wrong = [f"{entry.code} has two entries" for entry in listed if found[entry.code] is not entry]
     wrong += wrong_codes(every, rows, found)
     wrong += [f"{entry.code} {why}" for entry in listed for why in wrong_of(cases, entry)]
-    wrong += wrong_definitions(top, found.keys())
     printed = {name: ["workflow-call"] if name in OF_JOBS else rows.get((name[0], variant), NO_ROW)[2] for name, variant in every}
-    wrong += compare_index(top, BY_CODE, by_code(listed), write)
-    wrong += compare_index(top, BY_MESSAGE, by_message(listed, printed), write)
+    wrong += compare_table(top, BY_KIND, by_kind(listed, printed), write)
     if wrong:
         sys.exit("\n".join(wrong))
 

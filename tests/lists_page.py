@@ -4,7 +4,6 @@ Each list is a table of the page, found by its header. clients/make_tables.py re
 other pages say in words are those of the definitions too.
 """
 
-import itertools
 import pathlib
 import re
 import sys
@@ -17,9 +16,9 @@ SETTINGS = "al_rules_settings/specs/Names.antt"
 USINGS = "al_tree/specs/Faults.antt"
 FIXED = "al_check_objects/specs/Fixed.antt"
 AVAILABILITY = "al_check_places/specs/Availability.antt"
-SCOPES = "al_types/specs/Scopes.antt"
-FUNCTION_NAMES = "al_types/specs/Names.antt"
-SIGNATURES = "al_types/specs/Signatures.antt"
+SCOPES = "al_expr_names/specs/Scopes.antt"
+FUNCTION_NAMES = "al_expr_names/specs/Names.antt"
+SIGNATURES = "al_expr_names/specs/Signatures.antt"
 UNTRUSTED = "al_expr_typing/specs/Untrusted.antt"
 LIMITS = "al_base/specs/Limits.antt"
 
@@ -35,7 +34,7 @@ FORMS = (
     re.compile(r"takes (?P<scalars>\w+) (?:None|\(Some (?P<items>\w+)\)) \(keys (?P<others>\w+|\(.*?\)\)) \((?P<fields>.*)\)\)", re.DOTALL),
 )
 FIELD = re.compile(r'(may|must|not_beside|either|field (?:optional|\(unless [^)]*\)\)) \((?:after|beside) [^)]*\)\))((?: "[^"]+")+) (\w+)')
-SCALARS = {"AnyScalar": "text", "NotNull": "text that is not null", "Bools": "flag", "Numbers": "number", "Chunks": "expression",
+SCALARS = {"AnyScalar": "text", "NotNull": "text that is not null", "Bools": "boolean", "Numbers": "number", "Chunks": "expression",
            "NoScalar": None}
 OTHER_KEYS = {"wrong": [], "events": [("any other", "an *event* if it is the name of one, else anything", "")],
               "unchecked": [("any other", "anything, and repeated keys too", "")]}
@@ -171,12 +170,15 @@ def sections_of(text):
 
 
 def section_keys(crates):
-    """The keys of each section, what each accepts, and where it is allowed; one row for neighbors that accept the same."""
+    """The keys of each section, in lines of those that accept the same and are allowed at the same places."""
     rows = []
     for name, found in sections_of(shape_table(crates)).items():
-        for number, (same, keys) in enumerate(itertools.groupby(found, key=lambda row: row[1:])):
-            rows.append((f"*{name}*" if number == 0 else "", ", ".join(row[0] for row in keys), *same))
-    return table_of(("Section", "Key", "Value", "Where"), rows)
+        same: dict = {}
+        for key, *rest in found:
+            same.setdefault(tuple(rest), []).append(key)
+        lines = (f"{', '.join(keys)}: {value}" + (f" ({where})" if where else "") for (value, where), keys in same.items())
+        rows.append((f"*{name}*", "<br>".join(lines)))
+    return table_of(("Section", "Keys, and what they take"), rows)
 
 
 def activity_types(crates):

@@ -1,6 +1,6 @@
 """Tries the edits that the gate doesn't try: more_edits.py TOP [--must-fail] [CRATE ..].
 
-    python3 tests/more_edits.py . al_types
+    python3 tests/more_edits.py . al_expr_names
 
 The file crates/NAME/more.edits has edits in the form of those in must-fail/, each after a line `== NAME`: the prover must refuse the crate
 with it. --must-fail tries those of the gate instead, in a fraction of the time that the gate takes for them from scratch. Edits of

@@ -103,6 +103,26 @@ def contents(package, version, room):
     return wrong + ([] if clients == CLIENTS else [f"the clients are {clients}"])
 
 
+def renamed(folder, program, room, version):
+    """With `--name` the package and its program have that name, and only a package of the same files is in its way."""
+    wrong = failed(run([folder / "release", "--program", program, "--deb", "--name", "juzbrost", "--to", room / "out-renamed"]))
+    package = room / f"out-renamed/juzbrost_{version}_amd64.deb"
+    if wrong or not package.exists():
+        return wrong + [f"there is no {package}"]
+    said = run(["dpkg-deb", "-f", package]).stdout.decode().splitlines()
+    wanted = ["Package: juzbrost", "Provides: juzbrost-actionlint", "Conflicts: juzbrost-actionlint", "Replaces: juzbrost-actionlint"]
+    wrong = [f"{it} is missing" for it in wanted if it not in said] + ["it conflicts with another's"] * ("Conflicts: actionlint" in said)
+    root = scratch_root(room, "2.36-9")
+    (root / "usr/bin").mkdir(parents=True)
+    (root / "usr/bin/actionlint").write_text("another's")
+    wrong += failed(dpkg(root, "-i", package))
+    lint = run([root / "usr/bin/juzbrost", "--oneline"], cwd=repository(room), env=ENVIRONMENT)
+    wrong += failed(lint, 1) + ([] if lint.stdout == MISSING_INPUT else [f"it reports {lint.stdout}"])
+    ran = run([root / "usr/bin/actionlint-report", "--form", "oneline"], cwd=repository(room), env=ENVIRONMENT)
+    wrong += failed(ran, 1) + ([] if ran.stdout == MISSING_INPUT else [f"the report is {ran.stdout}"])
+    return wrong + ([] if (root / "usr/bin/actionlint").read_text() == "another's" else ["another's program changed"])
+
+
 def manual_page(prefix, command, needed, version):
     """A command's page, as mandoc shows it: no warning, words of the command's help, and the version."""
     page = prefix / f"share/man/man1/{command}.1"
@@ -183,6 +203,7 @@ def cases(program, room):
     yield "package-contents", contents(package, version, room)
     yield "package-installed", installed(package, scratch_root(room, "2.36-9"), room, version)
     yield "package-refused", refused(package, room)
+    yield "package-of-another-name", renamed(first, program, room, version)
     prefix = room / "put"
     run([first / "release", "--program", program, "--install", prefix]).check_returncode()
     for command, needed in PAGES.items():

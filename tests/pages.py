@@ -1,8 +1,8 @@
 """Compares the pages with the sources: pages.py TOP [--write]. `--write` first rewrites what follows from the sources.
 
-Runs fault_pages.py, links.py, each NAME_page.py of this folder that doesn't need the built program, tidy.py and case_copies.py, and looks
-whether the changes of bench/changes can be made; those that can write have `--write` in their first line. Prints a line for each, and what
-is wrong. The status is 0 if all were as expected.
+Runs fault_pages.py, links.py, edits_by_hand.py, each NAME_page.py of this folder that doesn't need the built program, tidy.py and
+case_copies.py, and looks whether the changes of bench/changes can be made; those that can write say so (`--write`) in their head.
+Prints a line for each, and what is wrong. The status is 0 if all were as expected.
 """
 
 import pathlib
@@ -10,8 +10,8 @@ import subprocess
 import sys
 
 HERE = pathlib.Path(__file__).resolve().parent
-PAGES = sorted({"fault_pages.py", "links.py", *(it.name for it in HERE.glob("*_page.py"))} - {"command_line_page.py"})
-TIDY = ["src", "specs", "proofs", "heads", "names", "kinds", "words"]
+PAGES = sorted({"edits_by_hand.py", "fault_pages.py", "links.py", *(it.name for it in HERE.glob("*_page.py"))} - {"command_line_page.py"})
+TIDY = ["src", "specs", "proofs", "heads", "names", "kinds", "words", "pages"]
 CASES = ["cases", "yaml-trees.cases", "expressions.cases", "chunks.cases"]
 
 
@@ -23,7 +23,7 @@ def run(script, *words):
 
 def can_write(script):
     """Whether a script can rewrite its page."""
-    return "--write" in (HERE / script).read_text(encoding="utf-8").splitlines()[0]
+    return "--write" in (HERE / script).read_text(encoding="utf-8").partition('"""\n\n')[0]
 
 
 def main(top, *words):

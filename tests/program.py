@@ -26,7 +26,7 @@ def refused(path, number):
 
 
 def passed_over(*paths):
-    return b"".join(line(b"passed over " + path.encode() + b", which leads out of the folder") for path in paths)
+    return b"".join(line(b"skipped " + path.encode() + b": symbolic link points outside the folder") for path in paths)
 
 
 # ---- arguments

@@ -1,19 +1,26 @@
-"""Makes what docs/READING.md takes from the sources, or compares it: reading_page.py TOP [--write].
+"""Makes what docs/READING.md takes from the sources, or compares it: reading_page.py TOP [OPTION].
 
-The page lists the definitions that the public theorems depend on, each module after those it uses. They are found in the sources: the names
-in a function's contract, by the `use` lines of its file, and then the names that each of these definitions uses (`definitions.py`). None of
-them may be in `specs/Private`, which holds words of private contracts, except those that say how a type stores its value: the contracts of
-its methods say what the value is. If an `impl` names proofs of its trait's laws (`specs/Proofs`), the laws count, which the trait states.
-Modules that use one another are listed together, and the page says so. No two of these definitions have the same name.
+    --write           writes it
+    --modules [LETTER]
+                      prints the modules of definitions in reading order, those of one theorem if its letter is given, and the files that
+                      declare the types of the code that definitions use
+    --fault CODE      prints the definitions that decide a fault
 
-Four tables stand further up, each behind a comment with its name: README.md's promises with their theorems, the theorems, the definitions
-that name a fault code, and the files of the code's own types that definitions use. The page explains each word of a library and each form
-of notation in these definitions.
+The page is about the definitions that the public theorems depend on. They are found in the sources: the names in a function's contract, by
+the `use` lines of its file, and then the names that each of these definitions uses (`definitions.py`). None of them may be in
+`specs/Private`, which holds words of private contracts, except those that say how a type stores its value: the contracts of its methods say
+what the value is. If an `impl` names proofs of its trait's laws (`specs/Proofs`), the laws count, which the trait states. Modules that use
+one another are listed together. No two of these definitions have the same name.
+
+Three tables of the page stand each behind a comment with its name: README.md's promises with their theorems, the theorems, and the crates.
+The page explains each word of a library and each form of notation in these definitions. Definitions that decide a fault without naming its
+code are in deciding.toml; a theorem rests on each, and each fault is decided by some definition.
 """
 
 import pathlib
 import re
 import sys
+import tomllib
 from typing import NamedTuple
 
 sys.path.insert(0, str(pathlib.Path(__file__).resolve().parent.parent / "tools"))
@@ -22,8 +29,7 @@ from definitions import USE, Definitions, imports, words_of
 from fault_pages import codes
 
 PAGE = "docs/READING.md"
-MARK = "<!-- What follows is made by tests/reading_page.py. -->\n"
-DECIDED = re.compile(r"^\| `(\w+/specs/[\w/]+)\.antt` \| (.*) \|$", re.MULTILINE)
+DECIDING = "tests/deciding.toml"
 MADE = re.compile(r"(<!-- made by tests/reading_page\.py: (\w+) -->\n)(?:\|.*\n)*")
 PROMISE = re.compile(r"^\| (\d) \| (.*) \|$", re.MULTILINE)
 TYPE = re.compile(r"^(?:pub(?:\(crate\))? )?(?:struct|enum|trait|type) (\w+)", re.MULTILINE)
@@ -61,7 +67,7 @@ THEOREMS = (
     )),
     Theorem("L", "2 3", "what the linter finds in any file, and its laws", (
         Contracts("al_check", "lint.rt", ("impl Lint for Actions",)),
-        Contracts("al_session_folder", "lint.rt", ("pub trait Lint",)),
+        Contracts("al_lint", "lint.rt", ("pub trait Lint",)),
     )),
     Theorem("E", "2 3 4 5 6", "any edits, and then all as from scratch", (
         Contracts("al_session", "session.rt", (
@@ -94,7 +100,7 @@ BY_LAW = "al_expr_grammar.specs.Building"
 # what stands between reading and checking a file: whatever it means, the theorems are the same
 UNSEEN = re.compile(r"^ *ghost is_unit = \{.*?\};\n", re.MULTILINE | re.DOTALL)
 # the numbers and the messages of all codes
-NAME_ALL = ("al_base.specs.Codes",)
+NAME_ALL = ("al_base.specs.Codes", "al_text.specs.Wordings")
 # words that the language of definitions reserves or has built in, and names that the compiler makes for parts of the code's types
 RESERVED = set("data record deriving module where use mod pub package open as unfoldable abbrev axiom unfold unfolding ruleset mutual "
                "infix infixl infixr elim let in do Type coe fcoe tcoe hcom com Unit tt".split())
@@ -203,20 +209,27 @@ class Page:
         every = set().union(*self.found.values())
         yield f"| | all of these | | {len(every)} | {lines_of(every):,} | {len(self.items)} | {hours(every)} |"
 
-    def faults(self):
-        """The definitions of the program's theorems that name a fault code, file by file."""
+    def naming(self):
+        """The definitions of the program's theorems that name fault codes: the module, the definition and the codes."""
         known = {variant: name for name, variant in codes(self.top)}
         needed = set().union(*(self.found[it.letter] for it in THEOREMS if it.promises))
-        yield "| File | Faults and definitions |"
-        yield "|---|---|"
         for module in (it for it in dict.fromkeys(self.definitions.modules.values()) if it.name not in NAME_ALL):
-            named = {}
             for item in (it for it in module.items if (module, it) in needed):
-                if found := tuple(sorted({known[it] for it in self.variants(module, item)}, key=in_page_order)):
-                    named.setdefault(found, []).append(item)
-            if named:
-                cells = (f"{', '.join(found)} {', '.join(f'`{it}`' for it in items)}" for found, items in named.items())
-                yield f"| `{module.name.replace('.', '/')}.antt` | {'; '.join(cells)} |"
+                if found := {known[it] for it in self.variants(module, item)}:
+                    yield module.name.replace(".", "/"), item, found
+
+    def deciding(self):
+        """The definitions that decide faults without naming their codes, in the same form."""
+        for module, rows in tomllib.loads((self.top / DECIDING).read_text(encoding="utf-8")).items():
+            for named, items in rows.items():
+                yield from ((module, item, set(named.replace("every ", "").split(", "))) for item in items)
+
+    def fault(self, code):
+        """The lines that say which definitions decide a fault."""
+        for title, rows in (("name it", self.naming()), ("decide it without naming it", self.deciding())):
+            found = [f"  {module}.antt: {item}" for module, item, named in rows if code in named or code[0] in named]
+            if found:
+                yield from (f"These definitions {title}:", *found)
 
     def variants(self, module, item):
         """The variants of fault codes that a definition names."""
@@ -238,29 +251,41 @@ class Page:
                 file = self.top / "crates" / crate / "src" / "/".join(folders)
                 if (file := file.with_suffix(".rt")).exists() and name in TYPE.findall(file.read_text(encoding="utf-8")):
                     files.setdefault(f"{crate}/src/{'/'.join(folders)}.rt", set()).add(name)
-        yield "| File | Types |"
-        yield "|---|---|"
-        yield from (f"| `{file}` | {', '.join(f'`{it}`' for it in sorted(names))} |" for file, names in sorted(files.items()))
+        yield "\nTypes of the code that definitions use:"
+        yield from (f"  {file}: {', '.join(sorted(names))}" for file, names in sorted(files.items()))
 
-    def crate(self, crate):
-        """The table of a crate's modules, each after those it uses."""
-        modules = [it for it in self.items if it.name.startswith(f"{crate}.")]
-        if not modules:
-            return
-        yield from ("", f"## `{crate}/specs`", "", "| Definitions | Lines | Of | For | What they say |", "|---|--:|--:|---|---|")
+    def modules_of(self, crate, letter=None):
+        """The modules of a crate that a theorem needs, or any theorem, in groups of those that use one another; each after those it uses.
+        """
+        modules = [it for it in self.items if it.name.startswith(f"{crate}.") and letter in (None, *self.letters(it))]
         modules.sort(key=lambda it: it.name)
-        below = {it: [other for other in self.below[it] if other in modules] for it in modules}
-        for group in in_order(modules, below):
-            for module in group:
-                yield self.row(module, [short(it) for it in group if it != module])
+        return in_order(modules, {it: [other for other in self.below[it] if other in modules] for it in modules})
 
-    def row(self, module, others):
-        lines, all_lines = module.size(self.items[module]), module.size(module.items)
-        letters = " ".join(letter for letter, found in self.found.items() if any(it == module for it, _ in found))
-        says = module.sentence().replace("|", "\\|")
-        if others:
-            says += f" Uses and is used by {', '.join(f'`{it}`' for it in others)}."
-        return f"| `{short(module)}` | {lines} | {all_lines} | {letters} | {says} |"
+    def letters(self, module):
+        """The letters of the theorems that need a module."""
+        return [letter for letter, found in self.found.items() if any(it == module for it, _ in found)]
+
+    def modules(self, letter):
+        """The lines that list the modules that a theorem needs, or any theorem."""
+        for crate in crates_of(self.top):
+            groups = self.modules_of(crate, letter)
+            yield from (f"\n{crate}/specs",) if groups else ()
+            for group in groups:
+                for module in group:
+                    others = ", ".join(short(it) for it in group if it != module)
+                    more = f" Uses and is used by {others}." if others else ""
+                    lines = f"{module.size(self.items[module])} of {module.size(module.items)} lines"
+                    yield f"  {short(module)} ({lines}; {' '.join(self.letters(module))}): {module.sentence()}{more}"
+
+    def crates(self):
+        """A row for each crate with definitions that theorems need."""
+        yield "| Crate | Modules | Lines | Of | For |"
+        yield "|---|--:|--:|--:|---|"
+        for crate in crates_of(self.top):
+            if modules := [it for group in self.modules_of(crate) for it in group]:
+                lines = sum(it.size(self.items[it]) for it in modules)
+                letters = " ".join(it for it in self.found if any(it in self.letters(module) for module in modules))
+                yield f"| `{crate}` | {len(modules)} | {lines:,} | {sum(it.size(it.items) for it in modules):,} | {letters} |"
 
     def shared_names(self):
         """The names that two or more of the definitions have."""
@@ -291,11 +316,7 @@ class Page:
 
     def tables(self):
         """The tables that stand behind a comment with their name."""
-        return {it.__name__: "".join(f"{row}\n" for row in it()) for it in (self.promises, self.theorems, self.faults, self.types)}
-
-
-def in_page_order(code):
-    return "YKGXC".index(code[0]), int(code[1:])
+        return {it.__name__: "".join(f"{row}\n" for row in it()) for it in (self.promises, self.theorems, self.crates)}
 
 
 def lines_of(found):
@@ -320,7 +341,7 @@ def hours(found):
 
 def unexplained(head, found):
     """The words and forms that the page uses and doesn't explain."""
-    notation = head.partition("## The notation")[2].partition("## Which definitions")[0].replace("\\|", "|")
+    notation = head.partition("## The notation")[2].partition("## Which modules")[0].replace("\\|", "|")
     explained = set(re.split(r"[\s◌,]+", " ".join(re.findall(r"`([^`]+)`", notation))))
     if missing := sorted(set(found.library_words()) - explained):
         yield f"{PAGE} doesn't say what these words of libraries mean: {' '.join(missing)}"
@@ -328,31 +349,37 @@ def unexplained(head, found):
         yield f"{PAGE} doesn't say what this notation means: {' '.join(missing)}"
 
 
-def unneeded(head, found):
-    """The definitions that the page says decide a fault, and on which no theorem rests."""
-    needed = {(module.name, item) for module, items in found.items.items() for item in items}
-    for file, row in DECIDED.findall(head):
-        for name in re.findall(r"`(\w+)`", row):
-            if (file.replace("/", "."), name) not in needed:
-                yield f"{PAGE} names {name} of {file}, which no theorem needs"
+def undecided(found):
+    """Definitions that are said to decide a fault and on which no theorem rests, and faults that no definition decides."""
+    needed = {(module.name.replace(".", "/"), item) for module, items in found.items.items() for item in items}
+    decided = set()
+    for module, item, named in (*found.naming(), *found.deciding()):
+        decided |= named
+        if (module, item) not in needed:
+            yield f"{DECIDING} names {item} of {module}, which no theorem needs"
+    yield from (f"no definition decides {code}" for code, _ in codes(found.top) if not decided & {code, code[0]})
 
 
-def main(folder, option=None):
+def main(folder, option=None, word=None):
     top = pathlib.Path(folder)
     page = top / PAGE
     text = page.read_text(encoding="utf-8")
-    head, mark, _ = text.partition(MARK)
     found = Page(top)
+    if option == "--modules":
+        print("\n".join((*found.modules(word), *found.types())))
+        return
+    if option == "--fault":
+        print("\n".join(found.fault(word)) or f"no definition decides {word}")
+        return
     if shared := sorted(found.shared_names()):
         sys.exit(f"these names stand for two definitions: {' '.join(shared)}")
     tables = found.tables()
-    if missing := tables.keys() - {it[2] for it in MADE.finditer(head)}:
+    if missing := tables.keys() - {it[2] for it in MADE.finditer(text)}:
         sys.exit(f"{PAGE} has no place for these tables: {' '.join(sorted(missing))}")
-    made = MADE.sub(lambda it: it[1] + tables[it[2]], head) + mark
-    made += "\n".join(line for crate in crates_of(top) for line in found.crate(crate)) + "\n"
+    made = MADE.sub(lambda it: it[1] + tables[it[2]], text)
     if option == "--write":
         page.write_text(made, encoding="utf-8")
-    if wrong := [*unexplained(head, found), *unneeded(head, found)]:
+    if wrong := [*unexplained(text, found), *undecided(found)]:
         sys.exit("\n".join(wrong))
     if option != "--write" and made != text:
         sys.exit(f"{PAGE} isn't what the sources give: python3 tests/reading_page.py . --write renews it")

@@ -64,6 +64,44 @@ def contents(archive):
     return wrong + [f"{it} is missing" for it in needed if f"{base}/{it}" not in names]
 
 
+def with_facts(folder, program, room):
+    """A release with the other program has it too, wherever that is given or beside the first."""
+    wrong = []
+    (room / "both").mkdir()
+    for name, bytes_of in (("actionlint", program), ("actionlint-facts", "/bin/true")):
+        shutil.copy(bytes_of, room / "both" / name)
+    for number, words in enumerate((["--program", room / "both/actionlint"], ["--program", program, "--facts", "/bin/true"])):
+        prefix = room / f"facts-{number}"
+        wrong += failed(run([folder / "release", *words, "--install", prefix]))
+        there = prefix / "bin/actionlint-facts"
+        wrong += [] if there.is_file() and there.stat().st_mode & 0o777 == 0o755 else [f"{there} isn't there"]
+    wrong += failed(run([folder / "release", "--program", program, "--facts", room / "none", "--install", room / "facts-2"]), 1)
+    return wrong
+
+
+def under_another_name(folder, program, room):
+    """Installed as `juzbrost`, beside another `actionlint`: that one stays, the clients run the renamed program, and the manual page and
+    the completions are those of its name."""
+    prefix, both = room / "renamed", room / "both"
+    (prefix / "bin").mkdir(parents=True)
+    (prefix / "bin/actionlint").write_text("another's")
+    ran = run([folder / "release", "--program", both / "actionlint", "--name", "juzbrost", "--install", prefix])
+    wrong = failed(ran) + ([] if b"overwrote" not in ran.stdout else [show(ran.stdout)])
+    found = files_of(prefix)
+    wrong += [] if found["bin/actionlint"][0] == b"another's" else ["another's program changed"]
+    wrong += [f"{it} is missing" for it in ("bin/juzbrost", "bin/juzbrost-facts", "bin/actionlint-report", "share/man/man1/juzbrost.1",
+                                            "share/fish/vendor_completions.d/juzbrost.fish") if it not in found]
+    wrong += [f"{it} is there" for it in ("bin/actionlint-facts", "share/man/man1/actionlint.1") if it in found]
+    page = found.get("share/man/man1/juzbrost.1", (b"",))[0].decode()
+    for shown in (r"juzbrost [OPTIONS] [FILE]...", r"  juzbrost .github/workflows/release.yml    one of them"):
+        wrong += [] if shown in page.splitlines() else [f"its manual page doesn't have {shown}"]
+    for name, leads_to in (("actionlint", "juzbrost"), ("actionlint-facts", "juzbrost-facts")):
+        link = prefix / "share/actionlint" / name
+        wrong += [] if os.path.realpath(link) == str(prefix / "bin" / leads_to) else [f"no link to {leads_to}"]
+    ran = run([prefix / "share/actionlint/clients/which-actionlint"], env={"PATH": "/usr/bin:/bin"})
+    return wrong + ([] if ran.stdout.decode() == f"{prefix}/bin/juzbrost\n" else [f"the clients run {ran.stdout}: {show(ran.stderr)}"])
+
+
 def unpacked(archive, room):
     """The archive's folder, unpacked as the steps of docs/CI.md do."""
     run(["tar", "-xzf", archive], cwd=room).check_returncode()
@@ -110,6 +148,13 @@ def steps_of_the_page(archive, room):
     wrong = [] if steps else ["docs/CI.md shows no steps"]
     for step in steps:
         wrong += failed(run(["bash", "-e", "-c", step], cwd=folder, env=os.environ | {"status": "7"}))
+    (folder / WORKFLOWS / "faulty.yml").write_bytes(CLEAN.replace(b"on:", b"an:"))
+    ran = run(["bash", "-e", "-c", steps[-1]], cwd=folder)
+    matcher, stop, *report, resume = ran.stdout.decode().splitlines()
+    matcher = folder / matcher.removeprefix("::add-matcher::")
+    token = stop.removeprefix("::stop-commands::")
+    wrong += failed(ran, 1) + ([] if matcher.is_file() else [f"there is no {matcher}"])
+    wrong += [] if report and len(token) > 30 and resume == f"::{token}::" else [f"it prints {show(ran.stdout)}"]
     return wrong
 
 
@@ -212,7 +257,7 @@ def undated(folder, program):
 def refused(folder, arguments, said):
     """What differs if ./release should refuse these arguments with status 2 and a line that says this before the usage."""
     ran = run([folder / "release", *arguments])
-    line = f"release: {said}usage: release [--program PROGRAM] [[--deb] [--to DIR] | --install PREFIX]\n"
+    line = f"release: {said}usage: release [--program PROGRAM] [--facts FACTS] [--name NAME] [[--deb] [--to DIR] | --install PREFIX]\n"
     return failed(ran, 2) + ([] if ran.stderr.decode() == line else [show(ran.stderr)])
 
 
@@ -223,6 +268,10 @@ def words(folder, program, room):
         + refused(folder, ["--bogus", "x"], "unknown argument --bogus; ")
         + refused(folder, ["--to"], "--to needs a value; ")
         + refused(folder, ["--program", program, "--install", ""], "--install needs a value; ")
+        + refused(folder, ["--name", "a/b"], "a/b can't be the name of a command; ")
+        + refused(folder, ["--name", "-x"], "-x can't be the name of a command; ")
+        + refused(folder, ["--name", "actionlint-report"], "actionlint-report is the name of another command of a release; ")
+        + refused(folder, ["--deb", "--name", "J"], "J can't be the name of a package; ")
         + failed(run([folder / "release", "--help"]))
         + failed(run([folder / "release", "--install", room / "none", "--deb"]), 2)
         + failed(run([folder / "release", "--install", room / "none", "--to", room / "none"]), 2)
@@ -256,6 +305,8 @@ def cases(program, room):
     yield "clone-that-is-read-alone", reading_alone(clone(room / "c", program), room)
     yield "steps-of-the-page", steps_of_the_page(archive, room)
     yield "version-without-a-date", undated(clone(room / "d"), program)
+    yield "with-facts", with_facts(first, program, room)
+    yield "under-another-name", under_another_name(first, program, room)
     yield "wrong-words", words(first, program, room)
 
 

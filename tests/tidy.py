@@ -2,7 +2,8 @@
 
 WHAT is `src` or `specs` (no line is longer than 140 characters), `proofs` (none is longer than 200), `heads` (each module of lemmas says at
 its top what it is for), `kinds` (definitions use neither words of private contracts, `specs/Private`, nor worked examples, `specs/Rows`,
-and none of all these uses proofs, including those of `specs/Proofs`), `words` (pages have none of some home-made terms) or `names` (each
+and none of all these uses proofs, including those of `specs/Proofs`), `words` (pages, helps and messages have none of some home-made
+terms), `pages` (no line of text on a page is longer than 140 characters, and all pages together have at most 4,800 lines) or `names` (each
 name that a `use` line imports occurs somewhere else in its file). `--write` removes the names that don't; then `rt fmt` and `rt check` have
 to be run in each changed crate.
 """
@@ -13,13 +14,24 @@ import sys
 
 LONGEST = {"src": 140, "specs": 140, "proofs": 200}
 ENDINGS = {"src": ".rt", "specs": ".antt", "proofs": ".antt"}
-# words that pages don't use for something that has a name, outside of code
+# words that no user reads for something that has a name, outside of code
 UNUSUAL = {
     "leads out": "points outside", "lead out": "point outside", "link out of": "link that points outside",
-    "links out of": "links that point outside", "passed over": "skipped", "current folder": "current directory",
-    "words of the command line": "arguments",
+    "links out of": "links that point outside", "outside of the folder": "points outside the folder", "passed over": "skipped",
+    "current folder": "current directory", "top folder": "top directory", "words of the command line": "arguments",
+    "words of a command line": "arguments", "carried program": "prebuilt program", "flag": "boolean", "asks again": "retries",
+    "file that answers it": "callee", "words are not text": "arguments are not valid UTF-8",
 }
-CODE = re.compile(r"^```.*?^```$|`[^`\n]*`", re.DOTALL | re.MULTILINE)
+# what a user reads beside pages: texts of helps and messages
+SHOWN = ("action.yml", ".pre-commit-hooks.yaml", "release", "tools/find_program.sh", "tools/build.py", "clients/which-actionlint",
+         "clients/actionlint_client/*.py", "clients/actionlint-*")
+COMMENT_OF_SCRIPTS = re.compile(r'^ *#.*$|^ *"""(?:.|\n)*?"""$', re.MULTILINE)
+# texts in quotes; in YAML those after a key
+QUOTED = re.compile(r"\"[^\"\n]*\"|'[^'\n]*'")
+VALUE = re.compile(r"(?<=: ).*$", re.MULTILINE)
+LONGEST_OF_PAGES, MOST_OF_PAGES = 140, 4_800
+FENCED = re.compile(r"^```.*?^```$", re.DOTALL | re.MULTILINE)
+CODE = re.compile(rf"{FENCED.pattern}|`[^`\n]*`", re.DOTALL | re.MULTILINE)
 # the folders of `specs/` that aren't about what the product means; each may use those before it
 KINDS = ["Private", "Rows", "Proofs"]
 # proofs of the crates
@@ -49,11 +61,35 @@ def long_lines(top, folder):
                 yield f"{file.relative_to(top)}:{number} has {len(line)} characters, of at most {LONGEST[folder]}"
 
 
+def pages_of(top):
+    """All pages."""
+    return sorted((*top.glob("*.md"), *top.glob("docs/**/*.md"), top / "clients/README.md", top / "tests/README.md"))
+
+
 def unusual_words(top):
-    """The words on pages for which there is a usual one."""
-    for file in sorted((*top.glob("*.md"), *top.glob("docs/*.md"), top / "clients/README.md")):
-        text = re.sub(r"\s+", " ", CODE.sub("", file.read_text(encoding="utf-8"))).lower()
-        yield from (f"{file.relative_to(top)} says {it}, which is: {usual}" for it, usual in UNUSUAL.items() if f" {it}" in text)
+    """The words on pages, in helps and in messages for which there is a usual one."""
+    texts = {file: CODE.sub("", file.read_text(encoding="utf-8")) for file in pages_of(top)}
+    for file in sorted(it for name in SHOWN for it in top.glob(name)):
+        texts_of = VALUE if file.suffix in (".yml", ".yaml") else QUOTED
+        shown = texts_of.findall(COMMENT_OF_SCRIPTS.sub("", file.read_text(encoding="utf-8")))
+        texts[file] = re.sub(r"\{[^{}]*\}", "", " ".join(it for it in shown if " " in it))
+    for file, text in texts.items():
+        text = re.sub(r"\s+", " ", text).lower()
+        yield from (f"{file.relative_to(top)} says {it}, which is: {usual}" for it, usual in UNUSUAL.items()
+                    if re.search(rf"\b{it}\b", text))
+
+
+def wrong_pages(top):
+    """Lines of text on pages that are too long, and too many lines."""
+    lines = 0
+    for file in pages_of(top):
+        text = file.read_text(encoding="utf-8")
+        lines += text.count("\n")
+        for number, line in enumerate(FENCED.sub(lambda it: "\n" * it[0].count("\n"), text).splitlines(), 1):
+            if len(line) > LONGEST_OF_PAGES and not line.startswith(("|", "!", "<", "    ")):
+                yield f"{file.relative_to(top)}:{number} has {len(line)} characters, of at most {LONGEST_OF_PAGES}"
+    if lines > MOST_OF_PAGES:
+        yield f"all pages have {lines} lines, of at most {MOST_OF_PAGES}"
 
 
 def headless(top):
@@ -137,6 +173,8 @@ def main(folder, *words):
             wrong += headless(top)
         elif what == "words":
             wrong += unusual_words(top)
+        elif what == "pages":
+            wrong += wrong_pages(top)
         elif what == "kinds":
             wrong += later_kinds(top)
         elif what != "--write":

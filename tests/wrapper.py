@@ -34,7 +34,7 @@ CARRIED = '#!/bin/sh\necho "carried $*"\n'
 COPIED = ("actionlint", "tools/build.py", "tools/crates.py", "tools/find_program.sh", "tools/prebuilt.py", "tools/schedule.py")
 # The system's commands that the wrapper uses, besides python3.
 NEEDED = ("sh", "bash", "awk", "find", "sort", "xargs", "sha256sum", "readlink", "mkdir", "touch", "mv", "rm", "cat", "chmod")
-ROWS = "".join(f"| `{crate}` | 1,000 | {seconds} | 1,407 |\n" for crate, seconds in (("low", 100), ("middle", 200), ("actionlint", 700)))
+SECONDS = "low: 100\nmiddle: 200\nactionlint: 700\n"
 
 
 class Copy:
@@ -313,9 +313,8 @@ def test_reading_alone(copy):
 
 
 def test_estimate(copy):
-    """What a build says about its time: from the seconds on docs/PROVING.md and the number of processors."""
-    (copy.top / "docs").mkdir()
-    (copy.top / "docs/PROVING.md").write_text(ROWS)
+    """What a build says about its time: from the noted seconds of each proof and the number of processors."""
+    (copy.top / "tools/proof_seconds.txt").write_text(SECONDS)
     expect("time-of-a-build", copy.run(RT_JOBS="1"), status=0, calls=BUILDS, err=has("about 17 minutes of one processor"))
     ask = "import sys; sys.path.insert(0, sys.argv[1]); import build; p = build.Progress(); p.start -= 600\n"
     ask += "for crate in ('low', 'middle', 'actionlint'): p.heard(f'rt: {crate} proved\\n')"

@@ -1,4 +1,4 @@
-"""Proves and builds the program, and runs it: build.py [--build-anew] [ARGUMENT ..].
+"""Proves and builds a program, and runs it: build.py NAME CRATE [--build-anew] [ARGUMENT ..].
 
 `./actionlint` calls this if no program fits the sources. With --build-anew and no further argument, nothing is run.
 """
@@ -17,8 +17,9 @@ from crates import crates_of, with_below, write_list
 from schedule import schedule
 
 TOP = pathlib.Path(__file__).resolve().parent.parent
-CRATE = TOP / "crates/actionlint"
-BUILT = CRATE / "out/actionlint"
+NAME, CRATE_NAME = sys.argv[1:3] if len(sys.argv) > 2 else ("actionlint", "actionlint")
+CRATE = TOP / "crates" / CRATE_NAME
+BUILT = CRATE / "out" / CRATE.name
 PARTS = ("src", "specs", "proofs")
 BUILD_ANEW = "--build-anew"
 # What the kit's gate needs to run a program, besides its sources.
@@ -28,7 +29,7 @@ SIGNALS = (signal.SIGTERM, signal.SIGINT, signal.SIGHUP)
 
 
 def say(text):
-    print(f"actionlint: {text}", file=sys.stderr, flush=True)
+    print(f"{NAME}: {text}", file=sys.stderr, flush=True)
 
 
 def give_up(text):
@@ -115,7 +116,7 @@ def build_from_nothing(progress):
         made = room / BUILT.relative_to(TOP)
         if status == 0 and made.is_file():
             BUILT.parent.mkdir(exist_ok=True)
-            fresh = BUILT.with_name(f"actionlint.{os.getpid()}")
+            fresh = BUILT.with_name(f"{BUILT.name}.{os.getpid()}")
             shutil.copy(made, fresh)
             fresh.rename(BUILT)
     return status
@@ -148,4 +149,4 @@ def main(words):
 
 
 if __name__ == "__main__":
-    main(sys.argv[1:])
+    main(sys.argv[3:])

@@ -1,31 +1,41 @@
-# Functions that find the program that fits the sources, or build it. `./actionlint` sources this after setting `top`, the top folder.
+# Functions that find the program that fits the sources, or build it. `./actionlint` sources this after setting `top`, the top folder, and
+# `name`, the program's, which is actionlint or actionlint-facts.
 #
-# A program fits if it was built from these sources: crates/actionlint/out/actionlint if no source is newer, and prebuilt/actionlint if
-# prebuilt/sources.sha256 is the hash of the sources, it was proved in the logic of the installed kit, if there is one, and it runs on this
-# machine. Finding that out needs awk, find, sort, xargs and sha256sum.
+# A program fits if it was built from these sources: crates/CRATE/out/CRATE if no source is newer, and prebuilt/NAME if its file of hashes
+# in prebuilt/ has the hash of the sources, it was proved in the logic of the installed kit, if there is one, and it runs on this machine. Finding that out needs awk, find, sort, xargs and sha256sum.
 #
 # A stamp names the program that was last found to fit, and its sources. It is in the clone, or in the user's cache folder if the clone is
 # read-only. With a stamp, a run only searches for newer sources.
-built=crates/actionlint/out/actionlint
-prebuilt=prebuilt/actionlint
-stamp=$top/crates/actionlint/out/fits
+case ${name:=actionlint} in
+  actionlint-facts)
+    crate=al_facts
+    hashed=prebuilt/$name.sha256
+    ;;
+  *)
+    crate=actionlint
+    hashed=prebuilt/sources.sha256
+    ;;
+esac
+built=crates/$crate/out/$crate
+prebuilt=prebuilt/$name
+stamp=$top/crates/$crate/out/fits
 caches=${XDG_CACHE_HOME:-${HOME:+$HOME/.cache}}
 case $caches in
-  /*) cached_stamp=$caches/actionlint$top/fits ;;
+  /*) cached_stamp=$caches/$name$top/fits ;;
   *) cached_stamp= ;;
 esac
 why="no program was built from these sources"
 news=
 
 # Tells the user something, if standard error takes it.
-say() { printf 'actionlint: %s\n' "$1" >&2 || :; }
+say() { printf '%s: %s\n' "$name" "$1" >&2 || :; }
 
 has() { command -v "$1" > /dev/null; }
 
 # What the program is built from: crates.txt, and src, specs and proofs of its crate and of the repository's crates below that.
 list_sources() {
   printf 'crates.txt'
-  awk '
+  awk -v "top=$crate" '
     /^[^#]/ { split($0, halves, ":"); split(halves[1], named, " "); below[named[1]] = halves[2] }
     function find(crate,   names, count, i) {
       if (!(crate in below) || crate in found) return
@@ -33,9 +43,9 @@ list_sources() {
       count = split(below[crate], names, " ")
       for (i = 1; i <= count; i++) find(names[i])
     }
-    END { find("actionlint"); for (crate in found) print crate }' "$top/crates.txt" | while read -r crate; do
+    END { find(top); for (crate in found) print crate }' "$top/crates.txt" | while read -r one; do
     for part in src specs proofs; do
-      if [ -d "$top/crates/$crate/$part" ]; then printf ' crates/%s/%s' "$crate" "$part"; fi
+      if [ -d "$top/crates/$one/$part" ]; then printf ' crates/%s/%s' "$one" "$part"; fi
     done
   done
 }
@@ -54,7 +64,7 @@ is_noted() {
 # Whether the built program fits.
 built_fits() { [ -x "$top/$built" ] && is_newest "$top/$built"; }
 
-# The hash of the sources' paths and bytes and of a kit's identity, in the form of prebuilt/sources.sha256.
+# The hash of the sources' paths and bytes and of a kit's identity, in the form of the files of hashes.
 hash_of_sources() {
   hash=$(
     CDPATH='' cd -- "$top" || exit 1
@@ -65,7 +75,7 @@ hash_of_sources() {
 
 # The identity of the kit that built the carried program, if that was built from these sources.
 kit_of_prebuilt() {
-  [ -x "$top/$prebuilt" ] && read -r hash kit < "$top/prebuilt/sources.sha256" && [ "$(hash_of_sources "$kit")" = "$hash  $kit" ] &&
+  [ -x "$top/$prebuilt" ] && read -r hash kit < "$top/$hashed" && [ "$(hash_of_sources "$kit")" = "$hash  $kit" ] &&
     printf '%s\n' "$kit"
 }
 
@@ -119,7 +129,7 @@ find_program() {
   if [ "$program" = "$built" ]; then
     touch -r "$top/$built" "$new_stamp"
   else
-    news="this is $prebuilt, which was built from these sources; ./actionlint --build-anew proves and builds it here"
+    news="this is $prebuilt, which was built from these sources; ./$name --build-anew proves and builds it here"
   fi
   mv -f "$new_stamp" "$place"
 }
@@ -137,7 +147,7 @@ refuse() {
 
 # Proves and builds the program, and runs it. Without the kit, the reason is that alone if it was asked for.
 build() {
-  if has python3 && has rt; then exec python3 "$top/tools/build.py" "$@"; fi
+  if has python3 && has rt; then exec python3 "$top/tools/build.py" "$name" "$crate" "$@"; fi
   if [ "${1-}" = --build-anew ]; then why="nothing can be proved and built here"; fi
   refuse
 }

@@ -1,8 +1,8 @@
-"""Renews or compares the carried program: prebuilt.py --renew | --compare.
+"""Renews or compares the carried programs: prebuilt.py --renew | --compare.
 
---renew copies crates/actionlint/out/actionlint to prebuilt/, with the hash of its sources, none of which may be newer. --compare prints
-`fits` if prebuilt/ was built from these sources by this kit and is byte for byte the built program, `older` if it was built from others or
-by another kit, and `none` if there is no prebuilt/. The status is 1 if it should be the same and isn't.
+--renew copies each program of crates/ to prebuilt/, with the hash of its sources, none of which may be newer. --compare prints `fits` if
+each program of prebuilt/ was built from these sources by this kit and is byte for byte the built one, `older` if one was built from others
+or by another kit, or isn't there, and `none` if there is none. The status is 1 if one should be the same and isn't.
 """
 
 import pathlib
@@ -11,17 +11,53 @@ import subprocess
 import sys
 
 TOP = pathlib.Path(__file__).resolve().parent.parent
-BUILT = TOP / "crates/actionlint/out/actionlint"
-PREBUILT = TOP / "prebuilt/actionlint"
-HASH = TOP / "prebuilt/sources.sha256"
-# Runs a function of tools/find_program.sh for the repository at $0.
-ASK = 'top=$0; . "$0/tools/find_program.sh"; sources=$(list_sources); "$@"'
+# Runs a function of tools/find_program.sh for the repository at $0 and a program.
+ASK = 'top=$0; name=$1; shift; . "$0/tools/find_program.sh"; sources=$(list_sources); "$@"'
 
 
-def ask(*words):
-    """The output of a function of tools/find_program.sh, or None if it fails."""
-    ran = subprocess.run(["sh", "-c", ASK, str(TOP), *words], stdout=subprocess.PIPE, text=True, check=False)
-    return ran.stdout.strip() if ran.returncode == 0 else None
+class Carried:
+    """A carried program: where it is, where it is built, and the file with the hash of its sources."""
+
+    def __init__(self, name, crate, hashed):
+        self.name = name
+        self.built = TOP / "crates" / crate / "out" / crate
+        self.prebuilt = TOP / "prebuilt" / name
+        self.hashed = TOP / "prebuilt" / hashed
+
+    def ask(self, *words):
+        """The output of a function of tools/find_program.sh, or None if it fails."""
+        ran = subprocess.run(["sh", "-c", ASK, str(TOP), self.name, *words], stdout=subprocess.PIPE, text=True, check=False)
+        return ran.stdout.strip() if ran.returncode == 0 else None
+
+    def without_built(self, more=""):
+        return f"{self.built.relative_to(TOP)} isn't there{more}: ./{self.name} --build-anew builds it"
+
+    def renew(self, version):
+        if self.ask("built_fits") is None:
+            sys.exit(self.without_built(", or a source is newer"))
+        self.prebuilt.parent.mkdir(exist_ok=True)
+        shutil.copyfile(self.built, self.prebuilt)
+        self.prebuilt.chmod(0o755)
+        self.hashed.write_text(self.ask("hash_of_sources", version) + "\n")
+
+    def compared(self, version):
+        """`fits`, `older` or `none`."""
+        if not self.prebuilt.is_file():
+            return "none"
+        if self.ask("kit_of_prebuilt") != version:
+            return "older"
+        if not self.built.is_file():
+            sys.exit(self.without_built())
+        if self.prebuilt.read_bytes() != self.built.read_bytes():
+            sys.exit(f"prebuilt/{self.name} isn't the program that these sources give, though its hash is theirs")
+        return "fits"
+
+
+def programs():
+    """The programs of this repository."""
+    crates = {line.partition(":")[0] for line in (TOP / "crates.txt").read_text(encoding="utf-8").splitlines()}
+    rows = [("actionlint", "actionlint", "sources.sha256"), ("actionlint-facts", "al_facts", "actionlint-facts.sha256")]
+    return [Carried(*row) for row in rows if row[1] in crates]
 
 
 def kit():
@@ -32,28 +68,17 @@ def kit():
 
 
 def renew():
-    if ask("built_fits") is None:
-        sys.exit("crates/actionlint/out/actionlint isn't there, or a source is newer: ./actionlint --build-anew builds it")
     version = kit()
-    if version is None:
-        sys.exit("the kit's command rt isn't on the PATH")
-    PREBUILT.parent.mkdir(exist_ok=True)
-    shutil.copyfile(BUILT, PREBUILT)
-    PREBUILT.chmod(0o755)
-    HASH.write_text(ask("hash_of_sources", version) + "\n")
+    for program in programs():
+        if version is None and program.ask("built_fits") is not None:
+            sys.exit("the kit's command rt isn't on the PATH")
+        program.renew(version)
 
 
 def compare():
-    if not PREBUILT.is_file():
-        print("none")
-    elif ask("kit_of_prebuilt") != kit():
-        print("older")
-    elif not BUILT.is_file():
-        sys.exit("crates/actionlint/out/actionlint isn't there: ./actionlint --build-anew builds it")
-    elif PREBUILT.read_bytes() == BUILT.read_bytes():
-        print("fits")
-    else:
-        sys.exit("prebuilt/actionlint isn't the program that these sources give, though its hash is theirs")
+    version = kit()
+    found = {program.compared(version) for program in programs()}
+    print(found.pop() if len(found) == 1 else "older")
 
 
 if __name__ == "__main__":

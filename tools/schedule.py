@@ -1,17 +1,17 @@
-"""When each crate is proved, by the seconds in docs/PROVING.md and the number of processors."""
+"""When each crate is proved, by the seconds in proof_seconds.txt and the number of processors."""
 
 import re
 
 from crates import crates_of
 
-ROW = re.compile(r"^\| `(\w+)` \| [\d,]+ \| (\d+) \|", re.MULTILINE)
+ROW = re.compile(r"^(\w+): (\d+)$", re.MULTILINE)
 UNKNOWN_SECONDS = 100
 
 
 def seconds_of(top):
-    """The seconds that the proof of each crate took, from the table in docs/PROVING.md."""
-    page = top / "docs/PROVING.md"
-    rows = ROW.findall(page.read_text(encoding="utf-8")) if page.is_file() else []
+    """The seconds that the proof of each crate took, as far as they are noted."""
+    noted = top / "tools/proof_seconds.txt"
+    rows = ROW.findall(noted.read_text(encoding="utf-8")) if noted.is_file() else []
     return {crate: int(seconds) for crate, seconds in rows}
 
 

@@ -4,6 +4,7 @@ from __future__ import annotations
 import os
 import re
 import sys
+import time
 from dataclasses import replace
 from itertools import chain, groupby, islice
 from typing import TYPE_CHECKING, Callable, Iterable, Iterator, NamedTuple
@@ -17,11 +18,12 @@ if TYPE_CHECKING:
     from .repair import Repair
     from .report import Fault
 
-# Fixes are tried for so many faults of a report, and for the first ones of a file that `fixes` takes, fewer if it has more bytes than a
-# twentieth of these.
+# Fixes are tried for so many faults of a report and in so much time, and for the first ones of a file that `fixes` takes, fewer if it has
+# more bytes than a twentieth of these.
 MAX_TRIED = 200
 MAX_TRIED_BYTES = 2_000_000
 SECONDS_OF_A_FILE = 60.0
+SECONDS_OF_A_REPORT = 120.0
 SECONDS_OF_AN_ANSWER = 20.0
 # The names before a property, the first of them a context. Only so much before the fault is looked at.
 CHAIN = re.compile(r"([A-Za-z_][\w-]*)((?:\s*\.\s*[\w*-]+|\s*\[[^\[\]]*\])*)\s*(?:\.|\[\s*'?)\s*$")
@@ -43,6 +45,7 @@ class FirstFixes:
 
         folder = os.fsencode(root or ".")
         self._program, self._left, self._named = program, MAX_TRIED, files
+        self._seconds_left = SECONDS_OF_A_REPORT
         self._files = Files(folder, lambda _: None, False)
         self._project = Project(self._files.read, lambda: list(self._files.wanted), lambda: actions_below(folder))
 
@@ -58,7 +61,7 @@ class FirstFixes:
             if first and not is_read:
                 is_read = True
                 self._read_files()
-            found = self._first_fixes(path, [problem.fault for problem in first]) if first else {}
+            found = self._first_fixes(path, [problem.fault for problem in first]) if first and self._seconds_left > 0 else {}
             yield from chain((replace(problem, fix=found.get(problem.fault)) for problem in first), of_file)
 
     def _read_files(self) -> None:
@@ -72,12 +75,15 @@ class FirstFixes:
         from .fixes import fixes
 
         found: dict[Fault, Repair] = {}
+        begun = time.monotonic()
         try:
-            for fix in fixes([self._program], SECONDS_OF_AN_ANSWER, self._project, faults, seconds=SECONDS_OF_A_FILE):
+            seconds = min(SECONDS_OF_A_FILE, self._seconds_left)
+            for fix in fixes([self._program], SECONDS_OF_AN_ANSWER, self._project, faults, seconds=seconds):
                 found.setdefault(fix.fault, fix.repair)
         except Exception as error:
             # The report of the faults matters more than a fix.
             print(f"actionlint-report: {path}: no fixes, since {error!r}", file=sys.stderr)
+        self._seconds_left -= time.monotonic() - begun
         return found
 
 

@@ -359,7 +359,7 @@ def _flags(cursor: Cursor) -> list[Offer]:
         is_flag = any(one.name.lower() == str(path[-1]).lower() and one.value.text("type") == "boolean" for one in declared)
     if not is_flag or cursor.place.before[:1] in ("'", '"'):
         return []
-    return [Offer(word, "value", word, "flag") for word in ("true", "false")]
+    return [Offer(word, "value", word, "boolean") for word in ("true", "false")]
 
 
 def _quoted(place: Place, text: str) -> str:

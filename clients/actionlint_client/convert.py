@@ -1,7 +1,7 @@
 """actionlint-report: runs the linter and writes its report in another format, for people or for programs.
 
 It runs the linter itself, so a run that could not go on never looks like one without faults: the exit status is the linter's, except for
-ignored faults and notes of shellcheck.
+ignored faults and notes.
 """
 from __future__ import annotations
 
@@ -17,8 +17,9 @@ from .characters import terminal_text
 from .console import add_help_and_version
 from .entries import entries, explained
 from .forms import Annotations, CodeQuality, Form, JsonLines, OneLine, Outcome
-from .ignoring import Ignored, Rule, WrongRule, is_note, rules_in
+from .ignoring import Ignored, Rule, WrongRule, is_note, is_of_shellcheck, rules_in
 from .lint_run import CANNOT_GO_ON, CannotStart, LintRun, ReportTooLong
+from .notes.entries import NoNotes, entries_of_notes
 from .output import STANDARD_OUTPUT, report_output
 from .paths import path_of_word
 from .problems import Problem, problem_of
@@ -31,6 +32,8 @@ if TYPE_CHECKING:
     from .applying import Request
 
 WRONG_WORDS = 2
+# The option that shows notes, and the value with which they count as faults do.
+NOTES, COUNT = "--notes", "error"
 # What scripts and trees of files are read with.
 LIBRARY = "yaml.cyaml"
 FORMS: dict[str, type[Form]] = {
@@ -64,7 +67,7 @@ def main(words: list[str] | None = None) -> int:
         pass
     except WrongRule as error:
         return _fail(str(error), WRONG_WORDS)
-    except (CannotStart, shellcheck.ShellcheckFailed) as error:
+    except (CannotStart, NoNotes, shellcheck.ShellcheckFailed) as error:
         return _fail(str(error))
     except BadReport as error:
         return _fail(f"{options.program} is not the linter: {error}")
@@ -109,7 +112,7 @@ def _print(line: str) -> None:
 
 def explain(code: str) -> int:
     """Prints the entry of a code, in any case. Raises OSError if it can't be written."""
-    entry = next((entry for entry in entries() if entry.code == code.upper()), None)
+    entry = next((entry for entry in (*entries(), *entries_of_notes().values()) if entry.code == code.upper()), None)
     if entry is None:
         return _fail(f"{code!r} is not a fault code", WRONG_WORDS)
     with report_output(None) as out:
@@ -142,11 +145,10 @@ def _write(options: argparse.Namespace, ignored: Ignored, out: BinaryIO, snippet
             _tell(problem, form, ignored, outcome)
     outcome.errors = run.errors
     outcome.status = run.status
-    if options.shellcheck and outcome.is_known():
-        for note in shellcheck.notes(options.root or ".", list(map(path_of_word, options.files)), unread, outcome.say):
-            _tell(note, form, ignored, outcome)
+    for note in _notes(options, unread, outcome) if outcome.is_known() else ():
+        _tell(note, form, ignored, outcome)
     if outcome.is_known():
-        outcome.status = 1 if outcome.files else 0
+        outcome.status = 1 if outcome.counting else 0
         outcome.warnings += [f"{rule} ignores nothing" for rule in ignored.unused() if _could_be_used(rule, options)]
     form.end(outcome)
     return form, outcome
@@ -159,6 +161,18 @@ def _problems(options: argparse.Namespace, run: LintRun) -> Iterable[Problem]:
     return FirstFixes(options.program, options.root, named).add_to(problems) if options.shows_fixes else problems
 
 
+def _notes(options: argparse.Namespace, unread: set[str], outcome: Outcome) -> Iterable[Problem]:
+    """The notes that are asked for. `unread` are files that aren't valid YAML."""
+    root, files = options.root or ".", list(map(path_of_word, options.files))
+    if options.notes:
+        # Other reports need neither the rules nor their tables.
+        from .notes.run import notes
+
+        yield from notes(options.program, root, files, options.notes == COUNT, outcome.say)
+    if options.shellcheck:
+        yield from shellcheck.notes(root, files, unread, outcome.say)
+
+
 def _tell(problem: Problem, form: Form, ignored: Ignored, outcome: Outcome) -> None:
     if ignored.has(problem):
         outcome.ignored += 1
@@ -169,7 +183,7 @@ def _tell(problem: Problem, form: Form, ignored: Ignored, outcome: Outcome) -> N
 
 def _could_be_used(rule: Rule, options: argparse.Namespace) -> bool:
     """Whether a rule would have ignored something if there was anything that it is about."""
-    if is_note(rule.code) and not options.shellcheck:
+    if is_note(rule.code) and not (options.shellcheck if is_of_shellcheck(rule.code) else options.notes):
         return False
     return not options.files or rule.path in map(path_of_word, options.files)
 
@@ -197,7 +211,7 @@ def _options(words: list[str]) -> argparse.Namespace:
                                      usage="%(prog)s [OPTION]... [--] [FILE]...", add_help=False)
     add_help_and_version(parser)
     parser.add_argument("--form", choices=tuple(FORMS), default="sarif", help="the format of the report (default: %(default)s)")
-    parser.add_argument("--root", metavar="DIR", help="the top folder of the repository (default: the current folder)")
+    parser.add_argument("--root", metavar="DIR", help="the top directory of the repository (default: the current directory)")
     parser.add_argument("--program", help=f"the linter (default: {WHICH})")
     parser.add_argument("--docs", metavar="ADDRESS", help="the address of the pages of faults, for links")
     parser.add_argument("--out", metavar="FILE", help="the file to write (default: standard output)")
@@ -207,16 +221,19 @@ def _options(words: list[str]) -> argparse.Namespace:
                         help="a fault that doesn't count, in all files or in one; may be repeated")
     parser.add_argument("--ignore-file", metavar="FILE", action="append", default=[],
                         help="a file with a CODE[:PATH] on each line; may be repeated")
+    parser.add_argument(NOTES, choices=("info", COUNT),
+                        help=f"also show notes on what GitHub refuses and the linter accepts; {COUNT} makes them count (default: info)")
     parser.add_argument("--shellcheck", action="store_true", help="also show shellcheck's notes on scripts")
     change = parser.add_mutually_exclusive_group()
     change.add_argument("--diff", action="store_true", help="print what the safe fixes would change, as a patch, in place of a report")
     change.add_argument("--fix", action="store_true", help="write what the safe fixes change, and report what is left")
     parser.add_argument("--guesses", action="store_true", help="with --diff or --fix, take the first guess where no fix is safe")
-    parser.add_argument("--explain", metavar="CODE", help="explain a fault, and lint nothing")
+    parser.add_argument("--explain", metavar="CODE", help="explain a fault or a note, and lint nothing")
     parser.add_argument("files", nargs="*", metavar="FILE",
                         help="workflows and actions below DIR (default: all workflows, and what they call)")
     end = words.index("--") if "--" in words else len(words)
-    options = parser.parse_intermixed_args(words[:end])
+    # (the word after it may be a file)
+    options = parser.parse_intermixed_args([f"{NOTES}=info" if word == NOTES else word for word in words[:end]])
     options.files += words[end + 1:]
     if options.out == "":
         parser.error("argument --out: it names no file")

@@ -33,7 +33,7 @@ class Diagnostics:
             told.append(_at_start(f"{earlier.more} more faults in this file {OF_EARLIER}", INFORMATION))
         if refused:
             told.append(_at_start(refused, WARNING))
-        return told + [of_note(lines, note) for note in notes]
+        return told + [of_note(lines, note, self._docs) for note in notes]
 
     def of_fault(self, lines: Lines, fault: Fault) -> Diagnostic:
         problem = problem_of(fault)
@@ -51,13 +51,15 @@ class Diagnostics:
         return diagnostic
 
 
-def of_note(lines: Lines, note: Problem) -> Diagnostic:
-    """A note of shellcheck, or why it has none on a script."""
+def of_note(lines: Lines, note: Problem, docs: str | None) -> Diagnostic:
+    """A note, or why shellcheck has none on a script."""
     told: Diagnostic = {
         "range": lines.range_of(note.fault), "severity": INFORMATION if note.level == NOTE else WARNING,
-        "source": note.fault.kind, "message": shown(note.fault.message), "data": {"kind": note.fault.kind}}
-    if note.code and note.link:
-        told["code"], told["codeDescription"] = note.code, {"href": note.link}
+        "source": SOURCE if note.entry else note.fault.kind, "message": shown(note.fault.message), "data": {"kind": note.fault.kind}}
+    if note.code:
+        told["code"] = note.code
+    if link := note.link_in(docs) if note.code else None:
+        told["codeDescription"] = {"href": link}
     return told
 
 

@@ -99,7 +99,7 @@ class Disk:
         if known is None or known.stamp != stamp:
             known = self._files[path] = _read(whole, stamp, self._real_root)
             if known.is_outside:
-                self._pass_over(path, "its real path is outside of the folder")
+                self._pass_over(path, "a symbolic link points outside the folder")
         return known
 
 

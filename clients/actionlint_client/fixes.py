@@ -7,17 +7,18 @@ from collections import Counter
 from dataclasses import replace
 from enum import Enum
 from itertools import islice
-from typing import Callable, Iterable, NamedTuple, Tuple
+from typing import Callable, Iterable, NamedTuple, Sequence, Tuple
 
-from . import (repairs_calls, repairs_expressions, repairs_keys, repairs_kinds, repairs_levels, repairs_names, repairs_rules,
-               repairs_scripts, repairs_values, repairs_yaml)
+from . import (repairs_blocks, repairs_calls, repairs_expressions, repairs_keys, repairs_kinds, repairs_levels, repairs_names,
+               repairs_rules, repairs_scripts, repairs_steps, repairs_values, repairs_yaml)
+from .child import LinterEnded
 from .disk import MAX_FILE_BYTES
 from .entries import entry_of
 from .paths import is_workflow
 from .project import Project
 from .repair import Case, Edit, Repair, replaced
 from .report import Fault, parse_report
-from .session import LinterEnded, ReportTooLong, Session
+from .session import ReportTooLong, Session
 
 MAX_FAULTS = 20
 MAX_LINE_CHARACTERS = 5_000
@@ -30,12 +31,13 @@ MAX_REPORT_BYTES = 4 * 1_048_576
 UNREADABLE = ("X1", "X2", "X3", "X4", "X5", "X6", "X20")
 # What isn't looked at as long as the event, the kind of an action or the called file isn't known.
 HIDES = {"G1": ("G2", "G3", "K1", "K6"), "G20": ("K1", "K2", "K6", "G21"), "C1": ("C2", "C3", "C4", "C5", "C6"),
-         "C7": ("C2", "C3", "C4", "C5", "C6")}
+         "C7": ("C2", "C3", "C4", "C5", "C6"),
+         "C2": ("C4",)}
 INDENT = re.compile(r" *(?:- +)*")
 KEY = re.compile(r"['\"]?[\w-]+['\"]?:(?:\s|$)|\s*$")
 LOCAL_CALL = re.compile(r"\./[^\s'\"#,}\]]*")
-MODULES = (repairs_yaml, repairs_levels, repairs_keys, repairs_kinds, repairs_rules, repairs_expressions, repairs_names, repairs_values,
-           repairs_scripts, repairs_calls)
+MODULES = (repairs_blocks, repairs_yaml, repairs_levels, repairs_steps, repairs_keys, repairs_kinds, repairs_rules, repairs_expressions,
+           repairs_names, repairs_values, repairs_scripts, repairs_calls)
 REPAIRS: dict[str, tuple[Callable[[Case], Iterable[Repair]], ...]] = {
     code: tuple(each for module in MODULES for each in module.REPAIRS.get(code, ())) for found in MODULES for code in found.REPAIRS}
 
@@ -197,16 +199,21 @@ class Trial:
 
 
 def _was_hidden(one: Fault, fault: Fault, repair: Repair, before: list[str], lines: list[str]) -> bool:
-    """Whether a fault was there before a repair, hidden by the repaired one: an expression that can't be read has no other fault, and a
-    file that isn't YAML has none on its other lines. `before` and `lines` are those before and after the repair."""
+    """Whether a fault was there before a repair, hidden by the repaired one: an expression that can't be read has no other fault, the value
+    of an unknown key has none, and a file that isn't YAML has none on its other lines. `before` and `lines` are those before and after the
+    repair."""
     code, hidden = code_of(one), code_of(fault)
     if one.path != fault.path:
         return False
     if hidden in HIDES:
-        return code in HIDES[hidden] and one.line >= fault.line and not repair.new_files
+        is_near = one.line == fault.line if hidden == "C2" else one.line >= fault.line
+        return code in HIDES[hidden] and is_near and not repair.new_files
     if hidden in UNREADABLE:
-        return one.line == fault.line and code[:1] == "X" and code not in UNREADABLE and code not in ("X7", "X9")
+        is_of_value = code[:1] == "X" and code not in UNREADABLE and code not in ("X7", "X9") or code in ("C4", "K5")
+        return one.line == fault.line and is_of_value
     edits = repair.edits.get(fault.path, ())
+    if hidden == "K1":
+        return _renames(edits, fault) and (repair.is_safe or code[:1] != "K") and _is_below_key(lines, fault, one)
     if hidden[:1] != "Y" or not edits:
         return False
     if code in UNREADABLE or code[:1] in ("Y", "K"):
@@ -214,6 +221,19 @@ def _was_hidden(one: Fault, fault: Fault, repair: Repair, before: list[str], lin
     touched = {line + 1 for edit in edits for line in range(edit.span.start.line, edit.span.end.line + 1)}
     keeps_lines = all("\n" not in edit.text and edit.span.start.line == edit.span.end.line for edit in edits)
     return keeps_lines and one.line not in touched
+
+
+def _renames(edits: Sequence[Edit], fault: Fault) -> bool:
+    """Whether a repair changes nothing but the key with the fault."""
+    is_word = len(edits) == 1 and re.fullmatch(r"[^\s:]+", edits[0].text) is not None
+    return is_word and edits[0].span.start == (fault.line - 1, fault.column - 1)
+
+
+def _is_below_key(lines: list[str], key: Fault, one: Fault) -> bool:
+    """Whether a fault is in the value of a key."""
+    below = [line for line in lines[key.line:one.line] if line.strip()]
+    return one.line >= key.line and (one.line, one.column) != (key.line, key.column) and all(
+        len(line) - len(line.lstrip(" ")) >= key.column - (not line.lstrip(" ").startswith("- ")) for line in below)
 
 
 def _keeps_key(edit: Edit, lines: list[str]) -> bool:

@@ -2,6 +2,7 @@
 from __future__ import annotations
 
 import os
+import time
 from collections import Counter
 from dataclasses import dataclass
 from typing import Callable, Iterable, Iterator
@@ -18,10 +19,11 @@ from .report import Fault
 from .text import LINE_BREAK, Places
 
 MAX_ROUNDS = 100
-# Fixes are tried for so many faults, and for so many bytes of the files that have them, in all rounds.
+# Fixes are tried for so many faults, for so many bytes of the files that have them, and in so much time, in all rounds.
 MAX_TRIED = 1_000
 MAX_TRIED_BYTES = 30_000_000
 SECONDS_OF_A_FILE = 60.0
+SECONDS_OF_ALL = 300.0
 BEHIND_A_LINK = "a symbolic link leads to it"
 
 
@@ -56,6 +58,7 @@ class Fixing:
         self._hopeless: set[tuple[str, str, str]] = set()
         self._given_up: set[Fault] = set()
         self._tried, self._tried_bytes = 0, 0
+        self._ends = time.monotonic() + SECONDS_OF_ALL
         self._takes_guesses = False
 
     def changes(self, paths: Iterable[str]) -> dict[str, Change]:
@@ -129,7 +132,8 @@ class Fixing:
         while waiting := [fault for fault in waiting if self._key(fault) not in self._hopeless]:
             some, waiting = waiting[:MAX_FAULTS], waiting[MAX_FAULTS:]
             size = len(self._folder.read(some[0].path) or b"")
-            if self._tried + len(some) > MAX_TRIED or self._tried_bytes + size * len(some) > MAX_TRIED_BYTES:
+            is_late = time.monotonic() > self._ends
+            if is_late or self._tried + len(some) > MAX_TRIED or self._tried_bytes + size * len(some) > MAX_TRIED_BYTES:
                 self.is_cut = True
                 return
             self._tried += len(some)

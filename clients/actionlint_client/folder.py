@@ -9,12 +9,13 @@ import time
 from dataclasses import dataclass
 from typing import Callable, Iterable
 
+from .child import LinterEnded, LinterMissing, LinterSilent
 from .disk import MAX_FILE_BYTES
 from .faults import FaultReader, FileFaults, Form, LongReport
 from .files import Files
 from .paths import MAX_PATH_BYTES, is_workflow
 from .report import BadReport
-from .session import LinterEnded, LinterMissing, LinterSilent, Session
+from .session import Session
 
 MAX_FILES = 4_096
 ENDS_OF_A_FILE = 2

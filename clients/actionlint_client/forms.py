@@ -8,29 +8,34 @@ from typing import BinaryIO
 
 from .advice import advice, sentence
 from .characters import json_text, log_text, shown, terminal_text
-from .problems import Problem
+from .problems import ERROR, NOTE_KIND, Problem
 
 
 @dataclass
 class Outcome:
-    """The result of a run: its status, what was printed on standard error, what the user should know beside it, and how many faults and
-    notes of shellcheck were reported, in which files, and ignored."""
+    """The result of a run: its status, what was printed on standard error, what the user should know beside it, and how many faults, notes
+    and notes of shellcheck were reported, in which files, and ignored. `counting` is how many of these make the status 1."""
 
     status: int = 0
     errors: str = ""
     warnings: list[str] = field(default_factory=list)
     faults: int = 0
     notes: int = 0
+    shellcheck_notes: int = 0
+    counting: int = 0
     ignored: int = 0
     files: set[str] = field(default_factory=set)
 
     def count(self, problem: Problem) -> None:
         """Counts a reported problem."""
         self.files.add(problem.fault.path)
-        if problem.is_note():
+        if problem.fault.kind == NOTE_KIND:
             self.notes += 1
+            self.counting += problem.level == ERROR
         else:
-            self.faults += 1
+            self.shellcheck_notes += problem.is_note()
+            self.faults += not problem.is_note()
+            self.counting += 1
 
     def is_known(self) -> bool:
         """Whether the linter ran to its end, so that all faults are known."""
@@ -44,7 +49,9 @@ class Outcome:
         """The counts, in words."""
         if not self.is_known():
             return "the faults are unknown: the linter could not go on"
-        found = [_counted(self.faults, "fault"), *([f"{_counted(self.notes, 'note')} of shellcheck (not proved)"] if self.notes else [])]
+        found = [_counted(self.faults, "fault")]
+        found += [f"{_counted(self.notes, 'note')} (not proved)"] if self.notes else []
+        found += [f"{_counted(self.shellcheck_notes, 'note')} of shellcheck (not proved)"] if self.shellcheck_notes else []
         return (" and ".join(found) + (f" in {_counted(len(self.files), 'file')}" if self.files else "")
                 + (f", {self.ignored} ignored" if self.ignored else ""))
 

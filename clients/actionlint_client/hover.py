@@ -25,6 +25,10 @@ class Hover:
         text = entries.markdown_of_faults((fault.message for fault, _ in found), self._docs)
         if text is not None:
             return {"contents": {"kind": self._editor.hover_format(), "value": text}, "range": found[0][1]}
+        for note, place_of_note in document.notes_at(position) if document else []:
+            if note.entry:
+                text = entries.markdown_of(note.entry, self._docs, [note.fault.message])
+                return {"contents": {"kind": self._editor.hover_format(), "value": text}, "range": place_of_note}
         place = asked(self._workspace, textDocument, position)
         explained = explanation(place.project, place.file, place.point) if place else None
         if place is None or explained is None:

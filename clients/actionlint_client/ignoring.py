@@ -7,6 +7,7 @@ from typing import Callable, Collection, Iterable, NamedTuple
 
 from .entries import entries
 from .faults import NO_FAULTS, FileFaults
+from .notes.entries import entries_of_notes
 from .problems import Problem, problem_of
 from .report import Fault
 
@@ -68,7 +69,11 @@ def _rule(text: str) -> Rule:
 
 
 def is_note(code: str) -> bool:
-    """Whether it is the code of a note of shellcheck."""
+    """Whether it is the code of a note, which isn't shown unless that is asked for."""
+    return is_of_shellcheck(code) or code in entries_of_notes()
+
+
+def is_of_shellcheck(code: str) -> bool:
     return NOTE.fullmatch(code) is not None
 
 
@@ -101,8 +106,8 @@ class IgnoreFiles:
         return bool(self._untold)
 
     def tell_unused(self, unknown: Collection[str]) -> None:
-        """Says of each file, once until it changes, which rules have ignored nothing, except those on notes of shellcheck, which only open
-        files have, and those that may be about the files of `unknown`, whose faults aren't all known."""
+        """Says of each file, once until it changes, which rules have ignored nothing, except those on notes, which only open files have,
+        and those that may be about the files of `unknown`, whose faults aren't all known."""
         unused = set(self._rules.unused())
         for file, texts in self._untold.items():
             rules = [str(rule) for rule in dict.fromkeys(map(_rule, texts)) if rule in unused and not is_note(rule.code)
@@ -123,7 +128,7 @@ def _stamp(file: str) -> tuple[int, ...]:
 
 
 def is_code(text: str) -> bool:
-    """Whether a text is the code of an entry or of a note of shellcheck."""
+    """Whether a text is the code of an entry or of a note."""
     return is_note(text) or any(entry.code == text for entry in entries())
 
 

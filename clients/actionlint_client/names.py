@@ -53,13 +53,19 @@ def likely(wrong: str, known: Iterable[str]) -> list[tuple[str, bool]]:
     meant = misspelled(wrong, names_)
     if meant is not None:
         return [(meant, True)]
-    found = near(wrong, names_) or [name for name in names_ if _begins_with(wrong, name) or _begins_with(name, wrong)]
-    return [(name, False) for name in found]
+    begun = [name for name in names_ if len(name) > 2 and SEPARATORS.search(wrong) is None and wrong.lower().startswith(name.lower())]
+    found = begun or near(wrong, names_) or [name for name in names_ if _is_part(wrong, name) or _is_part(name, wrong)]
+    return [(name, False) for name in found if name != wrong]
 
 
-def _begins_with(name: str, words: str) -> bool:
-    """Whether a name has some words before others."""
-    return len(words) > 2 and bool(SEPARATORS.match(name, len(words))) and name.startswith(words)
+def _is_part(words: str, name: str) -> bool:
+    """Whether a name has some words before or after others, whatever their case, or is a word that begins with another."""
+    words, name = words.lower(), name.lower()
+    if len(words) < 3 or words == name:
+        return False
+    if name.startswith(words):
+        return SEPARATORS.match(name, len(words)) is not None or SEPARATORS.search(name) is None
+    return name.endswith(words) and SEPARATORS.fullmatch(name[-len(words) - 1]) is not None
 
 
 def _bare(name: str) -> str:

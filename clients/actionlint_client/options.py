@@ -16,9 +16,10 @@ def options(words: list[str] | None = None) -> argparse.Namespace:
     add_help_and_version(parser)
     parser.add_argument("--program", help=f"the linter (default: {WHICH})")
     parser.add_argument("--docs", metavar="ADDRESS",
-                        help="the address of the pages of faults, for links (default: the folder docs beside clients)")
+                        help="the address of the pages of faults, for links (default: the directory docs beside clients)")
     parser.add_argument("--no-earlier-faults", action="store_true",
                         help="while a file isn't valid YAML, don't keep showing its earlier faults")
+    parser.add_argument("--no-notes", action="store_true", help="don't show notes on what GitHub refuses and the linter accepts")
     parser.add_argument("--shellcheck", action="store_true", help="also show shellcheck's notes on the scripts of open files")
     parser.add_argument("--ignore-file", metavar="FILE", action="append", default=[],
                         help="a file with a CODE[:PATH] on each line, of faults that aren't shown; may be repeated")

@@ -3,7 +3,7 @@ from __future__ import annotations
 
 import re
 
-from .operators import tokens
+from .operators import Choice, choice, tokens
 
 PAIRS = {"(": ")", "[": "]"}
 CONTEXTS = "github|env|vars|job|jobs|steps|runner|secrets|strategy|matrix|needs|inputs"
@@ -14,7 +14,10 @@ BETWEEN_NAMES = re.compile(rf"(?<![\w.-])({CONTEXTS})(?:->|\.\.|::?|/)(?=[A-Za-z
 OTHER_BRACKETS = re.compile(rf"(?<![\w.-])({FUNCTIONS})\s*(?:\[([^\[\]{{}}]*)\]|\{{([^\[\]{{}}]*)\}})", re.I)
 NO_BRACKETS = re.compile(rf"(?<![\w.-])({FUNCTIONS})\s+([\w.*-]+\s*,\s*'[^']*')", re.I)
 BETWEEN_OPERANDS = re.compile(r"(?<![\w.*-])([\w.*-]+)\s+(contains|startsWith|endsWith)\s+('[^']*')", re.I)
-IS_NOT = re.compile(r"(?<=\s)is\s+not(?=\s)", re.I)
+DEFAULT = re.compile(r"\|\s*default\(((?:[^()']|'[^']*')*)\)")
+STAR_IN_BRACKETS = re.compile(r"\.?\[\*\]")
+IS_NOT = re.compile(r"(?<=\s)is\s+not(?=\s)|(?<=[\w\])]\s)not(?=\s+$)", re.I)
+WORD_OF_CHOICE = re.compile(r"(?<![\w.-])(if|then|else)(?![\w.-])")
 IS = re.compile(r"(?<=\s)(?:is|equals?)(?=\s)", re.I)
 SPACE_IN_OPERATOR = re.compile(r"([=!]) =|& &|\| \|")
 BRACKETED_WORDS = re.compile(r"(,\s*)(\[[A-Za-z][\w -]*\])(?=\s*\))")
@@ -64,6 +67,16 @@ def without_stray_brackets(text: str) -> str:
     return text if stray is None else text[:stray] + text[stray + 1:]
 
 
+def with_default(text: str) -> str:
+    """A text with `||` in place of a filter that gives a default."""
+    return DEFAULT.sub(lambda match: "|| " + match[1].strip(), text)
+
+
+def with_stars(text: str) -> str:
+    """A text with `.*` in place of a star in brackets."""
+    return STAR_IN_BRACKETS.sub(".*", text)
+
+
 def with_comparison(text: str) -> str:
     """A text with operators in place of words that compare."""
     return IS.sub("==", IS_NOT.sub("!=", text))
@@ -83,6 +96,22 @@ def with_equal_quotes(text: str) -> str:
     if text.count('"') == 1 and text.count("'") % 2:
         return text.replace('"', "'")
     return re.sub(r"([=!]=\s*)([\w./-]+')", r"\1'\2", text) if text.count("'") % 2 else text
+
+
+def choice_in_words(text: str) -> Choice | None:
+    """`if a then b else c`, or `b if a else c`, as `a && b || c`."""
+    found = [part.strip() for part in WORD_OF_CHOICE.split(text)]
+    words, operands = found[1::2], found[::2]
+    if words == ["if", "then", "else"] and not operands[0]:
+        condition, yes, no = operands[1:]
+    elif words == ["if", "else"]:
+        yes, condition, no = operands
+    else:
+        return None
+    is_whole = all(operand and operand.count("'") % 2 == 0 for operand in (condition, yes, no))
+    made = choice(condition, yes, no) if is_whole else None
+    before, after = text[:len(text) - len(text.lstrip())], text[len(text.rstrip()):]
+    return made and Choice(before + made.text + after, made.doubtful)
 
 
 def without_if(text: str) -> str:

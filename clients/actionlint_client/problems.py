@@ -1,6 +1,7 @@
 """What a report says about a fault: its code, level and entry, and the first fix for it."""
 from __future__ import annotations
 
+import re
 from dataclasses import dataclass
 from typing import TYPE_CHECKING
 
@@ -11,6 +12,8 @@ if TYPE_CHECKING:
     from .repair import Repair
 
 ERROR, WARNING, NOTE = "error", "warning", "note"
+# The kind of notes on what the linter accepts and GitHub doesn't, which aren't proved.
+NOTE_KIND = "note"
 
 
 @dataclass(frozen=True)
@@ -29,7 +32,7 @@ class Problem:
 
     def is_note(self) -> bool:
         """Whether it comes from another program than the linter."""
-        return self.link is not None
+        return self.link is not None or self.fault.kind == NOTE_KIND
 
     def has_code(self) -> bool:
         """Whether the code is one, and not the kind in its place."""
@@ -60,3 +63,10 @@ def level_of(code: str, fault: Fault) -> str:
     if (code, argument_of(fault.message)) == ("K2", "description"):
         return WARNING
     return WARNING if (code, fault.kind) == ("C2", "action") else ERROR
+
+
+def snippet_of(line: str, fault: Fault) -> tuple[bytes, ...]:
+    """The lines that the linter would print below a fault: a bar, the source line, and the marks."""
+    margin, before = " " * len(str(fault.line)), re.sub(r"[^\t]", " ", line[:fault.column - 1])
+    marks = f"{margin} | {before}^{'~' * ((fault.width or 1) - 1)}"
+    return f"{margin} |".encode(), f"{fault.line} | {line}".encode(), marks.encode()

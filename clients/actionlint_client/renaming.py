@@ -4,12 +4,13 @@ from __future__ import annotations
 import re
 from collections import Counter
 
+from .child import LinterEnded
 from .fixes import Counted, Trial
 from .folder import Program
 from .project import Project
 from .references import Occurrence, Symbol, all_of, callers, occurrence_at, occurrences
 from .repair import Edit, replaced
-from .session import LinterEnded, ReportTooLong
+from .session import ReportTooLong
 from .text import Point
 
 IDENTIFIER = re.compile(r"[A-Za-z_][\w-]*", re.A)

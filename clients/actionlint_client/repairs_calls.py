@@ -6,29 +6,25 @@ from collections import Counter
 from typing import Callable, Iterable
 
 from . import project as files
-from .names import likely, misspelled
+from .action_versions import versions
+from .names import likely
 from .operators import operators
 from .paths import ACTION_NAMES, WORKFLOW_ENDINGS, WORKFLOWS, is_workflow
-from .repair import Case, Edit, Found, Repair, as_scalar, entries_of, is_within_flow, next_entry, without_entry
+from .repair import Case, Edit, Found, Repair, as_scalar, entries_of, is_within_flow, next_entry, quoted, tight, without_entry
 from .repairs_keys import deleted, moved_below
 from .repairs_names import as_secret
 from .repairs_kinds import as_flag, as_number
 from .text import Point, Span
-from .tree import Node, Path
+from .tree import Node, Path, walk
 
 CALLED = "on:\n  workflow_call:\njobs:\n  build:\n    runs-on: ubuntu-latest\n    steps:\n      - run: make\n"
-# A version of each of these actions that exists.
-VERSIONS = {
-    "actions/cache": "v4", "actions/checkout": "v4", "actions/configure-pages": "v5", "actions/deploy-pages": "v4",
-    "actions/download-artifact": "v4", "actions/github-script": "v7", "actions/labeler": "v5", "actions/setup-dotnet": "v4",
-    "actions/setup-go": "v5", "actions/setup-java": "v4", "actions/setup-node": "v4", "actions/setup-python": "v5", "actions/stale": "v9",
-    "actions/upload-artifact": "v4", "actions/upload-pages-artifact": "v3", "docker/build-push-action": "v6", "docker/login-action": "v3",
-    "docker/metadata-action": "v5", "docker/setup-buildx-action": "v3", "docker/setup-qemu-action": "v3",
-    "codecov/codecov-action": "v5", "golangci/golangci-lint-action": "v6", "ruby/setup-ruby": "v1", "softprops/action-gh-release": "v2",
-}
 VALUES = {"boolean": "true", "number": "0", "string": "''"}
 # A workflow of another repository whose folder isn't named whole.
 OTHER_FOLDER = re.compile(r"([\w-]+/[\w.-]+)/(?:\.?github/)?(?:workflows?/)?([\w.-]+\.ya?ml@[\w./-]+)")
+# Inputs that take the token of the job, and those that take a secret.
+TOKEN_OF_JOB = re.compile(r"(?:(?:github|gh|repo|repository)[-_]?)?token", re.I)
+NAME_OF_SECRET = re.compile(r"(?:^|[-_])(?:token|password|passphrase|secret|(?:api|access|private|signing|ssh)[-_]?key)$", re.I)
+PLAIN_VALUE = re.compile(r"[\w./-]+")
 OWNER_AND_NAME = re.compile(r"[\w.-]+/[\w./-]+")
 
 
@@ -72,9 +68,17 @@ def near_declared(what: str) -> Callable[[Case], Iterable[Repair]]:
             declared = files.declarations(callee, case.project.good_tree(callee), what, True)
             given = {name.lower() for name in node.names("with" if what == "inputs" else "secrets")}
             free = [one.name for one in declared if one.name.lower() not in given]
-            yield from (case.replace(f'change to "{name}"', name, is_safe=is_slip) for name, is_slip in likely(case.arguments[0], free))
+            lacking = _lacking(node, declared, "with" if what == "inputs" else "secrets")
+            found = likely(case.arguments[0], free) or [(one.name, False) for one in lacking if len(lacking) == 1]
+            yield from (case.replace(f'change to "{name}"', name, is_safe=is_slip) for name, is_slip in found)
         yield from _without(case)
     return repairs
+
+
+def _lacking(node: Node, declared: list[files.Declaration], below: str) -> list[files.Declaration]:
+    """The required inputs or secrets that a call lacks."""
+    given = {name.lower() for name in node.names(below)}
+    return [one for one in declared if one.is_required and one.name.lower() not in given]
 
 
 def _without(case: Case) -> Iterable[Repair]:
@@ -100,8 +104,7 @@ def required(what: str) -> Callable[[Case], Iterable[Repair]]:
         below = "with" if what == "inputs" else "secrets"
         declared = files.declarations(callee, case.project.good_tree(callee), what, True)
         one = next((one for one in declared if one.name.lower() == case.arguments[0].lower()), None)
-        given = {name.lower() for name in node.names(below)}
-        lacking = [other for other in declared if other.is_required and other.name.lower() not in given]
+        lacking = _lacking(node, declared, below)
         there = list(_written_elsewhere(case, node, below, one.name)) if one else []
         yield from there
         if there:
@@ -121,10 +124,14 @@ def _written_elsewhere(case: Case, node: Node, below: str, name: str) -> Iterabl
     key, value = node.key(name), node.get(name)
     if key and value:
         yield from moved_below(case, Found((*path, name), key, value, node))
-    around = node.get(below)
-    for key, _ in around.entries if around else ():
-        if misspelled(key.value, [name]):
-            yield case.replace(f'change "{key.value}" to "{name}"', name, key.span, is_safe=True)
+    around, callee = node.get(below), _call(case)[1]
+    what = "secrets" if below == "secrets" else "inputs"
+    known = files.declarations(callee, case.project.good_tree(callee), what, True) if callee else []
+    unknown = [key for key, _ in around.entries if key.value.lower() not in [one.name.lower() for one in known]] if around and known else []
+    is_only = len(unknown) == len(_lacking(node, known, below)) == 1
+    for key in unknown:
+        found = likely(key.value, [name]) or [(name, False)] * is_only
+        yield from (case.replace(f'change "{key.value}" to "{name}"', name, key.span, is_safe=is_slip) for _, is_slip in found)
     inputs = node.get("with")
     key, value = (inputs.key(name), inputs.get(name)) if inputs and below == "secrets" else (None, None)
     if inputs and key and value:
@@ -152,13 +159,37 @@ def action_of_job(case: Case) -> Iterable[Repair]:
 
 def variables_as_inputs(case: Case) -> Iterable[Repair]:
     """The variables of a job that calls a workflow of the folder, passed as inputs if the workflow has them all."""
-    here = case.key
     job, callee, of_job = _call(case)
-    if here is None or job is None or callee is None or not of_job or here.path[-1] != "env" or job.get("with") or not here.value.entries:
+    key, env, given = (job.key("env"), job.get("env"), job.get("with")) if job else (None, None, None)
+    if job is None or key is None or env is None or callee is None or not of_job or not env.entries:
         return
     declared = {one.name for one in files.declarations(callee, case.project.good_tree(callee), "inputs", True)}
-    if declared.issuperset(here.value.names()):
-        yield case.replace('change to "with"', "with")
+    if not declared.issuperset(env.names()):
+        return
+    if given is None:
+        yield case.replace('change to "with"' if case.code == "K6" else 'change "env" to "with"', "with", key.span)
+    elif given.entries and not given.is_flow and not env.is_flow and not set(given.names()) & set(env.names()):
+        indent = "\n" + " " * env.entries[0][0].span.start.column
+        texts = (case.slice(Span(name.span.start, tight(case, value).end)).replace(indent, "\n") for name, value in env.entries)
+        added = next_entry(case, given, given.entries[-1][0].value, "\n".join(texts))
+        yield case.of('put its entries below "with"', without_entry(case, job, key), added)
+
+
+def list_as_text(case: Case) -> Iterable[Repair]:
+    """A list as the text that an input takes: JSON for a called workflow, lines for an action."""
+    here = case.value
+    texts = [item.value for item in here.value.items if item.kind == "scalar"] if here else []
+    if here is None or here.key is None or here.path[-2:-1] != ("with",) or not texts or len(texts) != len(here.value.items):
+        return
+    if any('"' in text or "\n" in text for text in texts):
+        return
+    after = Span(Point(here.key.span.end.line, here.key.span.end.column + 1), tight(case, here.value).end)
+    if here.path[2:3] == ("with",):
+        json = "[" + ", ".join(f'"{text}"' for text in texts) + "]"
+        yield case.replace("write it as JSON", " " + quoted(json), after)
+    elif not is_within_flow(case, here.path):
+        indent = "\n" + " " * (here.key.span.start.column + 2)
+        yield case.replace("write it in lines", " |" + "".join(indent + text for text in texts), after)
 
 
 def _all_secrets(case: Case, job: Node) -> Iterable[Repair]:
@@ -171,9 +202,11 @@ def _all_secrets(case: Case, job: Node) -> Iterable[Repair]:
 
 
 def _given(case: Case, node: Node, below: str, declared: list[files.Declaration]) -> Iterable[Repair]:
-    entries = [f"{one.name}: {_value_of(one, below)}" for one in declared]
+    entries = [f"{one.name}: {_value_of(case, one, below)}" for one in declared]
     title = "add " + ", ".join(f'"{entry}"' for entry in entries)
     around = node.get(below)
+    if node.is_flow or around and around.is_flow:
+        entries = [f"{one.name}: {as_scalar(_value_of(case, one, below), '', True)}" for one in declared]
     if around and around.entries:
         yield case.of(title, next_entry(case, around, around.entries[-1][0].value, (", " if around.is_flow else "\n").join(entries)))
     elif around is None:
@@ -185,11 +218,33 @@ def _given(case: Case, node: Node, below: str, declared: list[files.Declaration]
         yield case.of(title, Edit(Span(key.span.end, around.span.end), ": {" + ", ".join(entries) + "}"))
 
 
-def _value_of(one: files.Declaration, below: str) -> str:
+def _value_of(case: Case, one: files.Declaration, below: str) -> str:
+    """A first value: a secret for what is named as one, the default, or one of its type."""
     if below == "secrets":
         return f"${{{{ secrets.{one.name} }}}}"
+    if is_workflow(case.file) and TOKEN_OF_JOB.fullmatch(one.name):
+        return "${{ github.token }}"
+    if is_workflow(case.file) and NAME_OF_SECRET.search(one.name) and _call(case)[2] is False:
+        return "${{ secrets.%s }}" % re.sub(r"\W", "_", one.name).upper()
+    others = _given_elsewhere(case, one.name)
+    if len(others) == 1 and (one.value.text("type") == "number" or max(others.values()) > 1):
+        return next(iter(others))
     default = one.value.text("default")
     return default if default and re.fullmatch(r"[\w./-]+", default) else VALUES.get(one.value.text("type") or "", "''")
+
+
+def _given_elsewhere(case: Case, name: str) -> Counter[str]:
+    """The plain values that other calls of the same file in this folder give an input."""
+    node = _call(case)[0]
+    uses = node.text("uses") if node else None
+    found: Counter[str] = Counter()
+    for path in case.project.paths() if uses else ():
+        tree = case.project.good_tree(path) if uses and uses in case.project.text(path) else None
+        for _, _, value in walk(tree) if tree else ():
+            given = value.at(("with", name)) if value.kind == "mapping" and value.text("uses") == uses else None
+            if given and given.kind == "scalar" and PLAIN_VALUE.fullmatch(given.value):
+                found[given.value] += 1
+    return found
 
 
 def other_type(case: Case) -> Iterable[Repair]:
@@ -275,7 +330,7 @@ def _right_calls(case: Case, text: str) -> Iterable[tuple[str, bool]]:
     if not sign:
         match = re.fullmatch(r"([\w.-]+/[\w./-]+?)\s*(?:[:=# ]|==)\s*([\w.-]+)", bare)
         name, version = (match[1], match[2]) if match else (bare, "")
-    turned = re.fullmatch(r"([\w-]+)@([\w.-]+)/(v?\d[\w.]*)", bare)
+    turned = re.fullmatch(r"([\w-]+)[@/]([\w.-]+)/(v?\d[\w.]*)", bare)
     if turned:
         yield f"{turned[1]}/{turned[2]}@{turned[3]}", False
         return
@@ -287,13 +342,6 @@ def _right_calls(case: Case, text: str) -> Iterable[tuple[str, bool]]:
         yield f"{name}@{version}", name in bare
     else:
         yield from ((f"{name}@{known}", False) for known in versions(case.project, name))
-
-
-def versions(project: files.Project, name: str) -> list[str]:
-    """The versions of an action that the folder uses, the most frequent first, or else one that is known to exist."""
-    used = re.compile(rf"uses['\"]?\s*:\s*['\"]?{re.escape(name)}@([\w./-]+)", re.I)
-    found = Counter(version for path in project.paths() for version in used.findall(project.text(path)))
-    return [version for version, _ in found.most_common()] or [VERSIONS[name] for name in [name.lower()] if name in VERSIONS]
 
 
 def local_action_of_job(case: Case) -> Iterable[Repair]:
@@ -343,9 +391,10 @@ def without_step(case: Case) -> Iterable[Repair]:
 
 REPAIRS: dict[str, tuple[Callable[[Case], Iterable[Repair]], ...]] = {
     "C1": (near_file,),
+    "K4": (list_as_text,),
     "K6": (action_of_job, variables_as_inputs),
     "C2": (declared_as_secret, near_declared("inputs"),),
-    "C3": (required("inputs"),),
+    "C3": (variables_as_inputs, required("inputs")),
     "C4": (other_type,),
     "C5": (near_declared("secrets"),),
     "C6": (required("secrets"),),

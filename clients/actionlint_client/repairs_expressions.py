@@ -4,12 +4,15 @@ from __future__ import annotations
 import re
 from typing import Callable, Iterable, NamedTuple
 
-from .expressions import CHAIN, NAME, STRING, links
+from .expression_texts import (COMPARISONS, coalesced, doubled, doubled_with_quotes, outside, outside_texts, spread, with_all_operators,
+                               with_calls, with_double_braces, with_equals, with_format, with_null, with_operators, with_plain_dots,
+                               with_plain_spaces, with_single_quotes, without_curly_quotes)
+from .expressions import CHAIN, STRING, links
 from .missing_signs import closed_at_ends, with_apostrophes, with_closed_json
-from .operators import Choice, Token, choice, choice_in, grouped, operators, parts, tokens
-from .other_syntax import (template_as_format, with_comparison, with_dots, with_equal_quotes, with_matching_brackets, with_round_brackets,
-                           with_single_commas, with_text_in_brackets, without_if, without_spaces_in_operators,
-                           without_stray_brackets)
+from .operators import Choice, Token, choice, choice_in, grouped, operators, tokens
+from .other_syntax import (choice_in_words, template_as_format, with_comparison, with_default, with_dots, with_equal_quotes,
+                           with_matching_brackets, with_round_brackets, with_single_commas, with_stars, with_text_in_brackets, without_if,
+                           without_spaces_in_operators, without_stray_brackets)
 from .repair import NEEDS_QUOTES, Case, Repair, as_scalar, is_within_flow
 from .syntax import is_condition
 from .text import Point, Span
@@ -17,33 +20,16 @@ from .text import Point, Span
 BRACES = re.compile(r"\$\{\{((?:[^$}]|\$(?!\{\{)|\}(?!\}))*)\}\}")
 MANY_BRACES = re.compile(r"\$\{{3,}([^{}]*)\}{2,}")
 NESTED_BRACES = re.compile(r"\$\{\{([^{}]*)\$\{\{([^{}]*)\}\}([^{}]*)\}\}")
-DOUBLE_QUOTED = re.compile(r'\\?"([^"\\]*)\\?"')
-CURLY = "\u2018\u2019\u201a\u201c\u201d\u201e\u00b4`"
-CURLY_QUOTED = re.compile(rf"[{CURLY}]([^'\"{CURLY}]*)[{CURLY}]")
-ODD_SPACES = re.compile("[\u00a0\u2000-\u200a\u202f\u3000]")
-OPTIONAL_DOT = re.compile(r"(?<=[\w\])])\?\.(?=[A-Za-z_])")
-OTHER_NULL = re.compile(r"([=!]=\s*)(?:undefined|None|nil)\b")
 VERSION = re.compile(r"(?<![\w.-])v?\d[\w-]*(?:\.[\w-]+)+")
-SINGLE_EQUALS = re.compile(r"(?<![=!<>])=(?!=)")
-WORD_OPERATORS = {"and": "&&", "or": "||", "eq": "==", "ne": "!="}
-WORDS = re.compile(r"(?<![\w.-])(" + "|".join(WORD_OPERATORS) + r")(?![\w.-])", re.I)
-NOT = re.compile(r"(?<![\w.-])not(?![\w.-])\s*", re.I)
 VARIABLE = re.compile(r"\$\{?(GITHUB_|RUNNER_)?([A-Z_][A-Z0-9_]*)\}?")
-METHOD = re.compile(rf"(?<![\w.-])({NAME}(?:\.{NAME})*?)\.(contains|startsWith|endsWith)\(")
-AMONG = re.compile(rf"(?<![\w.-])({NAME}(?:\.{NAME})*)\s+in\s+[\[(]([^\[\]()]*)[\])]")
-LISTED = re.compile(rf"(?<![\w.-])({NAME}(?:\.{NAME})*)\s*([=!])=\s*\[([^\[\]()]*)\]")
-TEXT_IN = re.compile(rf"(?:\bcontains\(\s*)?('[^']*')\s+in\s+({NAME}(?:\.(?:{NAME}|\*))*)(?![\w.(\[])")
-LIST_ARGUMENT = re.compile(r"\(\s*\[([^\[\]]*)\]\s*,")
 CALL_OF_CHOICE = re.compile(r"\b(case|iif|if|ternary|choose)\s*\(")
 ARGUMENTS = re.compile(r"(?:'(?:[^']|'')*'|[^()']|\((?:[^()']|'[^']*')*\))*")
 ARGUMENT = re.compile(r"(?:'(?:[^']|'')*'|\((?:[^()']|'[^']*')*\)|[^,()'])+")
 MAX_CONDITION_CHARACTERS = 5_000
 TWO_QUOTES = "''"
 NO_SIGNS = (";", "$", "\\")
-SUM = re.compile(rf"({CHAIN.pattern}|'[^']*')((?:\s*\+\s*(?:{CHAIN.pattern}|'[^']*'))+)")
 WORD = re.compile(r"[^\s'\"()=!,]*")
 TEST = re.compile(r"[=!<>]=|[<>]|\w\(")
-COMPARISONS = ("==", "!=", "<", ">", "<=", ">=")
 
 
 class Expression(NamedTuple):
@@ -110,100 +96,6 @@ def in_yaml(text: str, expression: Expression) -> str:
     return text.replace('"', '\\"') if expression.style == '"' else text
 
 
-def _outside_texts(text: str, change: Callable[[str], str]) -> str:
-    """A text with changes only outside of quotes."""
-    found, at = [], 0
-    for match in STRING.finditer(text):
-        found += [change(text[at:match.start()]), match[0]]
-        at = match.end()
-    return "".join([*found, change(text[at:])])
-
-
-def _outside(change: Callable[[str], str]) -> Callable[[str], str]:
-    """A change of a text that keeps what is in quotes."""
-    return lambda text: _outside_texts(text, change)
-
-
-def _single_quotes(text: str) -> str:
-    if "`" in text and "${" in text or _without_curly_quotes(text):
-        return text
-    changed = DOUBLE_QUOTED.sub(lambda match: "'" + match[1].replace("'", "''") + "'", text)
-    return _outside_texts(changed, lambda part: CURLY_QUOTED.sub(r"'\1'", part))
-
-
-def _without_curly_quotes(text: str) -> str | None:
-    """What stands in curly quotes that are around all of an expression, if it isn't a name."""
-    whole = CURLY_QUOTED.fullmatch(text.strip())
-    return whole[1] if whole and re.search(r"[(.=&|]", whole[1]) else None
-
-
-def _plain_spaces(text: str) -> str:
-    return _outside_texts(text, lambda part: ODD_SPACES.sub(" ", part))
-
-
-def _equals(text: str) -> str:
-    return _outside_texts(text, lambda part: re.sub(r"===+", "==", part).replace("!==", "!=").replace("<>", "!="))
-
-
-def _operators(text: str, with_lone_texts: bool = False) -> str:
-    changed = _outside_texts(text, lambda part: WORDS.sub(lambda match: WORD_OPERATORS[match[1].lower()], part))
-    changed = _equals(changed)
-    changed = _without_words(_outside_texts(changed, lambda part: re.sub(r"! (?=\S)", "!", part)))
-    has_lone_text = len(parts(changed, "||")) > 1 and any(STRING.fullmatch(part) for part in parts(changed, "||")[1:])
-    return text if has_lone_text and "==" in changed and not with_lone_texts else changed
-
-
-def _spread(text: str) -> str | None:
-    """`a == 'x' or 'y'` as `a == 'x' || a == 'y'`."""
-    found = parts(_operators(text, True), "||")
-    first = re.fullmatch(r"(.+?)\s*==\s*'[^']*'", found[0])
-    if first is None or len(operators(found[0])) != 1 or not any(STRING.fullmatch(part) for part in found[1:]):
-        return None
-    return " || ".join(f"{first[1]} == {part}" if STRING.fullmatch(part) else part for part in found)
-
-
-def _without_words(text: str) -> str:
-    """`not a == b` as `!(a == b)`: the word holds for all up to the next `&&` or `||`."""
-    while (match := next((match for match in NOT.finditer(text) if not _is_in_text(text, match.start())), None)) is not None:
-        rest = text[match.end():]
-        ends = (token.start for token in tokens(rest) if token.depth < 0 or token.depth == 0 and token.text in ("&&", "||", ","))
-        end = next(ends, len(rest))
-        operand = rest[:end]
-        tail = operand[len(operand.rstrip()):]
-        text = text[:match.start()] + "!" + grouped(operand.strip(), COMPARISONS) + tail + rest[end:]
-    return text
-
-
-def _is_in_text(text: str, offset: int) -> bool:
-    return any(match.start() < offset < match.end() for match in STRING.finditer(text))
-
-
-def _plain_dots(text: str) -> str:
-    return _outside_texts(text, lambda part: OPTIONAL_DOT.sub(".", part))
-
-
-def _null(text: str) -> str:
-    return _outside_texts(_equals(text), lambda part: OTHER_NULL.sub(r"\1null", part))
-
-
-def _coalesced(text: str) -> str:
-    return _outside_texts(text, lambda part: part.replace("??", "||"))
-
-
-def _doubled(text: str) -> str:
-    changed = _outside_texts(text, lambda part: SINGLE_EQUALS.sub("==", part))
-    return _outside_texts(changed, lambda part: re.sub(r"(?<!&)&(?!&)", "&&", re.sub(r"(?<!\|)\|(?!\|)", "||", part)))
-
-
-def _all_operators(text: str) -> str:
-    return _operators(_doubled(_single_quotes(text)))
-
-
-def _double_braces(text: str) -> str | None:
-    bare = text.strip().removeprefix("$").lstrip()
-    return "${{ " + bare.strip("{}").strip() + " }}" if bare[:1] == "{" and bare[-1:] == "}" else None
-
-
 def from_context(case: Case) -> Iterable[Repair]:
     """Variables of the shell as properties: of `github` and `runner` by their names, of `env` if the file sets them."""
     expression = expression_of(case)
@@ -216,29 +108,15 @@ def from_context(case: Case) -> Iterable[Repair]:
         if context == "env" and not re.search(rf"(?<!\w){re.escape(name)}['\"]?\s*[:=]", case.text):
             return str(match[0])
         return f"{context}.{name}"
-    text = _outside_texts(decoded(expression), lambda part: VARIABLE.sub(property_of, part))
+    text = outside_texts(decoded(expression), lambda part: VARIABLE.sub(property_of, part))
     if text != decoded(expression):
         yield with_expression(case, "take it from the context", expression, text)
 
 
-def _called(text: str) -> str:
-    """`a.contains(b)` as `contains(a, b)`, `a in [b]` likewise, and `[b]` as a list from JSON."""
-    changed = TEXT_IN.sub(lambda match: f"contains({match[2]}, {match[1]}" + ("" if match[0].startswith("contains") else ")"), text)
-    changed = LISTED.sub(lambda match: ("!" if match[2] == "!" else "") + f"contains({_json_list(match[3])}, {match[1]})", changed)
-    changed = METHOD.sub(lambda match: f"{match[2]}({match[1]}, ", changed)
-    changed = AMONG.sub(lambda match: f"contains({_json_list(match[2])}, {match[1]})", changed)
-    return LIST_ARGUMENT.sub(lambda match: f"({_json_list(match[1])},", changed)
-
-
-def _json_list(entries: str) -> str:
-    texts = ", ".join('"' + text.strip().strip("'\"") + '"' for text in entries.split(","))
-    return f"fromJSON('[{texts}]')"
-
-
 def as_choice(case: Case) -> Iterable[Repair]:
-    """`a ? b : c` as `a && b || c`, since expressions have no conditional operator."""
+    """`a ? b : c`, or the same in words, as `a && b || c`, since expressions have no conditional operator."""
     expression = expression_of(case)
-    made = choice_in(decoded(expression)) if expression else None
+    made = choice_in(decoded(expression)) or choice_in_words(decoded(expression)) if expression else None
     if expression and made:
         yield with_expression(case, title_of(made), expression, made.text, not made.doubtful)
 
@@ -282,16 +160,6 @@ def arguments_at(text: str, start: int) -> tuple[list[str], int]:
     return [part.strip() for part in ARGUMENT.findall(text[start:end])], end
 
 
-def _formatted(text: str) -> str | None:
-    """`a + 'b'` as a call of format. Without a string it may be a sum, which expressions don't have."""
-    def call(match: re.Match[str]) -> str:
-        parts = [part.strip() for part in match[0].split("+")]
-        if not any(part.startswith("'") for part in parts):
-            return str(match[0])
-        return f"format('{''.join('{%d}' % number for number in range(len(parts)))}', {', '.join(parts)})"
-    return SUM.sub(call, text)
-
-
 def closed_brackets(case: Case) -> Iterable[Repair]:
     """The brackets that are open, closed before the next `&&` or `||`, or else at the end."""
     expression = expression_of(case)
@@ -325,6 +193,9 @@ def with_and(case: Case) -> Iterable[Repair]:
     if here is None or not is_in_condition(case) or not TEST.search(case.line[column:]):
         return
     before = case.line[:column].rstrip()
+    if case.line[column:column + 1] == "," and not _unclosed(STRING.sub("", before)):
+        yield case.replace('write "&&"', " &&", Span.on_line(line, column, column + 1))
+        return
     if not before and here.value.style in ("|", ">") and line > here.value.span.start.line + 1:
         line, before = line - 1, case.line_at(line - 1).rstrip()
     if re.search(r"[\w')\]]$", before) and TEST.search(before):
@@ -372,6 +243,9 @@ def inner_braces(case: Case) -> Iterable[Repair]:
 
 
 def closed_text(case: Case) -> Iterable[Repair]:
+    """A string that isn't closed, closed where it may end. The strings after it seem to begin where they end, so in a condition of several
+    lines it may be one of a line above."""
+    yield from _closed_above(case)
     expression = expression_of(case)
     if expression:
         for text in closed_at_ends(decoded(expression)):
@@ -383,6 +257,17 @@ def closed_text(case: Case) -> Iterable[Repair]:
             yield case.replace("close the text", text + expression.text[len(stripped):], expression.span)
 
 
+def _closed_above(case: Case) -> Iterable[Repair]:
+    here, last = case.scalar, case.span.start.line
+    if here is None or here.value.span.start.line == last:
+        return
+    for line in range(here.value.span.start.line + (here.value.style in ("|", ">")), last):
+        text = case.lines[line]
+        if text.count("'") % 2 and here.value.style != "'":
+            yield from (case.replace("close the text", closed, Span.on_line(line, 0, len(text))) for closed in closed_at_ends(text))
+            return
+
+
 def second_brace(case: Case) -> Iterable[Repair]:
     """Two braces in place of one, or of two with a space between, that end an expression."""
     line, column = case.line, case.span.start.column
@@ -392,12 +277,20 @@ def second_brace(case: Case) -> Iterable[Repair]:
 
 
 def closed_braces(case: Case) -> Iterable[Repair]:
-    """Two braces after the expression."""
-    rest = case.line[case.span.start.column:]
-    match = re.match(rf"\$\{{\{{\s*{CHAIN.pattern}[^}}\n]*?(?=\}}|\s*['\"]?$)|\$\{{\{{[^}}]*", rest)
-    ends = [match.end()] if match else []
+    """Two braces after the expression: before one that is there, after all of it if it has an operator, or after its first name."""
+    rest, here = case.line[case.span.start.column:], case.scalar
+    whole = re.match(r"\$\{\{[^}\n]*", rest)
     chain = re.match(rf"\$\{{\{{\s*{CHAIN.pattern}", rest)
+    if whole is None or here is None:
+        return
+    text = whole[0].rstrip()
+    if here.value.style in ("'", '"') and text.endswith(here.value.style):
+        text = text[:-1].rstrip()
+    has_brace = rest[whole.end():whole.end() + 1] == "}"
+    is_one = has_brace or chain is None or re.match(r"\s*(?:[=!]=|&&|\|\||[<>(])", rest[chain.end():]) is not None
+    ends = [whole.end() if has_brace else len(text)] if is_one else []
     ends += [chain.end()] if chain else []
+    ends += [] if is_one else [len(text)]
     for end in dict.fromkeys(ends):
         tail = rest[end:end + 1]
         span = Span.on_line(case.span.start.line, case.span.start.column + end, case.span.start.column + end + (1 if tail == "}" else 0))
@@ -437,6 +330,11 @@ def is_operand(before: str, after: str) -> bool:
     return re.search(r"(?:[=!]=|[<>]=?|[\w]\(|,)\s*$", before) is not None or re.match(r"\s*(?:[=!]=|[<>])", after) is not None
 
 
+def is_alternative(before: str, after: str) -> bool:
+    """Whether what is between two texts is the last value of `||` and `&&`, or the one between them."""
+    return re.search(r"(?:&&|\|\|)\s*$", before) is not None and re.match(r"\s*(?:\}\}|\)|\|\||$)", after) is not None
+
+
 def is_compared(before: str, after: str) -> bool:
     return re.search(r"(?:[=!]=|[<>]=?)\s*$", before) is not None or re.match(r"\s*(?:[=!]=|[<>])", after) is not None
 
@@ -471,31 +369,35 @@ def one_pair(case: Case) -> Iterable[Repair]:
             yield case.replace(f"delete the {rest} beside the braces", alone, here.value.span, deletes=True)
 
 
-SINGLE_QUOTES = rewritten("write single quotes", _single_quotes, True)
-DOUBLED = rewritten('write "==", "&&", "||"', _doubled, True)
-SPREAD = rewritten("compare it with each", _spread)
-EQUALS = rewritten('write "==" and "!="', _equals, True)
-OPERATORS = rewritten('write "&&", "||", "!"', _operators, True)
+SINGLE_QUOTES = rewritten("write single quotes", with_single_quotes, True)
+DOUBLED = rewritten('write "==", "&&", "||"', doubled, True)
+DOUBLED_WITH_QUOTES = rewritten('write "==" and quotes', doubled_with_quotes)
+SPREAD = rewritten("compare it with each", spread)
+EQUALS = rewritten('write "==" and "!="', with_equals, True)
+OPERATORS = rewritten('write "&&", "||", "!"', with_operators, True)
 
-DOTS = rewritten('write "." after the context', _outside(with_dots))
+DOTS = rewritten('write "." after the context', outside(with_dots))
 OTHER_SYNTAX = (
-    rewritten("delete the space in the operator", _outside(without_spaces_in_operators), True), DOTS,
-    rewritten("write a call with round brackets", with_round_brackets), rewritten("write one comma", _outside(with_single_commas)),
+    rewritten("delete the space in the operator", outside(without_spaces_in_operators), True), DOTS,
+    rewritten("write a call with round brackets", with_round_brackets), rewritten("write one comma", outside(with_single_commas)),
     rewritten("write the other bracket", with_matching_brackets),
-    rewritten("write the operator", _outside(with_comparison)), rewritten("write single quotes", with_equal_quotes),
+    rewritten("write the operator", outside(with_comparison)), rewritten('write ".*"', outside(with_stars), True),
+    rewritten('write "||"', with_default),
+    rewritten("write single quotes", with_equal_quotes),
     rewritten("put it in quotes", with_text_in_brackets), rewritten("delete what isn't the condition", without_if, deletes=True))
 
 REPAIRS: dict[str, tuple[Callable[[Case], Iterable[Repair]], ...]] = {
     "X1": (rewritten("write a call of format", template_as_format), SINGLE_QUOTES,
-           rewritten("leave out the quotes", _without_curly_quotes), rewritten("write plain spaces", _plain_spaces, True),
-           DOUBLED, as_choice, EQUALS, OPERATORS, SPREAD,
-           rewritten('write "||", which takes the second for an empty text too', _coalesced), inner_braces,
-           rewritten('write "."', _plain_dots, True), rewritten('write "null"', _null), rewritten("write a call of format", _formatted),
-           rewritten("write the operators of expressions", _all_operators, True),
-           rewritten('write "${{" and "}}"', _double_braces, True), from_context, *OTHER_SYNTAX, second_brace, word_as_text,
+           rewritten("leave out the quotes", without_curly_quotes), rewritten("write plain spaces", with_plain_spaces, True),
+           DOUBLED, as_choice, EQUALS, OPERATORS, SPREAD, DOUBLED_WITH_QUOTES,
+           rewritten('write "||", which takes the second for an empty text too', coalesced), inner_braces,
+           rewritten('write "."', with_plain_dots, True), rewritten('write "null"', with_null),
+           rewritten("write a call of format", with_format),
+           rewritten("write the operators of expressions", with_all_operators, True),
+           rewritten('write "${{" and "}}"', with_double_braces, True), from_context, *OTHER_SYNTAX, second_brace, word_as_text,
            without_character),
-    "X2": (rewritten("write the apostrophe twice", with_apostrophes), closed_text),
-    "X3": (EQUALS, OPERATORS, SPREAD, DOUBLED, as_choice, *OTHER_SYNTAX, rewritten("call a function", _called), inner_braces,
+    "X2": (rewritten("write the apostrophe twice", with_apostrophes), rewritten("write single quotes", with_equal_quotes), closed_text),
+    "X3": (EQUALS, OPERATORS, SPREAD, DOUBLED, as_choice, *OTHER_SYNTAX, rewritten("call a function", with_calls), inner_braces,
            closed_brackets, with_comma, with_and, version_as_text, without_rest,
            rewritten("delete the bracket", without_stray_brackets, deletes=True), without_character),
     "X4": (rewritten("close the brackets", with_closed_json), closed_brackets, without_rest),

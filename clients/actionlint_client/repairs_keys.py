@@ -5,7 +5,7 @@ import itertools
 import re
 from typing import Callable, Iterable
 
-from .names import likely, misspelled
+from .names import likely, misspelled, names, near
 from .paths import is_workflow
 from .repairs_levels import moves
 from .repair import (FLOW_SIGNS, Case, Edit, Found, Repair, entries_of, first_entry, indented, next_entry, quoted, tight, without_entry,
@@ -29,7 +29,19 @@ OTHER_NAMES = {"timeout": "timeout-minutes", "command": "run", "script": "run", 
                "workdir": "working-directory", "inputs": "with", "input": "with", "parameters": "with", "environment": "env",
                "cmd": "run", "commands": "run", "action": "uses", "runner": "runs-on", "dependencies": "needs", "description": "name",
                "continue-on-failure": "continue-on-error", "ignore-errors": "continue-on-error", "matrix": "strategy",
-               "choices": "options", "values": "options", "enum": "options", "name": "group"}
+               "choices": "options", "values": "options", "enum": "options", "name": "group", "dependson": "needs", "displayname": "name",
+               "bash": "run", "pwsh": "run", "powershell": "run", "task": "uses", "settings": "with", "stages": "jobs", "pool": "runs-on",
+               "executor": "runs-on", "agent": "runs-on", "platform": "runs-on", "machine": "runs-on", "vmimage": "runs-on"}
+# What shows by a value which key it belongs to.
+VALUES_OF_KEYS = {"image": re.compile(r"(?:[\w./-]*/)?Dockerfile[\w.-]*|docker://\S+"), "main": re.compile(r"[\w./-]+\.[cm]?js"),
+                  "uses": re.compile(r"[\w.-]+/[\w./-]+@[\w./-]+|\./[\w./-]+"), "cron": re.compile(r"[\d*][\d*/,-]*(?: [\w*/,-]+){4}"),
+                  "using": re.compile(r"composite|docker|node\d\d"),
+                  "runs-on": re.compile(r"(?:ubuntu|windows|macos)-[\w.-]+|self-hosted"), "value": re.compile(r"\$\{\{.*\}\}")}
+# And by the keys of its entries.
+ENTRIES_OF_KEYS = {"steps": {"run", "uses"}, "jobs": {"runs-on", "steps", "uses"}}
+# Sections that can be a text, which is the value of one of their keys.
+SHORT_FORMS = {"concurrency": ("group", "Concurrency"), "environment": ("name", "Environment"), "container": ("image", "Container"),
+               "runs-on": ("labels", "RunsOn")}
 # Where a missing key is looked for.
 MAX_PLACES = 20
 STEP_STARTS = ("name", "id", "if")
@@ -42,10 +54,23 @@ def near_key(case: Case) -> Iterable[Repair]:
         return
     known = case.known_keys(here.path[:-1], (name for name in here.parent.names() if name != wrong))
     found = likely(wrong, known)
-    meant = OTHER_NAMES.get(wrong.lower())
+    meant = OTHER_NAMES.get(wrong.lower()) or next((key for key in known if fits(key, here.value)), None)
     if meant in known and not any(is_slip for _, is_slip in found):
-        yield in_its_quotes(case, str(meant))
+        only = here.value.entries[0][1] if len(here.value.entries) == 1 else None
+        if only and here.key and fits(str(meant), only):
+            yield case.replace(f'change to "{meant}"', f"{meant}: {case.slice(only.span)}", Span(here.key.span.start, only.span.end))
+        else:
+            yield in_its_quotes(case, str(meant))
     yield from (in_its_quotes(case, name, is_slip) for name, is_slip in found)
+
+
+def fits(key: str, value: Node) -> bool:
+    """Whether a value looks like those that a key takes, and no other key beside it."""
+    if key in ENTRIES_OF_KEYS:
+        entries = value.items if key == "steps" else [entry for _, entry in value.entries]
+        return bool(entries) and all(set(entry.names()) & ENTRIES_OF_KEYS[key] for entry in entries)
+    texts = [item.value for item in value.items] if key == "runs-on" and value.items else [value.value] if value.kind == "scalar" else []
+    return key in VALUES_OF_KEYS and any(VALUES_OF_KEYS[key].fullmatch(text) for text in texts)
 
 
 def unknown_beside(case: Case) -> Iterable[Repair]:
@@ -72,11 +97,29 @@ def one_level_deeper(case: Case) -> Iterable[Repair]:
         yield from _below(case, here, "strategy", lambda key: key in of_strategy)
     elif len(here.path) == 3 and case.job and here.path[-1] in of_step and not here.parent.get("steps") and not here.parent.get("uses"):
         yield from _as_step(case, here)
+    elif here.path[-1] in names()["permission scopes"] and here.value.value in names()["permission values"]:
+        given = here.parent.get("permissions")
+        if given is None:
+            yield from _below(case, here, "permissions", lambda key: key in names()["permission scopes"])
+        elif given.entries and not given.is_flow and here.key:
+            entry = case.slice(Span(here.key.span.start, here.value.span.end))
+            yield case.of('put it below "permissions"', without_entry(case, here.parent, here.key), first_entry(case, given, entry))
+    elif here.path[:1] == ("on",) and here.path[-2] in ("workflow_dispatch", "workflow_call") and _is_input(case, here):
+        known = table()["shapes"]["Call"]["keys"]
+        yield from _below(case, here, "inputs", lambda key: key not in known) if here.parent.get("inputs") is None else ()
     elif here.path[-2:-1] == ("strategy",) and here.parent.get("matrix") is None:
         yield from _below(case, here, "matrix", lambda key: key not in of_strategy)
     elif here.key and case.job and len(here.path) == 3 and here.path[-1] in of_run and here.parent.get("defaults") is None:
         span = Span(here.key.span.start, here.value.span.end)
         yield case.replace('put it below "defaults"', "defaults: {run: {" + case.slice(span) + "}}", span)
+
+
+def _is_input(case: Case, here: Found) -> bool:
+    """Whether all entries beside a key that the section of a call doesn't have look like inputs."""
+    shapes = table()["shapes"]
+    known, keys = shapes["Call"]["keys"], {*shapes["DispatchInput"]["keys"], *shapes["CallInput"]["keys"]}
+    values = [value for key, value in here.parent.entries if key.value not in known]
+    return all(value.entries and set(value.names()) <= keys for value in values)
 
 
 def _below(case: Case, here: Found, above: str, belongs: Callable[[str], bool]) -> Iterable[Repair]:
@@ -96,7 +139,7 @@ def _below(case: Case, here: Found, above: str, belongs: Callable[[str], bool]) 
 
 
 def below_inputs(case: Case) -> Iterable[Repair]:
-    """Keys of a call that its section doesn't have, as inputs below `with`; below `env` those of a script that look like variables."""
+    """Keys of a call that its section doesn't have, as inputs below `with`; below `env` those that look like variables."""
     if case.key:
         yield from moved_below(case, case.key)
 
@@ -107,9 +150,10 @@ def moved_below(case: Case, here: Found) -> Iterable[Repair]:
         return
     beside = here.parent.names()
     shape = shape_at(case.file, here.path[:-1], case.levels((*here.path[:-1], "")))
-    known = list(shape["keys"]) if shape and shape.get("section") in ("step", "job") else []
-    target = "with" if "uses" in beside else "env" if "run" in beside and here.key.value.isupper() else None
-    others = [name for name in beside if name not in known and misspelled(name, known) is None]
+    known = list(shape["keys"]) if shape and shape.get("section") in ("step", "job", "workflow") else []
+    is_variable = here.key.value.isupper() and not (shape and shape["section"] == "job" and "uses" in beside)
+    target = "env" if is_variable else "with" if "uses" in beside else None
+    others = [name for name in beside if name not in known and misspelled(name, known) is None and (name.isupper() or not is_variable)]
     if not known or target is None or here.key.value not in others:
         return
     around = here.parent.get(target)
@@ -152,6 +196,35 @@ def _as_step(case: Case, here: Found) -> Iterable[Repair]:
     start = Edit(Span.at(first), "steps:\n" + " " * (column + 2) + "- ")
     edits = [*indented(case, entries, "    ")][1:]
     yield case.of("make it a step", start, *edits)
+
+
+def below_sibling(case: Case) -> Iterable[Repair]:
+    """A key that only one of the sections beside it has, moved to its start."""
+    here = case.key
+    if here is None or here.key is None or here.parent.is_flow:
+        return
+    sections = [(key, value) for key, value in here.parent.entries if value.kind == "mapping" and not value.is_flow and not value.alias
+                and here.key.value in case.known_keys((*here.path[:-1], key.value), value.names())]
+    if len(sections) == 1 and all(path[:-1] != here.path[:-1] for path, _ in moves(case, here)):
+        key, section = sections[0]
+        entry = case.slice(Span(here.key.span.start, tight(case, here.value).end)).replace("\n" + " " * here.key.span.start.column, "\n")
+        removed = without_entry(case, here.parent, here.key)
+        yield case.of(f'put it below "{key.value}"', removed, first_entry(case, section, entry))
+
+
+def beside_short_form(case: Case) -> Iterable[Repair]:
+    """A key of a section beside that section, which is written as a text: both below its key."""
+    here = case.key
+    if here is None or here.key is None or here.parent.is_flow:
+        return
+    for name, (first, shape) in SHORT_FORMS.items():
+        short, key = here.parent.get(name), here.parent.key(name)
+        if short and key and short.kind == "scalar" and short.value and here.path[-1] in table()["shapes"][shape]["keys"]:
+            indent = "\n" + " " * (key.span.start.column + 2)
+            entry = case.slice(Span(here.key.span.start, tight(case, here.value).end)).replace("\n", "\n  ")
+            text = f":{indent}{first}: {case.slice(short.span)}{indent}{entry}"
+            removed = without_entry(case, here.parent, here.key)
+            yield case.of(f'put it below "{name}"', Edit(Span(key.span.end, short.span.end), text), removed)
 
 
 def part_of_value(case: Case) -> Iterable[Repair]:
@@ -265,7 +338,7 @@ def missing_key(case: Case) -> Iterable[Repair]:
     shape = shape_at(case.file, here.path, case.levels((*here.path, "")))
     row = shape["keys"].get(name, {}) if shape and "keys" in shape else {}
     wanted = [name, row["need"]] if isinstance(row.get("need"), str) else [name]
-    unknown = [key for key, _ in here.value.entries if shape and key.value not in shape.get("keys", ())]
+    unknown = [(key, value) for key, value in here.value.entries if shape and key.value not in shape.get("keys", ())]
     found = [*_renamed(case, unknown, wanted), *_moved_here(case, here.path, wanted)]
     yield from found
     if not found:
@@ -273,12 +346,13 @@ def missing_key(case: Case) -> Iterable[Repair]:
         yield from _added(case, here, name)
 
 
-def _renamed(case: Case, unknown: list[Node], wanted: list[str]) -> Iterable[Repair]:
-    """The keys that are a slip of a wanted one or another word for it."""
-    for key in unknown:
+def _renamed(case: Case, unknown: list[tuple[Node, Node]], wanted: list[str]) -> Iterable[Repair]:
+    """The keys that are a slip of a wanted one, like it, another word for it, or have a value for it."""
+    for key, value in unknown:
         meant = misspelled(key.value, wanted)
         other = OTHER_NAMES.get(key.value.lower())
-        name = meant or (other if other in wanted else None)
+        having = [one for one in wanted if one == other or fits(one, value) or one in near(key.value, [one])]
+        name = meant or (having[0] if having else None)
         if name:
             yield case.replace(f'change "{key.value}" to "{name}"', name, key.span, is_safe=meant is not None)
 
@@ -384,7 +458,7 @@ def excluded_patterns(case: Case) -> Iterable[Repair]:
 
 
 REPAIRS: dict[str, tuple[Callable[[Case], Iterable[Repair]], ...]] = {
-    "K1": (near_key, below_empty, below_inputs, one_level_deeper, step_of_keys, part_of_value, deleted),
+    "K1": (near_key, beside_short_form, below_sibling, below_empty, below_inputs, one_level_deeper, step_of_keys, part_of_value, deleted),
     "K2": (missing_key,),
     "K3": (new_step, another_job, repeated),
     "K6": (unknown_beside, new_step, excluded_patterns, deleted),

@@ -5,6 +5,7 @@ import itertools
 import re
 from typing import Callable, Iterable
 
+from .action_versions import VERSIONS, versions
 from .names import misspelled
 from .paths import is_workflow
 from .repair import Case, Edit, Found, Repair, indented, is_within_flow, quoted, tight
@@ -23,6 +24,7 @@ OTHER_FLAGS = {"1": "true", "enabled": "true", "enable": "true", "always": "true
                "never": "false"}
 NUMBERS = {word: number for number, word in enumerate("zero one two three four five six seven eight nine ten".split())}
 NUMBER = re.compile(r"(-?\d{1,9}(?:\.\d{1,9})?)\s*([A-Za-z]*)\.?")
+PARTS_OF_TIME = re.compile(r"(\d{1,4}) ?(?:h|hr|hours?) ?(\d{1,4}) ?(?:m|mins?|minutes?)")
 MINUTES = {"": 1.0, "m": 1.0, "min": 1.0, "mins": 1.0, "minute": 1.0, "minutes": 1.0, "h": 60.0, "hr": 60.0, "hrs": 60.0, "hour": 60.0,
            "hours": 60.0, "d": 1440.0, "day": 1440.0, "days": 1440.0, "s": 1 / 60, "sec": 1 / 60, "secs": 1 / 60, "second": 1 / 60,
            "seconds": 1 / 60}
@@ -52,6 +54,9 @@ def other_kind(case: Case) -> Iterable[Repair]:
             return
         yield case.replace("make it a list", f"[{text}]", value.span)
         if here.path[-2:-1] == ("steps",):
+            action = f"actions/{value.value}"
+            for version in versions(case.project, action) if action in VERSIONS else ():
+                yield case.replace(f'call "{action}@{version}"', f"uses: {action}@{version}", value.span)
             name = "uses" if CALL.fullmatch(value.value) else "run"
             yield case.replace(f'make it a step with "{name}"', f"{name}: {text}", value.span)
         pair = re.fullmatch(r"([\w-]+)[=:]\s*(.+)", value.value)
@@ -373,7 +378,11 @@ def as_number(case: Case, node: Node, units: dict[str, float]) -> Iterable[Repai
     match = NUMBER.fullmatch(text)
     if node.kind != "scalar":
         return
-    if text in NUMBERS:
+    parts = PARTS_OF_TIME.fullmatch(text)
+    if parts and "h" in units:
+        total = int(parts[1]) * 60 + int(parts[2])
+        yield case.replace(f'change to "{total}"', str(total), node.span, is_safe=True)
+    elif text in NUMBERS:
         yield case.replace(f'change to "{NUMBERS[text]}"', str(NUMBERS[text]), node.span, is_safe=True)
     elif match and not match[2]:
         yield case.replace(f'change to "{match[1]}"', match[1], node.span, is_safe=True)

@@ -26,13 +26,29 @@ def moved_line(case: Case) -> Iterable[Repair]:
     lines = range(number, _last_line(case, number, own) + 1)
     found = []
     for column in nearest:
-        path, rank = _section(case, number, column)
-        title = f"move it {_destination(case, path, column)}"
+        path, rank = section_of(case, number, column)
+        title = f"move it {destination(case, path, column)}"
         found.append((rank, abs(column - own), -column if rank == 0 else 0, moved(case, title, lines, column - own)))
+        if lines[1:] and column == min(indent_of(case.lines[line]) for line in lines[1:] if case.lines[line].strip()):
+            found.append((rank, abs(column - own), 0, moved(case, title, lines[:1], column - own)))
     # Of those where a section knows it, only the nearest are likely.
     reach = min((distance for rank, distance, _, _ in found if rank == 0), default=None)
     likely = [one for one in found if reach is None or one[0] == 0 and one[1] == reach]
     yield from (repair for *_, repair in sorted(likely, key=lambda one: (one[0], one[2])))
+
+
+def line_above(case: Case) -> Iterable[Repair]:
+    """A key above the fault's line that lacks indentation, so that the keys beside it seem to be below no other, moved to their column."""
+    number, own = case.span.start.line, indent_of(case.line)
+    for above in range(number - 1, max(number - MAX_LINES_ABOVE, -1), -1):
+        column = indent_of(case.lines[above])
+        if case.lines[above].strip() and column <= own:
+            elements = case.outline.lines[above].elements
+            if column < own and elements and elements[0].name is not None:
+                path, rank = section_of(case, above, own)
+                if rank == 0:
+                    yield moved(case, f'move "{elements[0].name}" {destination(case, path, own)}', [above], own - column)
+            return
 
 
 def indent_of(line: str) -> int:
@@ -50,13 +66,13 @@ def _last_line(case: Case, number: int, own: int) -> int:
     return last
 
 
-def _section(case: Case, number: int, column: int) -> tuple[Path, int]:
+def section_of(case: Case, number: int, column: int) -> tuple[Path, int]:
     """The path of the mapping that a line would be in at a column. With it, 0 if the section has the line's key and it isn't there yet,
     1 if any key can stand there, 2 otherwise."""
     elements = case.outline.lines[number].elements
     if number > MAX_LINES or not elements or elements[0].name is None:
         return (), 2
-    lines = [*case.lines[:number], " " * column + case.line.lstrip(" ")]
+    lines = [*case.lines[:number], " " * column + case.lines[number].lstrip(" ")]
     place = Outline(lines).place(Point(number, column))
     levels = (*place.around, place.siblings)
     if elements[0].name in known_keys(case.file, place.path, levels, set(place.siblings)):
@@ -65,7 +81,7 @@ def _section(case: Case, number: int, column: int) -> tuple[Path, int]:
     return place.path, 1 if shape and shape["free"] and "keys" not in shape else 2
 
 
-def _destination(case: Case, path: Path, column: int) -> str:
+def destination(case: Case, path: Path, column: int) -> str:
     """Where a key is moved, in words."""
     if path[-1:] and isinstance(path[-1], int):
         return "to the step above" if path[-2:-1] == ("steps",) else "to the entry above"
@@ -92,6 +108,13 @@ def another_level(case: Case) -> Iterable[Repair]:
         yield from (repair for _, repair in moves(case, case.key))
 
 
+def entry_of_another(case: Case) -> Iterable[Repair]:
+    """A key of an input, an output or a service that stands beside it, where it seems to be another one, moved to the one above."""
+    here = case.value
+    if here and here.key and len(here.path) > 1 and here.path[-2] in ("inputs", "outputs", "secrets", "services"):
+        yield from (repair for path, repair in moves(case, here) if len(path) == len(here.path))
+
+
 def moves(case: Case, here: Found) -> Iterator[tuple[Path, Repair]]:
     """The sections that have a key, and the repairs that move it there."""
     if here.key is None or here.parent.is_flow or case.lines[here.key.span.start.line][:here.key.span.start.column].strip():
@@ -100,10 +123,23 @@ def moves(case: Case, here: Found) -> Iterator[tuple[Path, Repair]]:
         # variables
         return
     lines = range(here.key.span.start.line, last_line(here.value, case.lines) + 1)
+    is_last = here.parent.entries[-1][0] is here.key
     for path, names, column in (*_sections_before(case, here), *_sections_around(case, here)):
         if here.key.value in case.known_keys(path, names):
-            title = f'move "{here.key.value}" {_destination(case, path, column)}'
-            yield path, moved(case, title, lines, column - here.key.span.start.column)
+            title = f'move "{here.key.value}" {destination(case, path, column)}'
+            by = column - here.key.span.start.column
+            is_outward = path == here.path[:len(path)] and not is_last
+            yield path, _moved_after(case, title, lines, by, here, path) if is_outward else moved(case, title, lines, by)
+
+
+def _moved_after(case: Case, title: str, lines: range, by: int, here: Found, path: Path) -> Repair:
+    """The lines of a key after the entry of an outer mapping that they are in, since they would end the entries below them."""
+    outer = case.at(*here.path[:len(path) + 1])
+    assert outer
+    end = last_line(outer, case.lines)
+    text = "".join("\n" + case.lines[line][-by:] for line in lines)
+    whole = Span(Point(lines[0], 0), Point(lines[-1] + 1, 0))
+    return case.of(title, Edit(whole, ""), Edit(Span.at(Point(end, len(case.lines[end]))), text))
 
 
 def _sections_before(case: Case, here: Found) -> list[tuple[Path, list[str], int]]:
@@ -139,5 +175,7 @@ def _sections_around(case: Case, here: Found) -> list[tuple[Path, list[str], int
 
 REPAIRS: dict[str, tuple[Callable[[Case], Iterable[Repair]], ...]] = {
     "K1": (another_level,),
+    "K4": (entry_of_another,),
+    "Y4": (line_above,),
     "G1": (another_level,),
 }

@@ -4,15 +4,15 @@ from __future__ import annotations
 import re
 from typing import Callable, Iterable
 
-from . import project as files
 from .expressions import chain_before
 from .names import likely, misspelled
 from .operators import grouped, parts
 from .paths import is_workflow
-from .report import Fault
 from .repair import Case, Edit, Found, Repair, first_entry, next_entry, quoted, without_entry, without_key
-from .repairs_expressions import choice_by_call, expression_of, in_yaml, is_operand, whole_chain
-from .repairs_steps import named_step, output_of_any_job, scope_of, shorter_chain
+from .repairs_expressions import choice_by_call, expression_of, in_yaml, is_alternative, is_in_condition, is_operand, whole_chain
+from .repairs_needs import declared_output, needed_job, needs_for_jobs, output_of_job
+from .repairs_steps import (OF_CONTEXTS, named_step, names_before, only_output, only_step, output_of_any_job, properties_before,
+                            same_name_elsewhere, scope_of, shorter_chain, unused_name)
 from .repairs_values import joined_property
 from .syntax import table
 from .text import Point, Span
@@ -32,17 +32,14 @@ OTHER_NULLS = ("none", "nil", "undefined")
 # Words for the state of a job or a step that the other one has.
 OTHER_STATES = {"needs": {"outcome": "result", "conclusion": "result", "status": "result", "state": "result"},
                 "steps": {"result": "outcome", "status": "outcome", "state": "outcome"}, "job": {"state": "status", "result": "status"}}
-PROPERTIES_OF_ALL = {"needs": ["result", "outputs"], "steps": ["outputs", "outcome", "conclusion"]}
-# Whose properties can be meant by a word without a context.
 OF_STRATEGY = {"fail-fast", "max-parallel"}
-OF_CONTEXTS = ("matrix", "inputs", "env", "needs", "steps", "github", "runner")
 
 
 def near_name(case: Case) -> Iterable[Repair]:
     """A similar name: a property that the object has here, a context or a function that is available here."""
     wrong = case.arguments[0]
     quote = case.written[:1] if case.written[:1] == "'" else ""
-    known = _properties_before(case) if case.code == "X13" else _scope_names(case)
+    known = properties_before(case) if case.code == "X13" else _scope_names(case)
     word = misspelled(wrong, WORDS) if case.code == "X7" else None
     for name, is_slip in [(word, True)] if word else likely(wrong, known):
         yield case.replace(f'change to "{name}"', quote + name + quote, is_safe=is_slip)
@@ -58,23 +55,6 @@ def _scope_names(case: Case) -> list[str]:
     return scope.functions() if case.code == "X9" else [one.name for one in scope.contexts()]
 
 
-def _properties_before(case: Case) -> list[str]:
-    """The properties of what is before the fault."""
-    scope = scope_of(case)
-    chain = _chain_before(case)
-    if len(chain) == 2 and chain[1] == "*" and chain[0].lower() in PROPERTIES_OF_ALL:
-        return PROPERTIES_OF_ALL[chain[0].lower()]
-    return [one.name for one in scope.properties(chain)] if scope and chain else []
-
-
-def _chain_before(case: Case) -> tuple[str, ...]:
-    expression = expression_of(case)
-    if expression is None or expression.span.start.line != case.span.start.line:
-        return ()
-    before = chain_before(case.line[expression.span.start.column:case.span.start.column + (1 if case.written[:1] == "'" else 0)])
-    return before.chain if before else ()
-
-
 def of_github(case: Case) -> Iterable[Repair]:
     """A property of `github` that is written without its context, or as the variable of its name."""
     name = case.arguments[0].lower().removeprefix("github_")
@@ -86,10 +66,14 @@ def of_github(case: Case) -> Iterable[Repair]:
 
 def other_property(case: Case) -> Iterable[Repair]:
     """The property that another word means: of `github`, or the state of a job or a step; or an output without `outputs`."""
-    before, wrong = _chain_before(case), case.arguments[0]
+    before, wrong = names_before(case), case.arguments[0]
     state = OTHER_STATES.get(before[0].lower(), {}).get(wrong.lower()) if before else None
     if state and len(before) == (1 if before[0].lower() == "job" else 2):
         yield case.replace(f'change to "{state}"', state)
+    if [one.lower() for one in before] == ["github"] and wrong.lower().startswith("event_"):
+        yield case.replace(f'change to "event.{wrong[6:]}"', f"event.{wrong[6:]}")
+    if [one.lower() for one in before] == ["needs"] and wrong.lower() == "result":
+        yield case.replace("change to needs.*.result", "*.result")
     scope = scope_of(case)
     if scope and len(before) == 2 and before[0].lower() in ("steps", "needs"):
         outputs = [one.name for one in scope.properties((*before, "outputs"))]
@@ -110,7 +94,7 @@ def declared_row(case: Case) -> Iterable[Repair]:
     added to the new row's only value."""
     chain, _ = whole_chain(case)
     job = case.at("jobs", case.job) if case.job else None
-    if job is None or job.get("matrix") or len(chain) != 2 or chain[0].lower() != "matrix" or likely(chain[1], _properties_before(case)):
+    if job is None or job.get("matrix") or len(chain) != 2 or chain[0].lower() != "matrix" or likely(chain[1], properties_before(case)):
         return
     value = "ubuntu-latest" if chain[1] == "os" else ""
     row = f"{chain[1]}: [{value or quoted('')}]"
@@ -170,7 +154,8 @@ def with_context(case: Case) -> Iterable[Repair]:
 
 
 def as_text(case: Case) -> Iterable[Repair]:
-    """A word that isn't a context, in quotes, if it is compared or an argument. What is compared on the right side can be nothing else."""
+    """A word that isn't a context, in quotes, if it is compared, an argument or a value to choose. What is compared on the right side can
+    be nothing else."""
     chain, span = whole_chain(case)
     expression = expression_of(case)
     match = re.match(r"[\w./*-]+(?:\[\w+\])?", case.line[span.start.column:]) if chain else None
@@ -178,7 +163,7 @@ def as_text(case: Case) -> Iterable[Repair]:
         return
     end = span.start.column + len(match[0])
     before, after = case.line[:span.start.column], case.line[end:]
-    if not is_operand(before, after):
+    if not is_operand(before, after) and not (is_alternative(before, after) and not is_in_condition(case)):
         return
     is_word = "." not in match[0] and not match[0].isupper() and not likely(chain[0], _scope_names(case)) and not list(with_context(case))
     is_compared_with_name = re.search(r"[\w\])]\s*[=!]=\s*$", before) is not None
@@ -202,77 +187,13 @@ def sibling_property(case: Case) -> Iterable[Repair]:
         yield case.replace(f"change to {text}", text, span)
 
 
-def needed_job(case: Case) -> Iterable[Repair]:
-    """`needs` with the job whose name is used, or with a similar one."""
-    chain, _ = whole_chain(case)
-    tree, job = case.tree, case.job
-    if tree is None or job is None or len(chain) < 2 or chain[0].lower() != "needs" or chain[1].lower() != case.arguments[0].lower():
-        return
-    free = [name for name in tree.names("jobs") if name not in files.dependents(tree, job) and name not in files.needed(tree, job)]
-    name = next((name for name in free if name.lower() == case.arguments[0].lower()), None)
-    needs = case.at("jobs", job, "needs")
-    wrong = [item for item in (needs.items or [needs]) if item.value not in tree.names("jobs")] if needs else []
-    slip = next((item for item in wrong if name and misspelled(item.value, [name])), None)
-    if name and slip:
-        yield case.replace(f'change "{slip.value}" to "{name}" in "needs"', name, slip.span)
-    elif name:
-        yield case.of(f'add "{name}" to "needs"', _need(case, job, name))
-    elif same := next((item for item in wrong if item.value.lower() == case.arguments[0].lower()), None):
-        yield from (case.of(f'change to "{one}", in "needs" too', Edit(case.span, one), Edit(same.span, one), is_safe=is_slip)
-                    for one, is_slip in likely(case.arguments[0], free))
-    elif not likely(case.arguments[0], files.needed(tree, job)):
-        yield from (case.of(f'change to "{one}", and add it to "needs"', Edit(case.span, one), _need(case, job, one))
-                    for one, _ in likely(case.arguments[0], free))
-
-
-def _need(case: Case, job: str, name: str) -> Edit:
-    """The edit that adds a job to the needs of another one."""
-    node = case.at("jobs", job)
-    needs = node.get("needs") if node else None
-    assert node
-    if needs is None:
-        return first_entry(case, node, f"needs: {name}")
-    if needs.kind == "scalar":
-        return Edit(needs.span, f"[{needs.value}, {name}]")
-    last = needs.items[-1] if needs.items else None
-    if last is None:
-        return Edit(needs.span, f"[{name}]")
-    if needs.is_flow:
-        return Edit(Span.at(last.span.end), f", {name}")
-    end = Point(last.span.end.line, len(case.lines[last.span.end.line]))
-    return Edit(Span.at(end), "\n" + " " * (last.span.start.column - 2) + "- " + name)
-
-
-def output_of_job(case: Case) -> Iterable[Repair]:
-    """An output of another job's step, as an output of that job."""
-    chain, span = whole_chain(case)
-    tree, job = case.tree, case.job
-    if tree is None or job is None or len(chain) != 4 or chain[0].lower() != "steps" or chain[2].lower() != "outputs":
-        return
-    for other in tree.names("jobs"):
-        node = tree.at(("jobs", other))
-        if other == job or node is None or chain[1] not in [step.text("id") for step in files.steps_of(tree, other)]:
-            continue
-        entry = f"{chain[3]}: ${{{{ steps.{chain[1]}.outputs.{chain[3]} }}}}"
-        outputs = node.get("outputs")
-        edits = [Edit(span, f"needs.{other}.outputs.{chain[3]}")]
-        if outputs is None:
-            edits.append(next_entry(case, node, "runs-on", f"outputs:\n  {entry}") if node.get("runs-on") else
-                         first_entry(case, node, f"outputs:\n  {entry}"))
-        elif outputs.get(chain[3]) is None and outputs.entries:
-            edits.append(first_entry(case, outputs, entry))
-        if other not in files.needed(tree, job) and other not in files.dependents(tree, job):
-            edits.append(_need(case, job, other))
-        yield case.of(f'pass it as an output of "{other}"', *edits)
-
-
 def declared_input(case: Case) -> Iterable[Repair]:
     """The input, as a new one of the file."""
     chain, _ = whole_chain(case)
     if not chain or chain[0].lower() != "inputs" or case.tree is None:
         return
     name = case.arguments[0]
-    if any(is_slip for _, is_slip in likely(name, _properties_before(case))):
+    if any(is_slip for _, is_slip in likely(name, properties_before(case))):
         return
     ways: list[Path] = [("on", "workflow_dispatch"), ("on", "workflow_call")] if is_workflow(case.file) else [()]
     for way in ways:
@@ -311,8 +232,10 @@ def other_context(case: Case) -> Iterable[Repair]:
     if context == "steps" and case.scalar and case.scalar.path[:3] == ("on", "workflow_call", "outputs"):
         yield from output_of_any_job(case, span)
     if context == "jobs" and case.job:
-        yield from _needs_for_jobs(case, chain, span)
+        yield from needs_for_jobs(case, chain, span)
     if context == "secrets" and not is_workflow(case.file):
+        if chain[1].lower() == "github_token":
+            yield case.replace("change to github.token", "github.token", span, is_safe=True)
         yield from _input_for_secret(case, chain, span)
     if context == "secrets" and is_workflow(case.file):
         yield from _by_env(case, chain, span)
@@ -325,16 +248,6 @@ def other_context(case: Case) -> Iterable[Repair]:
 
 def _is_condition_of_job(case: Case) -> bool:
     return case.job is not None and case.scalar is not None and case.scalar.path[2:] == ("if",)
-
-
-def _needs_for_jobs(case: Case, chain: tuple[str, ...], span: Span) -> Iterable[Repair]:
-    assert case.tree and case.job
-    name = next((one for one in case.tree.names("jobs") if one.lower() == chain[1].lower()), None)
-    edit = Edit(Span(span.start, Point(span.start.line, span.start.column + len("jobs"))), "needs")
-    if name and name in files.needed(case.tree, case.job):
-        yield case.of("change to needs", edit, is_safe=True)
-    elif name and name not in files.dependents(case.tree, case.job):
-        yield case.of(f'change to needs, and add "{name}" to "needs"', edit, _need(case, case.job, name))
 
 
 def _input_for_secret(case: Case, chain: tuple[str, ...], span: Span) -> Iterable[Repair]:
@@ -453,55 +366,12 @@ def moved_variable(case: Case) -> Iterable[Repair]:
     yield case.of("move it to the steps", removed, *edits)
 
 
-def declared_output(case: Case) -> Iterable[Repair]:
-    """The output, as a new one of the needed job or of the workflow that it calls."""
-    chain, _ = whole_chain(case)
-    job = case.at("jobs", chain[1]) if len(chain) == 4 and chain[0].lower() == "needs" and chain[2].lower() == "outputs" else None
-    if job is None:
-        return
-    name = case.arguments[0]
-    if any(is_slip for _, is_slip in likely(name, _properties_before(case))):
-        return
-    callee = case.project.callee(job.text("uses"), True)
-    if callee:
-        yield from _declared_by(case, callee, name)
-        return
-    steps = [step for step in files.steps_of(case.tree, chain[1]) if step.text("id")]
-    writes = [step for step in steps if name in files.written_outputs(step)] or steps
-    step = writes[-1].text("id") if writes else None
-    entry = f"{name}: {quoted('${{ steps.%s.outputs.%s }}' % (step, name)) if step else quoted('')}"
-    outputs = job.get("outputs")
-    title = f'add the output "{name}" to "{chain[1]}", ' + (f'from its step "{step}"' if step else "without a value")
-    if outputs and outputs.entries:
-        yield case.of(title, first_entry(case, outputs, entry))
-    elif outputs is None and job.get("runs-on"):
-        yield case.of(title, next_entry(case, job, "runs-on", f"outputs: {{{entry}}}" if job.is_flow else f"outputs:\n  {entry}"))
-
-
-def _declared_by(case: Case, callee: str, name: str) -> Iterable[Repair]:
-    """The output, as a new one of a called workflow, without a value yet."""
-    tree = case.project.tree(callee)
-    on = tree.get("on") if tree else None
-    call, key = (on.get("workflow_call"), on.key("workflow_call")) if on else (None, None)
-    if call is None or key is None:
-        return
-    other = Case(case.project, Fault(callee, 1, 1, "", "", 0), case.entry)
-    entry = f"{name}: {{value: ''}}"
-    outputs = call.get("outputs")
-    if outputs and outputs.entries:
-        edit = first_entry(other, outputs, entry)
-    elif call.kind == "mapping" and outputs is None:
-        edit = first_entry(other, call, f"outputs: {{{entry}}}")
-    else:
-        edit = Edit(Span(key.span.end, call.span.end), f": {{outputs: {{{entry}}}}}")
-    yield Repair(f'add the output "{name}" to {callee}, without a value', {callee: (edit,)})
-
-
 REPAIRS: dict[str, tuple[Callable[[Case], Iterable[Repair]], ...]] = {
     "X7": (near_name, unknown_word, of_github),
-    "X8": (other_context, moved_variable),
+    "X8": (other_context, output_of_job, moved_variable),
     "X9": (near_name, choice_by_call),
     "X10": (moved_variable,),
     "X14": (sibling_property,),
-    "X13": (other_property, shorter_chain, near_name, needed_job, named_step, output_of_job, declared_input, declared_output, declared_row),
+    "X13": (other_property, same_name_elsewhere, shorter_chain, near_name, needed_job, named_step, output_of_job, only_step,
+            unused_name, declared_input, declared_output, only_output, declared_row),
 }

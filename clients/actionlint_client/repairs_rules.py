@@ -6,10 +6,10 @@ import re
 from typing import Callable, Iterable
 
 from .expressions import CHAIN, links
-from .names import LISTS, likely, names
+from .names import LISTS, likely, misspelled, names
 from .repair import Case, Edit, Found, Repair, as_scalar, is_within_flow, next_entry, quoted, without_key
 from .repairs_expressions import BRACES
-from .repairs_keys import deleted, in_its_quotes
+from .repairs_keys import deleted, fits, in_its_quotes
 from .repairs_kinds import as_list, as_mapping
 from .repairs_levels import moves
 from .stricter import takes_access
@@ -29,14 +29,29 @@ GREATEST = (59, 23, 31, 12, 6)
 MAX_SCHEDULE_CHARACTERS = 200
 # Values that are often written instead of another one that isn't similar enough to be found.
 OTHER_VALUES = {"text": "string", "str": "string", "int": "number", "integer": "number", "float": "number", "bool": "boolean",
-                "list": "choice", "array": "string", "choice": "string", "environment": "string", "readonly": "read",
-                "read-only": "read", "rw": "write", "admin": "write",
+                "array": "string", "flag": "boolean", "checkbox": "boolean", "file": "string", "json": "string", "object": "string",
+                "choice": "string", "environment": "string", "readonly": "read",
+                "read-only": "read", "rw": "write", "admin": "write", "push": "write", "pull": "read",
                 "all": "write-all", "merged": "closed", "merge": "closed", "updated": "synchronize", "pushed": "synchronize",
                 "commented": "created", "approved": "submitted", "node18": "node20", "node22": "node24", "node14": "node20",
                 "node": "node20", "javascript": "node20", "shell": "bash", "bash.exe": "bash", "batch": "cmd", "python3": "python"}
+# Activity types of other events with the same meaning, the first that the event has.
+OTHER_TYPES = {"opened": "created submitted", "open": "opened created", "new": "opened created", "added": "created labeled",
+               "created": "opened submitted", "create": "created opened", "removed": "deleted", "updated": "synchronize edited",
+               "update": "synchronize edited", "changed": "edited synchronize", "modified": "edited", "finished": "completed",
+               "success": "completed", "failure": "completed", "done": "completed", "merged": "closed", "push": "synchronize",
+               "started": "in_progress requested", "synced": "synchronize"}
+OTHER_INPUT_TYPES = dict.fromkeys(("enum", "select", "dropdown", "option", "options", "choices", "list"), "choice string")
+OTHER_SCOPES = {**dict.fromkeys(("pr", "prs", "pull", "pulls", "merge-requests", "reviews"), "pull-requests"),
+                **dict.fromkeys(("code", "repo", "repository", "files", "releases"), "contents"),
+                **dict.fromkeys(("oidc", "token", "id", "jwt"), "id-token"), "security": "security-events", "workflows": "actions"}
+OTHER_WORDS = {"G2": OTHER_TYPES, "G13": OTHER_SCOPES, "G19": OTHER_INPUT_TYPES}
 # Programs that run a script, given as a file.
 INTERPRETERS = ("zsh", "fish", "dash", "ksh", "nu", "elvish", "node", "deno", "bun", "perl", "ruby", "Rscript", "php", "lua", "tclsh")
 WORDS_OF_SCALARS = {"read": "read-all", "write": "write-all", "readonly": "read-all", "all": "write-all"}
+# A secret that is written as a variable of a shell, or in other braces.
+VARIABLE_OR_SECRET = re.compile(r"\$?(?:\(|\{{1,2})?\s*(?:(?:env:|secrets\.)?([A-Z]\w+)|secrets\.(\w+))\s*(?:\)|\}{1,2})?")
+NO_ACCESS = ("none", "no", "null", "false", "{}", "[]", "deny", "empty")
 RANGE_WITHOUT_END = re.compile(r"\[((?:\w-\w)+)(?=[^]\w-]|$)")
 
 
@@ -71,7 +86,8 @@ def near_listed(case: Case) -> Iterable[Repair]:
         yield case.replace("make it a list", text if isinstance(here.path[-1], int) else f"[{text}]", here.value.span, is_safe=True)
         return
     found = likely(wrong, known)
-    meant = OTHER_VALUES.get(wrong.lower())
+    others = OTHER_WORDS.get(case.code, {}).get(wrong.lower(), "")
+    meant = next((name for name in others.split() if name in known), OTHER_VALUES.get(wrong.lower()))
     if case.code == "G12" and wrong in INTERPRETERS:
         return
     if meant in known and not any(is_slip for _, is_slip in found):
@@ -97,12 +113,18 @@ def _listed(case: Case) -> list[str]:
 
 
 def access_to_all(case: Case) -> Iterable[Repair]:
-    """One access level for all scopes, as a text in place of the scopes; or a scope and its level, with a colon between them."""
+    """One access level for all scopes, as a text in place of the scopes, or none of them; or a scope and its level, with a colon between
+    them."""
     here = case.value
-    scope, _, access = case.arguments[0].partition(" ")
-    if here and scope in names()["permission scopes"] and access and not here.value.style:
-        end = Point(here.value.span.start.line, here.value.span.start.column + len(scope))
-        yield case.replace(f'add a colon after "{scope}"', ":", Span.at(end))
+    pair = re.fullmatch(r"([\w-]+)( +|:)([\w-]+)", case.arguments[0])
+    if here and pair and pair[1] in names()["permission scopes"] and not here.value.style:
+        end = Point(here.value.span.start.line, here.value.span.start.column + len(pair[1]))
+        if case.line[:here.value.span.start.column].strip():
+            yield case.replace("make it a mapping", "{%s: %s}" % (pair[1], pair[3]), here.value.span)
+        elif pair[2] != ":":
+            yield case.replace(f'add a colon after "{pair[1]}"', ":", Span.at(end))
+    if here and here.path[-1:] == ("permissions",) and case.arguments[0].lower() in NO_ACCESS:
+        yield case.replace('change to "{}"', "{}", here.value.span)
     meant = WORDS_OF_SCALARS.get(case.arguments[0].lower())
     if here and here.path[-1:] == ("permissions",) and here.value.kind == "scalar" and meant:
         yield in_its_quotes(case, meant)
@@ -154,8 +176,11 @@ def schedule(case: Case) -> Iterable[Repair]:
     text = here.value.value.strip()
     fields = PRESETS.get(text, text).replace("?", "*").split()
     if len(fields) == 6:
-        yield case.replace("delete the seconds", quoted(" ".join(fields[1:])), here.value.span, deletes=True)
-        yield case.replace("delete the year", quoted(" ".join(fields[:5])), here.value.span, deletes=True)
+        without = [("delete the seconds", fields[1:]), ("delete the year", fields[:5])]
+        is_daily = fields[1].isdigit() and fields[2] == "*"
+        has_year = (is_daily or fields[0] not in ("0", "00", "*")) and re.fullmatch(r"\*|\d{4}.*", fields[5])
+        for title, left in reversed(without) if has_year else without:
+            yield case.replace(title, quoted(" ".join(left)), here.value.span, deletes=True)
     if not 4 <= len(fields) <= 5 or not any(sign.isdigit() or sign == "*" for sign in text) and text not in PRESETS:
         return
     fields += ["*"] * (5 - len(fields))
@@ -188,16 +213,28 @@ def seldom_enough(case: Case) -> Iterable[Repair]:
 
 
 def right_id(case: Case) -> Iterable[Repair]:
-    """An id of letters, digits, `_` and `-`; the job's key in the other jobs' `needs` too."""
+    """An id of letters, digits, `_` and `-`, which expressions of the job may have; the job's key in the other jobs' `needs` too."""
     here = case.key or case.value
     if here is None:
         return
     wrong = case.arguments[0]
     name = re.sub(r"[^\w-]+", "-", wrong, flags=re.A).strip("-") or "id"
     name = name if re.match(r"[A-Za-z_]", name) else "_" + name
+    used = [one for one in _ids_without_step(case) if one in re.split(r"[^\w-]+", wrong, flags=re.A) or misspelled(wrong, [one])]
+    name = used[0] if len(used) == 1 and not case.key else name
     node = here.key if case.key and here.key else here.value
     others = [Edit(item.span, name) for item in _needs(case) if item.value == wrong] if case.key else []
     yield case.of(f'change to "{name}"', Edit(node.span, name), *others)
+
+
+def _ids_without_step(case: Case) -> list[str]:
+    """The ids in expressions that no step of the fault's job has."""
+    job = case.at("jobs", case.job) if case.job else case.at("runs")
+    steps = job.get("steps") if job else None
+    ids = [step.text("id") for step in steps.items] if steps else []
+    text = case.slice(job.span) if job else ""
+    used = [links(chain[0]) for braces in BRACES.finditer(text) for chain in CHAIN.finditer(braces[1])]
+    return list(dict.fromkeys(chain[1] for chain in used if len(chain) > 2 and chain[0].lower() == "steps" and chain[1] not in ids))
 
 
 def _needs(case: Case) -> Iterable[Node]:
@@ -224,7 +261,7 @@ def near_job(case: Case) -> Iterable[Repair]:
     here = case.value
     if here and case.tree:
         jobs = [name for name in case.tree.names("jobs") if name != case.job]
-        words = re.split(r"[\s,]+", here.value.value.strip())
+        words = re.split(r"[\s,;&|]+", here.value.value.strip())
         if len(words) > 1 and all(word in jobs for word in words):
             text = ", ".join(words)
             yield case.replace("make it a list", text if isinstance(here.path[-1], int) else f"[{text}]", here.value.span, is_safe=True)
@@ -269,19 +306,31 @@ def list_of_row(case: Case) -> Iterable[Repair]:
         yield from (repair for goal, repair in moves(case, here) if goal == here.path[:-2])
         return
     if here.value.kind == "sequence":
-        yield from _as_include(case, here)
+        has_rows = any(value.kind == "sequence" for item in here.value.items for _, value in item.entries)
+        yield from () if has_rows else _as_include(case, here)
         yield from as_mapping(case, here.value)
     text = case.slice(here.value.span)
     if here.value.kind == "scalar":
-        words = [word.strip() for word in here.value.value.split(",") if word.strip()]
+        words = _entries_of_text(text if not here.value.style else here.value.value)
         if len(words) > 1:
             yield case.replace("make it a list", "[" + ", ".join(words) + "]", here.value.span)
         elif not here.value.style.strip("'\""):
-            yield case.replace("make it a list", f"[{text}]", here.value.span, is_safe=True)
+            yield case.replace("make it a list", f"[{text}]", here.value.span, is_safe=not re.search(r"\s", text))
     elif here.value.kind == "mapping" and here.value.is_flow:
         yield case.replace("make it a list", f"[{text}]", here.value.span)
     elif here.value.kind == "mapping":
         yield from as_list(case, here.value)
+
+
+def _entries_of_text(text: str) -> list[str]:
+    """The entries of a list that is written as a text: between commas, on lines of their own, or as versions and labels beside each
+    other."""
+    text = text.strip()
+    text = text[1:-1] if text[:1] == "(" and text[-1:] == ")" else text
+    words = text.split()
+    is_of_words = all(re.search(r"[\d-]", word) for word in words)
+    parts = text.split(",") if "," in text else text.split("\n") if "\n" in text else words if is_of_words else [text]
+    return [part.strip() for part in parts if part.strip()]
 
 
 def _as_include(case: Case, here: Found) -> Iterable[Repair]:
@@ -297,12 +346,17 @@ def _as_include(case: Case, here: Found) -> Iterable[Repair]:
 
 
 def near_row(case: Case) -> Iterable[Repair]:
-    """A similar row of the matrix, or the item without it."""
+    """A similar row of the matrix, the only one that has the value, or the item without it."""
     here = case.key
     matrix = case.at("jobs", case.job, "strategy", "matrix") if case.job else None
     if here and matrix:
         rows = [name for name in matrix.names() if name not in ("include", "exclude")]
-        yield from (in_its_quotes(case, name, is_slip) for name, is_slip in likely(case.arguments[0], rows))
+        found = likely(case.arguments[0], rows)
+        having = [name for name in rows if here.parent.get(name) is None and here.value.kind == "scalar"
+                  and here.value.value in [item.value for item in matrix.entries[matrix.names().index(name)][1].items]]
+        if not found and len(having) == 1:
+            yield in_its_quotes(case, having[0])
+        yield from (in_its_quotes(case, name, is_slip) for name, is_slip in found)
     yield from deleted(case)
 
 
@@ -325,7 +379,7 @@ def _uses_of_variable(case: Case, wrong: str, name: str) -> Iterable[Edit]:
 
 
 def secret_password(case: Case) -> Iterable[Repair]:
-    """The only expression in the password, or a secret that has to be made."""
+    """The only expression in the password, the secret that is written as a variable, or one that has to be made."""
     here = case.value
     if here is None:
         return
@@ -337,8 +391,10 @@ def secret_password(case: Case) -> Iterable[Repair]:
         yield case.replace(f"delete {', '.join(quoted(one) for one in rest)} beside the expression",
                            as_scalar(alone, here.value.style, in_flow), here.value.span, deletes=True)
     elif not found:
-        text = as_scalar("${{ secrets.PASSWORD }}", here.value.style, in_flow)
-        yield case.replace('take it from a new secret "PASSWORD"', text, here.value.span)
+        variable = VARIABLE_OR_SECRET.fullmatch(here.value.value.strip())
+        name = (variable[1] or variable[2]) if variable else "PASSWORD"
+        text = as_scalar("${{ secrets.%s }}" % name, here.value.style, in_flow)
+        yield case.replace(f'take it from {"the" if variable else "a new"} secret "{name}"', text, here.value.span)
 
 
 def with_shell(case: Case) -> Iterable[Repair]:
@@ -352,9 +408,13 @@ def with_shell(case: Case) -> Iterable[Repair]:
 
 
 def output_value(case: Case) -> Iterable[Repair]:
-    """A value of the output: an output of a step with this name, if there is one."""
+    """A value of the output: an expression that another key has, or an output of a step with this name, if there is one."""
     here = case.key
     if here is None or here.key is None:
+        return
+    meant = next((key for key, given in here.value.entries if fits("value", given)), None)
+    if meant:
+        yield case.replace(f'change "{meant.value}" to "value"', "value", meant.span)
         return
     steps = case.at("runs", "steps")
     ids = [step.text("id") for step in (steps.items if steps else []) if step.text("id")]

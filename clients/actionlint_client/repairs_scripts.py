@@ -15,6 +15,7 @@ POWERSHELLS = ("pwsh", "powershell")
 WORD = re.compile(r"[A-Za-z_]\w*")
 # Variables that systems and shells use.
 SYSTEM_VARIABLES = {"PATH", "HOME", "USER", "SHELL", "PWD", "IFS", "TEMP", "TMP", "TMPDIR", "LANG", "CI", "HOSTNAME", "USERNAME", "EDITOR"}
+DELAYED = re.compile(r"^\s*setlocal\s.*\bEnableDelayedExpansion\b", re.I | re.M)
 # Commands that run their arguments as another script.
 RUNS_ARGUMENTS = re.compile(r"(?:^|[\s;&|(])(?:eval|ssh|xargs|Invoke-Expression|iex)\s|\s-(?:c|e|-eval|Command)\s", re.I)
 COMMAND = re.compile(r"""(?P<head>(?:echo|printf|Write-Output|Write-Host)\s+(?:-[en]+\s+)?|(?P<call>print\(f?))?(?P<quote>["']?)"""
@@ -106,7 +107,7 @@ def _uses(case: Case, place: Place, name: str) -> list[Edit]:
     if place.shell in POWERSHELLS:
         used = _in_powershell(place, name, after)
     elif place.shell == "cmd":
-        used = f"%{name}%"
+        return _in_cmd(case, place, name)
     else:
         used = _in_bash(place, name, after) if place.shell in POSIX else None
     if used is None:
@@ -144,6 +145,22 @@ def _in_powershell(place: Place, name: str, after: str) -> str | None:
     if quote_in_line(line) == "'":
         return f"'$env:{name}'"
     return f"${{env:{name}}}" if re.match(r"[\w:]", after) else f"$env:{name}"
+
+
+def _in_cmd(case: Case, place: Place, name: str) -> list[Edit]:
+    """With delayed expansion, since `%NAME%` would be read as commands. It isn't there by itself, and gives each `!` another meaning."""
+    script, begin = place.script.value, "setlocal EnableDelayedExpansion\n"
+    if DELAYED.search(place.before):
+        return [Edit(place.span, f"!{name}!")]
+    if script.style not in ("|", "") or "!" in EXPRESSION.sub("", script.value):
+        return []
+    if script.style == "" and script.span.start.line == script.span.end.line:
+        indent = " " * (place.script.parent.span.start.column + 2)
+        line = script.value.replace(place.braces[0], f"!{name}!", 1)
+        return [Edit(script.span, f"|\n{indent}{begin}{indent}{line}")]
+    number = next(number for number in range(script.span.start.line + 1, place.span.start.line + 1) if case.lines[number].strip())
+    column = len(case.lines[number]) - len(case.lines[number].lstrip(" "))
+    return [Edit(Span.at(Point(number, column)), begin + " " * column), Edit(place.span, f"!{name}!")]
 
 
 def _in_python(case: Case, place: Place, name: str, after: str) -> list[Edit]:

@@ -1,14 +1,26 @@
-"""Repairs of references to steps without an id, to rows of a matrix by another way, and to a step's output outside of its job."""
+"""Repairs of references to steps without an id, to rows of a matrix by another way, and to a step's output outside of its job; and of what
+steps have for themselves."""
 from __future__ import annotations
 
 import re
-from typing import Iterable
+from typing import Callable, Iterable
 
 from . import project as files
-from .expressions import Scope
-from .repair import Case, Repair, first_entry, levels_of
-from .repairs_expressions import whole_chain
-from .text import Span
+from .expressions import Scope, chain_before
+from .names import likely
+from .paths import is_workflow
+from .repair import Case, Repair, first_entry, levels_of, next_entry, without_entry
+from .repairs_expressions import expression_of, whole_chain
+from .text import Point, Span
+# Keys that are written for the id of a step.
+OTHER_IDS = ("id", "ids", "step-id", "step_id", "stepid", "key")
+MAX_NAMES = 40
+PROPERTIES_OF_ALL = {"needs": ["result", "outputs"], "steps": ["outputs", "outcome", "conclusion"]}
+
+
+# The contexts in which a name is looked for: those whose names a file declares, and those of a word without a context.
+DECLARED = ("matrix", "inputs", "env", "needs", "steps", "secrets")
+OF_CONTEXTS = ("matrix", "inputs", "env", "needs", "steps", "github", "runner")
 
 
 def scope_of(case: Case) -> Scope | None:
@@ -16,6 +28,23 @@ def scope_of(case: Case) -> Scope | None:
     if here is None:
         return None
     return Scope(case.project, case.file, case.tree, here.path, levels_of(case.tree, here.path))
+
+
+def properties_before(case: Case) -> list[str]:
+    """The properties of what is before the fault."""
+    scope = scope_of(case)
+    chain = names_before(case)
+    if len(chain) == 2 and chain[1] == "*" and chain[0].lower() in PROPERTIES_OF_ALL:
+        return PROPERTIES_OF_ALL[chain[0].lower()]
+    return [one.name for one in scope.properties(chain)] if scope and chain else []
+
+
+def names_before(case: Case) -> tuple[str, ...]:
+    expression = expression_of(case)
+    if expression is None or expression.span.start.line != case.span.start.line:
+        return ()
+    before = chain_before(case.line[expression.span.start.column:case.span.start.column + (1 if case.written[:1] == "'" else 0)])
+    return before.chain if before else ()
 
 
 def shorter_chain(case: Case) -> Iterable[Repair]:
@@ -43,10 +72,64 @@ def named_step(case: Case) -> Iterable[Repair]:
     if scope is None or len(chain) < 2 or chain[0].lower() != "steps" or chain[1].lower() != case.arguments[0].lower():
         return
     steps = [step for step in scope.visible_steps() if step.kind == "mapping" and not step.text("id")]
-    found = [step for step in steps if re.sub(r"\W+", "-", step.text("name") or "").lower() == chain[1].lower()
-             or chain[2:3] == ("outputs",) and chain[3:4] and chain[3] in files.written_outputs(step)]
+    for key, value in (entry for step in steps for entry in step.entries):
+        if value.value == chain[1] and key.value.lower() in OTHER_IDS:
+            yield case.replace(f'change "{key.value}" to "id"', "id", key.span)
+            return
+    wanted = chain[3] if chain[2:3] == ("outputs",) and len(chain) > 3 else None
+    if wanted and any(wanted in files.written_outputs(step) for step in scope.visible_steps() if step.text("id")):
+        return
+    found = [step for step in steps if wanted and wanted in files.written_outputs(step)
+             or re.sub(r"\W+", "-", step.text("name") or "").lower() == chain[1].lower() and not (wanted and files.written_outputs(step))]
     if len(found) == 1:
         yield case.of(f'add "id: {chain[1]}" to the step', first_entry(case, found[0], f"id: {chain[1]}"))
+
+
+def only_step(case: Case) -> Iterable[Repair]:
+    """The id of the only step before that writes the output, or of the only one that has an id, if it calls an action."""
+    chain, span = whole_chain(case)
+    scope = scope_of(case)
+    if scope is None or len(chain) < 2 or chain[0].lower() != "steps" or chain[1].lower() != case.arguments[0].lower():
+        return
+    steps = [step for step in scope.visible_steps() if step.kind == "mapping" and step.text("id")]
+    wanted = chain[3] if chain[2:3] == ("outputs",) and len(chain) > 3 else None
+    writes = [step for step in steps if wanted and wanted in files.written_outputs(step)]
+    has_output = writes or [step for step in steps if step.get("uses")]
+    name = has_output[0].text("id") if len(has_output) == 1 and (writes or len(steps) == 1) else None
+    if name and not likely(chain[1], [name]):
+        yield case.replace(f'change to "{name}"', name)
+
+
+def same_name_elsewhere(case: Case) -> Iterable[Repair]:
+    """The same name in another context that the file declares it for."""
+    before, name, scope = names_before(case), case.arguments[0], scope_of(case)
+    chain, span = whole_chain(case)
+    if scope is None or len(before) != 1 or len(chain) < 2 or not case.line[span.start.column:].startswith(chain[0] + "."):
+        return
+    available = {one.name for one in scope.contexts()}
+    for context in DECLARED:
+        if context in available and context != before[0].lower() and name in [one.name for one in scope.properties((context,))]:
+            end = Point(span.start.line, span.start.column + len(chain[0]))
+            yield case.replace(f"change to {context}.{name}", context, Span(span.start, end))
+
+
+def only_output(case: Case) -> Iterable[Repair]:
+    """The only output of a step or a needed job."""
+    before = names_before(case)
+    is_output = len(before) == 3 and before[0].lower() in ("steps", "needs") and before[2].lower() == "outputs"
+    outputs = properties_before(case) if is_output else []
+    if len(outputs) == 1 and not likely(case.arguments[0], outputs):
+        yield case.replace(f'change to "{outputs[0]}"', outputs[0])
+
+
+def unused_name(case: Case) -> Iterable[Repair]:
+    """The only one of several names that a file declares and no expression of it has."""
+    before = names_before(case)
+    known = properties_before(case) if before and before[0].lower() in ("inputs", "matrix") else []
+    prefix = re.escape(".".join(before))
+    free = [name for name in known[:MAX_NAMES + 1] if not re.search(rf"(?<![\w.-]){prefix}\.{re.escape(name)}(?![\w-])", case.text, re.I)]
+    if len(free) == 1 < len(known) <= MAX_NAMES and not likely(case.arguments[0], known):
+        yield case.replace(f'change to "{free[0]}", which nothing else reads', free[0])
 
 
 def output_of_any_job(case: Case, span: Span) -> Iterable[Repair]:
@@ -57,3 +140,23 @@ def output_of_any_job(case: Case, span: Span) -> Iterable[Repair]:
         for name in case.tree.names("jobs", job, "outputs"):
             if value.fullmatch(case.tree.text("jobs", job, "outputs", name) or ""):
                 yield case.replace(f"change to jobs.{job}.outputs.{name}", f"jobs.{job}.outputs.{name}", span)
+
+
+def shell_of_all_steps(case: Case) -> Iterable[Repair]:
+    """The shell or the folder of an action's scripts, which only its steps can have, on each of them that has none."""
+    here, steps = case.key, case.at("runs", "steps")
+    if is_workflow(case.file) or here is None or here.key is None or not steps or len(here.parent.entries) < 2:
+        return
+    settings = here.value.at(("run",)) if here.path[-1] == "defaults" else here.parent
+    edits = []
+    for name in ("shell", "working-directory"):
+        value = settings.text(name) if settings and here.path[-1] in ("defaults", name) else None
+        scripts = [step for step in steps.items if value and step.get("run") and step.get(name) is None]
+        edits += [next_entry(case, step, "run", f"{name}: {value}") for step in scripts]
+    if edits:
+        yield case.of("put it on each script", without_entry(case, here.parent, here.key), *edits)
+
+
+REPAIRS: dict[str, tuple[Callable[[Case], Iterable[Repair]], ...]] = {
+    "K1": (shell_of_all_steps,),
+}

@@ -2,15 +2,17 @@
 from __future__ import annotations
 
 import re
+from itertools import islice
 from typing import Callable, Iterable
 
 from .expressions import expressions_in
 from .names import likely
 from .operators import OPERATORS, choice_in, grouped
 from .repair import COMMENT, Case, Edit, Repair, quoted
+from .repairs_blocks import CLOSERS, open_brackets
 from .repairs_expressions import title_of
 from .repairs_levels import indent_of, moved_line
-from .syntax import shape_at
+from .syntax import shape_at, table
 from .text import Point, Span
 
 FLOW_ITEM = re.compile(r"[^,\[\]{}]*")
@@ -26,12 +28,12 @@ ANCHOR = re.compile(r"(?<!\S)&([^\s,\[\]{}]+)")
 ALIAS = re.compile(r"\*([^\s,\[\]{}]+)")
 ODD_SPACE = re.compile("[\u00a0\u2000-\u200a\u202f\u3000]")
 ODD_START = re.compile("[ \u00a0\u2000-\u200a\u202f\u3000-]*(?:[\\w-]+:)?[ \u00a0\u2000-\u200a\u202f\u3000]*")
+ITEM = re.compile(r"""(?:[\w-]+: *)?(?:'[^']*'|"[^"]*"|[^'"]*)""")
+MAX_ITEMS = 30
 MAX_LINES_ABOVE = 200
 MAX_LINES_OF_LIST = 30
 HERE_DOCUMENT = re.compile(r"<<-?\s*['\"]?(\w+)")
-IN_QUOTES = re.compile(r"'[^']*'|\"[^\"]*\"")
 EXPRESSION_AS_ITEM = re.compile(r"(?<=[\[,])\s*(\$\{\{[^{}]*\}\})\s*(?=[\],])")
-CLOSERS = {"[": "]", "{": "}"}
 
 
 def with_quotes(case: Case) -> Iterable[Repair]:
@@ -158,21 +160,32 @@ def list_in_line(case: Case) -> Iterable[Repair]:
 
 
 def closed_above(case: Case) -> Iterable[Repair]:
-    """A quote that begins a value on a line above and isn't closed there, closed at its end."""
+    """A quote that begins a value on a line above and isn't closed there, closed at its end, or in its list before the bracket."""
     for line in range(case.span.start.line, max(case.span.start.line - MAX_LINES_ABOVE, -1), -1):
         span = case.rest_span(line)
-        if span and _opens_quote(case.slice(span)):
-            yield case.replace("close the quotes", case.slice(span)[:1], Span.at(span.end))
+        text = case.slice(span) if span else ""
+        if span and _opens_quote(text):
+            yield case.replace("close the quotes", text[:1], Span.at(span.end))
             return
+        open_quote = next((sign for sign in "'\"" if text[:1] in CLOSERS and text.count(sign) % 2), None)
+        if span and open_quote:
+            ends = [*(match.start() for match in islice(re.finditer(",", text), MAX_ITEMS)), len(text.rstrip("]} "))]
+            for end in (end for end in ends if _has_whole_items(text[:end] + open_quote + text[end:])):
+                yield case.replace("close the quotes", open_quote, Span.at(Point(line, span.start.column + end)))
+            return
+
+
+def _has_whole_items(text: str) -> bool:
+    """Whether the quotes of a list or mapping in brackets are around whole values."""
+    return all(ITEM.fullmatch(item.strip(" []{}")) for item in text.split(","))
 
 
 def closed_quote(case: Case) -> Iterable[Repair]:
     """A quote at the end of its line, or before what follows on it."""
     line = case.line
     quote = line[case.span.start.column:case.span.start.column + 1]
-    ends = dict.fromkeys([len(line.rstrip()),
-                          *(len(line[:at].rstrip()) for at in (line.find(" #"), line.find("]"), line.find("}"), line.find(","))
-                                               if at > case.span.start.column)])
+    signs = (at for at in (line.find(sign) for sign in (" #", "]", "}", ",")) if at > case.span.start.column)
+    ends = dict.fromkeys([len(line.rstrip()), *(len(line[:at].rstrip()) for at in signs)])
     for end in ends:
         here = Point(case.span.start.line, end)
         yield case.replace("close the quotes", quote, Span.at(here))
@@ -196,31 +209,20 @@ def brackets_closed_above(case: Case) -> Iterable[Repair]:
     number = case.span.start.line
     for line in range(number, max(number - MAX_LINES_OF_LIST, -1), -1):
         span = case.rest_span(line)
-        open_signs = _open_signs(case.slice(span)) if span else []
+        open_signs = open_brackets(case.slice(span)) if span else []
         if span and open_signs:
             last = next((one for one in range(number - 1, line, -1) if case.lines[one].strip()), line)
             lines = case.outline.lines[line + 1:last + 1]
             is_list = last > line and all(below.indent > case.outline.lines[line].indent for below in lines)
             end = _end_of_text(case.lines[last]) if is_list else span.end.column
             here = Point(last if is_list else line, end)
-            open_signs = _open_signs(case.slice(Span(span.start, here)))
+            open_signs = open_brackets(case.slice(Span(span.start, here)))
             yield case.replace("close the bracket", "".join(CLOSERS[sign] for sign in reversed(open_signs)), Span.at(here))
 
 
 def _end_of_text(line: str) -> int:
     """Where the text of a line ends, before a comment."""
     return len(COMMENT.sub("", line))
-
-
-def _open_signs(text: str) -> list[str]:
-    """The brackets of a text in brackets that aren't closed in it."""
-    found: list[str] = []
-    for sign in IN_QUOTES.sub("", text) if text[:1] in CLOSERS else "":
-        if sign in CLOSERS:
-            found.append(sign)
-        elif sign in CLOSERS.values() and found:
-            found.pop()
-    return found
 
 
 def spaces_for_tabs(case: Case) -> Iterable[Repair]:
@@ -264,7 +266,8 @@ def script_in_lines(case: Case) -> Iterable[Repair]:
 def _is_script(case: Case, number: int, column: int) -> bool:
     """Whether a line looks like one of a script whose key begins at a column: it has no key or dash, or is below that key."""
     line = case.outline.lines[number]
-    return not line.elements or line.indent > column and line.elements[0].name is not None
+    name = line.elements[0].name if line.elements else None
+    return not line.elements or line.indent > column and name is not None and name not in table()["shapes"]["Step"]["keys"]
 
 
 def as_expression(case: Case) -> Iterable[Repair]:

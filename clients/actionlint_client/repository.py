@@ -77,14 +77,21 @@ class Document:
         return [(fault, one) for fault, one in with_ranges
                 if _key(one["start"]) <= _key(wanted["end"]) and _key(wanted["start"]) <= _key(one["end"])]
 
+    def notes_at(self, position: Position) -> list[tuple[Problem, Range]]:
+        """The notes with an entry whose range has a position, each with its range."""
+        lines = self.lines()
+        notes = [note for note in self.repository.notes_with_entries(self.path) if note.fault.line == position["line"] + 1]
+        return [(note, one) for note in notes for one in [lines.range_of(note.fault)]
+                if _key(one["start"]) <= _key(position) <= _key(one["end"])]
+
 
 @dataclass
 class Repository:
     root: bytes
     folder: Folder
     shows_earlier: bool
-    # (off, unless others are given)
-    checks: ScriptChecks = field(default_factory=lambda: ScriptChecks(lambda: None))
+    # What makes notes on open files.
+    checks: tuple[ScriptChecks, ...] = ()
     result: Result = NOTHING
     ignored: Ignored = field(default_factory=lambda: Ignored(()))
     documents: dict[str, Document] = field(default_factory=dict)
@@ -132,7 +139,7 @@ class Repository:
         self._touched.add(path)
         self.folder.edit(path, data)
         if data is None:
-            self.checks.forget((self.root, path))
+            self._forget_notes(path)
 
     def show_again(self, path: str) -> None:
         """Shows a file in the next `refresh`, since notes on it became known."""
@@ -170,7 +177,7 @@ class Repository:
         """Stops the linter, and removes what is shown."""
         self.folder.close()
         for path in self.documents:
-            self.checks.forget((self.root, path))
+            self._forget_notes(path)
         for path in self._shown:
             for uri in self._versions(path):
                 editor.publish(uri, None, [])
@@ -205,11 +212,19 @@ class Repository:
             del self._shown[path]
 
     def _notes(self, path: str, found: FileFaults) -> tuple[Problem, ...]:
-        """The notes of shellcheck on an open file, as far as they are known, none while no linter runs or the file isn't valid YAML."""
+        """The notes on an open file, as far as they are known, none while no linter runs or the file isn't valid YAML."""
         if self.result is NOTHING or path in self.result.refused or is_no_yaml(found):
             return ()
-        notes = self.checks.notes((self.root, path), self.folder.data_of(path))
-        return tuple(note for note in notes if not self.ignored.has(note))
+        data = self.folder.data_of(path)
+        return tuple(note for checks in self.checks for note in checks.notes((self.root, path), data) if not self.ignored.has(note))
+
+    def notes_with_entries(self, path: str) -> tuple[Problem, ...]:
+        """The notes on an open file that pages explain."""
+        return tuple(note for note in self._notes(path, self.result.faults.get(path, NO_FAULTS)) if note.entry)
+
+    def _forget_notes(self, path: str) -> None:
+        for checks in self.checks:
+            checks.forget((self.root, path))
 
 
 def _key(position: Position) -> tuple[int, int]:

@@ -55,6 +55,8 @@ class ScriptChecks:
     """The notes on the last text of each open file, made by a thread and a process while the server works. `wake` is called, by that
     thread, when there are new ones, or none since shellcheck can't be run. It is off until `is_on` is set."""
 
+    module = MODULE
+
     def __init__(self, wake: Callable[[], None]):
         self.is_on = False
         self._wake = wake
@@ -68,6 +70,14 @@ class ScriptChecks:
         self._current: tuple[Key, bytes] | None = None
         self._child: subprocess.Popen[bytes] | None = None
         self._thread: threading.Thread | None = None
+
+    def arguments(self, key: Key) -> list[str]:
+        """The arguments of the process."""
+        return [key[1]]
+
+    def problem(self, path: str, note: WrittenNote) -> Problem:
+        fault = Fault(path, note["line"], note["column"], note["message"], PROGRAM, note["width"])
+        return problem_of_note(fault, note["code"], note["level"])
 
     def notes(self, key: Key, data: bytes) -> tuple[Problem, ...]:
         """The notes on a text. While they aren't known, there are none, and the text is checked after a pause; a check of an earlier text
@@ -155,7 +165,7 @@ class ScriptChecks:
         with tempfile.TemporaryFile() as given, tempfile.TemporaryFile() as said, tempfile.TemporaryFile() as errors:
             given.write(data)
             given.seek(0)
-            words = [sys.executable, *(["-E"] if sys.flags.ignore_environment else []), "-m", MODULE, key[1]]
+            words = [sys.executable, *(["-E"] if sys.flags.ignore_environment else []), "-m", self.module, *self.arguments(key)]
             with self._changed:
                 if self._current != (key, data):
                     return ()
@@ -164,7 +174,7 @@ class ScriptChecks:
             for stream in (said, errors):
                 stream.seek(0)
             if status == 0:
-                return tuple(_problem(key[1], one) for one in json.loads(said.read()))
+                return tuple(self.problem(key[1], one) for one in json.loads(said.read()))
             self._note_failure(errors.read().decode("utf-8", "replace"), status)
             return ()
 
@@ -176,27 +186,22 @@ class ScriptChecks:
                 self._failure, self._is_untold = why, True
 
 
-def _problem(path: str, note: WrittenNote) -> Problem:
-    fault = Fault(path, note["line"], note["column"], note["message"], PROGRAM, note["width"])
-    return problem_of_note(fault, note["code"], note["level"])
-
-
-def _written(fault: Fault, code: str, level: str) -> WrittenNote:
+def written(fault: Fault, code: str, level: str) -> WrittenNote:
     return {"line": fault.line, "column": fault.column, "width": fault.width or 1, "message": fault.message, "code": code, "level": level}
 
 
-def _stop(number: int, _: object) -> None:
+def stop(number: int, _: object) -> None:
     """Ends the process and, on the way, what it has started."""
     sys.exit(128 + number)
 
 
 def main(words: list[str]) -> int:
-    signal.signal(signal.SIGTERM, _stop)
+    signal.signal(signal.SIGTERM, stop)
     os.nice(NICENESS)
     unchecked: list[WrittenNote] = []
     try:
-        found = notes_of_text(words[0], sys.stdin.buffer.read(), lambda fault: unchecked.append(_written(fault, UNCHECKED, "note")))
-        notes = [_written(one.fault, one.code, one.level) for one in found]
+        found = notes_of_text(words[0], sys.stdin.buffer.read(), lambda fault: unchecked.append(written(fault, UNCHECKED, "note")))
+        notes = [written(one.fault, one.code, one.level) for one in found]
     except ShellcheckFailed as error:
         print(error, file=sys.stderr)
         return 3

@@ -26,6 +26,8 @@ from .ignoring import IgnoreFiles
 from .limit import LIMIT, TooSlow
 from .messages import Messages, Wake
 from .navigation import MOVES, Navigation
+from .notes.checks import NoteChecks
+from .program import find_program
 from .protocol import (Capabilities, Feature, FileEvent, Handler, InitializeResult, Message, TextDocumentContentChangeEvent,
                        TextDocumentIdentifier, TextDocumentItem, VersionedTextDocumentIdentifier, WorkspaceFolder,
                        WorkspaceFoldersChangeEvent)
@@ -57,15 +59,18 @@ class Server:
         self._send = JsonRpcStreamWriter(stdout).write
         self._endpoint = Endpoint(self, self._send)
         self._editor = Editor(self._endpoint.notify, self._endpoint.request)
-        program = Program([options.program], options.timeout)
+        self._program = program = Program([options.program], options.timeout)
         self._ignored = IgnoreFiles(self._editor.say)
         self._ignored.files += options.ignore_file
         diagnostics = Diagnostics(docs, self._ignored)
         shows_earlier = not options.no_earlier_faults
         self._checks = ScriptChecks(self._messages.wake)
         self._checks.is_on = options.shellcheck
+        self._notes = NoteChecks(self._messages.wake, options.program)
+        self._notes.is_on = not options.no_notes and self._notes.can_run()
+        checks = (self._notes, self._checks)
         self._workspace = Workspace(
-            lambda root: Repository(root, Folder(root, program, self._editor.say, keeps_calls=shows_earlier), shows_earlier, self._checks),
+            lambda root: Repository(root, Folder(root, program, self._editor.say, keeps_calls=shows_earlier), shows_earlier, checks),
             self._editor, diagnostics)
         self._features: list[Feature] = [
             Completion(self._workspace, self._editor),
@@ -105,11 +110,13 @@ class Server:
             if message is None or isinstance(message, dict) and message.get("method") == "exit":
                 break
             if isinstance(message, Wake):
-                self._workspace.take_notes(self._checks)
+                for checks in (self._notes, self._checks):
+                    self._workspace.take_notes(checks)
             else:
                 self._take(message)
             if self._workspace.is_stale and self._messages.is_empty():
                 self._workspace.refresh()
+        self._notes.end()
         self._checks.end()
         self._workspace.end()
         return 0 if self._is_shut_down else 1
@@ -162,8 +169,12 @@ class Server:
     def _take_options(self, options: object) -> None:
         """Takes what the editor's settings say; the command line's options stay where these say nothing."""
         given = options if isinstance(options, dict) else {}
+        if isinstance(given.get("program"), str):
+            self._program.words[:] = [find_program(given["program"])]
         if isinstance(given.get("shellcheck"), bool):
             self._checks.is_on = given["shellcheck"]
+        if isinstance(given.get("notes"), bool):
+            self._notes.is_on = given["notes"]
         self._ignored.files += _texts(given.get("ignoreFiles"))
 
     def _start(self, **_: object) -> None:
@@ -184,12 +195,14 @@ class Server:
 
     def _save(self, **_: object) -> None:
         self._workspace.rescan()
+        self._workspace.renew_notes(self._notes)
 
     def _close(self, textDocument: TextDocumentIdentifier, **_: object) -> None:
         self._workspace.close(textDocument["uri"])
 
     def _take_changed_files(self, changes: list[FileEvent], **_: object) -> None:
         self._workspace.take_changed_files([change["uri"] for change in changes])
+        self._workspace.renew_notes(self._notes)
 
     def _take_changed_folders(self, event: WorkspaceFoldersChangeEvent, **_: object) -> None:
         self._workspace.add_folders(_paths_of([folder["uri"] for folder in event.get("added") or []]))

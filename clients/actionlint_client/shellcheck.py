@@ -2,14 +2,13 @@
 from __future__ import annotations
 
 import os
-import re
 from collections import deque
 from concurrent.futures import Future, ThreadPoolExecutor
 from typing import TYPE_CHECKING, Callable, Iterable, Iterator, NamedTuple
 
 from .disk import MAX_FILE_BYTES, Disk
 from .paths import ACTION_NAMES
-from .problems import Problem
+from .problems import Problem, snippet_of
 from .report import Fault
 from .shellcheck_run import PROGRAM, Note, NotChecked, Shellcheck, ShellcheckFailed
 from .text import LINE_BREAK, Places
@@ -42,10 +41,7 @@ class SourceFile:
 
     def snippet(self, fault: Fault) -> tuple[bytes, ...]:
         """The lines that the linter would print below it."""
-        line, margin = self._lines[fault.line - 1], " " * len(str(fault.line))
-        before = re.sub(r"[^\t]", " ", line[:fault.column - 1])
-        marks = f"{margin} | {before}^{'~' * ((fault.width or 1) - 1)}"
-        return (f"{margin} |".encode(), f"{fault.line} | {line}".encode(), marks.encode())
+        return snippet_of(self._lines[fault.line - 1], fault)
 
 
 class Found(NamedTuple):

@@ -1,33 +1,29 @@
 """Where GitHub accepts less than the linter: the keys below an event or beside others, and the access levels of a permission scope.
-Completion and quick fixes offer what both accept."""
+Completion and quick fixes offer what both accept. The tables are those of the notes."""
 from __future__ import annotations
 
 from typing import Collection
 
-FILTERS = {
-    "push": {"branches", "tags", "paths"},
-    "pull_request": {"types", "branches", "paths"},
-    "pull_request_target": {"types", "branches", "paths"},
-    "workflow_run": {"types", "branches", "workflows"},
-}
-WITHOUT_TYPES = {"create", "delete", "deployment", "deployment_status", "fork", "gollum", "page_build", "public", "status"}
+from .notes.file import table
+
+EVENTS, LEVELS = table("events"), table("values")["levels"]
+FILTERS = {event: set(filters) for event, filters in EVENTS["filters"].items()}
 # For keys of a job and of a step, the keys beside which GitHub refuses them.
 REFUSED_BESIDE = {
     "job": {"with": {"runs-on", "steps"}, "secrets": {"runs-on", "steps"}},
     "step": {"with": {"run"}, "shell": {"uses", "with"}, "working-directory": {"uses", "with"}, "run": {"with"}},
 }
-ACCESSES = {"id-token": {"write", "none"}, "models": {"read", "none"}}
 ALL_ACCESSES = {"read", "write", "none"}
 
 
 def takes_filter(event: str, key: str) -> bool:
     """Whether GitHub knows a key below an event, unless the event has keys of its own, as `schedule` has."""
-    return key.removesuffix("-ignore") in FILTERS.get(event, set() if event in WITHOUT_TYPES else {"types"})
+    return key.removesuffix("-ignore") in FILTERS.get(event, {"types"})
 
 
 def takes_access(scope: str, access: str) -> bool:
     """Whether a scope of `permissions` can have an access level."""
-    return access in ACCESSES.get(scope, ALL_ACCESSES)
+    return access in LEVELS.get(scope, ALL_ACCESSES)
 
 
 def is_refused_beside(section: str, key: str, beside: Collection[str]) -> bool:

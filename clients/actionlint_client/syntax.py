@@ -33,7 +33,7 @@ def table() -> dict[str, dict[str, Any]]:
 
 
 def meaning(heading: str, name: str) -> Markdown | None:
-    """What docs/MEANINGS.md says about a name below a heading."""
+    """What meanings.toml says about a name below a heading."""
     found: Markdown | None = table()["meanings"].get(heading, {}).get(name)
     return found
 

@@ -94,13 +94,21 @@ class Workspace:
             ignored.tell_unused(set().union(*(repository.files_with_unknown_faults() for repository in repositories)))
 
     def take_notes(self, checks: ScriptChecks) -> None:
-        """Takes the new notes of shellcheck, or says why there are none."""
+        """Takes new notes, or says why there are none."""
         for root, path in checks.take_news():
             if root in self._repositories:
                 self._repositories[root].show_again(path)
                 self.is_stale = True
         if why := checks.take_failure():
             self._editor.say(why)
+
+    def renew_notes(self, checks: ScriptChecks) -> None:
+        """Has the notes on open files made again, since they depend on other files, which changed on disk."""
+        for repository in self._repositories.values() if checks.is_on else ():
+            for path in repository.documents:
+                checks.forget((repository.root, path))
+                repository.show_again(path)
+            self.is_stale = True
 
     def wait_seconds(self) -> float | None:
         """How long to wait for a message before looking at the disk, if the editor doesn't watch it, or before starting a linter again that

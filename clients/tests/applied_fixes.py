@@ -329,6 +329,8 @@ def a_limit(program: str) -> None:
         for most, expected in ((2, {FILE: "on: push\njobs: {}\n#\n"}), (1, {})):
             with mock.patch.object(fixing, "MAX_TRIED", most):
                 assert changes(program, folder, repairs) == expected, most
+        with mock.patch.object(fixing, "SECONDS_OF_ALL", -1.0):
+            assert changes(program, folder, repairs) == {}
 
 
 @CASES.case

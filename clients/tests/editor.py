@@ -20,7 +20,7 @@ EXIT_SECONDS = 10
 class Editor:
     def __init__(self, program: str | None, root: bytes | None, watches: bool = True, words: tuple[str, ...] = (), capabilities: dict = {},
                  server: Path = SERVER, environment: dict[str, str] | None = None, inherited: tuple[int, ...] = (),
-                 folder: str | None = None, root_path: str | None = None, settings: dict | None = None):
+                 folder: str | None = None, root_path: str | None = None, settings: dict | None = None, notes: bool = False):
         """`inherited` are open files with which the server is started, and `folder` is its current one. With `root_path`, the server is
         given the root as such a path, with `{}` in its place, and not as a URI. `settings` are the initialization options."""
         # (a test that reads it has given one)
@@ -34,9 +34,10 @@ class Editor:
         self._ids = 0
         self._versions: dict[str, int] = {}
         self._answers: queue.SimpleQueue = queue.SimpleQueue()
-        named = [] if program is None else ["--program", program]
+        # Notes come from a process of their own, which most tests don't wait for.
+        named = ([] if notes else ["--no-notes"]) + ([] if program is None else ["--program", program])
         self.child: Any = subprocess.Popen([sys.executable, str(server), *named, *words], stdin=subprocess.PIPE, stdout=subprocess.PIPE,
-                                      env=environment, pass_fds=inherited, cwd=folder)
+                                           env=environment, pass_fds=inherited, cwd=folder)
         threading.Thread(target=self._listen, daemon=True).start()
         uri = "file://" + quote_from_bytes(root) if root and not root_path else None
         path = root_path.format(os.fsdecode(root)) if root and root_path else None

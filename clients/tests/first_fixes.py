@@ -16,7 +16,7 @@ from cases import Cases
 from editor import Editor
 from repositories import CLIENTS, FILE, FILES, TOP, WORKFLOWS, reported, write
 
-from actionlint_client import fixes
+from actionlint_client import advice, fixes
 from actionlint_client.advice import FirstFixes
 from actionlint_client.problems import problem_of
 from actionlint_client.report import Fault
@@ -184,6 +184,19 @@ def how_many(program: str) -> None:
         write(folder, {f"{WORKFLOWS}{number:02}.yml": STEPS + steps for number in range(11)})
         found = faults(program, folder)
         assert [one["fix"] for one in found] == (['change to "ref"'] * 20 + [None] * 2) * 10 + [None] * 22
+
+
+@CASES.case
+def how_long(program: str) -> None:
+    """Without time that is left, faults are reported without fixes."""
+    with tempfile.TemporaryDirectory(prefix="actionlint-test-") as folder:
+        write(folder, {FILE: FILES[FILE], f"{WORKFLOWS}other.yml": FILES[FILE]})
+        problems = [problem_of(Fault(path, 6, 30, 'property "reff" is not defined', "expression", 4))
+                    for path in (FILE, f"{WORKFLOWS}other.yml")]
+        for seconds, expected in ((60.0, 2), (1e-9, 1), (0.0, 0)):
+            with mock.patch.object(advice, "SECONDS_OF_A_REPORT", seconds):
+                found = list(FirstFixes(program, folder, []).add_to(problems))
+            assert len(found) == 2 and sum(problem.fix is not None for problem in found) == expected, (seconds, found)
 
 
 if __name__ == "__main__":

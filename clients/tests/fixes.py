@@ -132,15 +132,15 @@ def every_code(program: str) -> None:
 
 # The faults that can't be seen as long as an event, the kind of an action or what is called isn't known.
 OF_UNKNOWN = {"G1": ("G2", "G3", "K1", "K6"), "G20": ("K1", "K2", "K6", "G21"), "C1": ("C2", "C3", "C4", "C5", "C6"),
-              "C7": ("C2", "C3", "C4", "C5", "C6")}
+              "C7": ("C2", "C3", "C4", "C5", "C6"), "C2": ("C4",)}
 
 
 @CASES.case
 def random_slips(program: str) -> None:
     """Texts with a few characters changed: repairs are found without an error, and each offered one removes its fault. A safe one causes
     none, and a guess none but what the fault has hidden, by a run of the linter on the changed folder: an expression or a file that can't
-    be read hides its faults, an unknown event those of its filters, an unknown `using` those of its keys, and a wrong call those of what
-    is passed."""
+    be read hides its faults, an unknown event those of its filters, an unknown key those of its value, an unknown `using` those of its
+    keys, and a wrong call those of what is passed."""
     chance = random.Random(int(os.environ.get("SEED", "1")))
     slips = [texts for _, texts in every_text() if all(texts.values())]
     offered = 0
@@ -173,7 +173,10 @@ def check_fix(program: str, folder: Folder, faults: list[Fault], fault: Fault, r
     of_unknown = OF_UNKNOWN.get(entry.code, ()) if entry else ()
     shown = [one for one in after if (one.path, one.message) in new and not (is_yaml and below(one, folder, changed))]
     others = {found.code for one in shown if (found := entry_of(one.message))}
-    was_hidden = hides and all(code[0] in "XGC" for code in others) or codes <= set(of_unknown)
+    was_hidden = hides and all(code[0] in "XGC" or code == "K5" for code in others) or codes <= set(of_unknown)
+    if entry and entry.code == "K1":
+        # the value of a key that is unknown isn't checked
+        was_hidden = all((one.line, one.column) > (fault.line, fault.column) for one in shown)
     assert not new or not repair.is_safe and was_hidden, (repair.title, fault, folder.texts, changed)
 
 

@@ -28,7 +28,7 @@ from actionlint_client.uris import path_of
 from actionlint_client.workspace import Workspace
 
 CASES = Cases("life")
-OUTSIDE = "its real path is outside of the folder"
+OUTSIDE = "a symbolic link points outside the folder"
 BROKEN_ACTION = "name: A\n"
 # The first descriptor that `select` can't handle.
 MANY_DESCRIPTORS = 1_030

@@ -20,13 +20,14 @@ from promises import end, start
 from repositories import CALLED, CLIENTS, FILE, FILES, RIGHT, UNDEFINED, WORKFLOWS, WRONG, write
 
 from actionlint_client import project as files
+from actionlint_client.child import LinterEnded
 from actionlint_client.diagnostics import Diagnostics
 from actionlint_client.folder import Folder, Program
 from actionlint_client.limit import LIMIT, TimeLimit, TooSlow
 from actionlint_client.project import MAX_HELD, Project
 from actionlint_client.references import callers, occurrences
 from actionlint_client.repository import Repository
-from actionlint_client.session import LinterEnded, Session
+from actionlint_client.session import Session
 from actionlint_client.structure import parts_with
 from actionlint_client.tree import Node
 

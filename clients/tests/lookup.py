@@ -69,6 +69,11 @@ class Tree:
         whole.chmod(0o755)
         return str(whole)
 
+    def link(self, program: str) -> str:
+        """Makes a program below the folder that of the release; returns its path."""
+        self.top.joinpath("actionlint").symlink_to(os.path.relpath(self.room / program, self.top))
+        return str(self.room / program)
+
     def without(self, client: Path, modules: tuple[str, ...], system_python: str) -> Path:
         """A program that runs a client without these modules."""
         file = self.room / "without.py"
@@ -91,14 +96,17 @@ def order(_: str) -> None:
     tree = Tree()
     beside = "a prefix/share/actionlint"
     named, variable, on_path = tree.add("named"), tree.add("variable"), tree.add("path/actionlint")
-    release, fits = tree.add("a prefix/bin/actionlint"), tree.add("fits")
-    wrapper = tree.add(f"{beside}/actionlint", f'[ "$1" = --which ] && echo "{fits}"')
+    release, fits = tree.add("a prefix/bin/its-own-name"), tree.add("fits")
+    assert tree.link("a prefix/bin/its-own-name") == release
     built, carried = tree.add(f"{beside}/crates/actionlint/out/actionlint"), tree.add(f"{beside}/prebuilt/actionlint")
     own = {"PATH": f"{tree.room}/path:{PATH}"}
     assert tree.found(named, **own, ACTIONLINT=variable) == (0, named, "")
     assert tree.found(**own, ACTIONLINT=variable) == (0, variable, "")
     assert tree.found("", **own, ACTIONLINT="") == (0, release, "")
     os.remove(release)
+    assert tree.found(**own) == (0, built, "")
+    os.remove(tree.top / "actionlint")
+    wrapper = tree.add(f"{beside}/actionlint", f'[ "$1" = --which ] && echo "{fits}"')
     assert tree.found(**own) == (0, fits, "")
     os.chmod(wrapper, 0o644)
     assert tree.found(**own) == (0, built, "")
@@ -119,6 +127,7 @@ def names(_: str) -> None:
     tree = Tree()
     named = tree.add("my linters/it's")
     tree.add("a prefix/bin/actionlint")
+    release = tree.link("a prefix/bin/actionlint")
     assert tree.found("./it's", folder=str(Path(named).parent)) == (0, f"{tree.room}/my linters/./it's", "")
     assert tree.found("it's", PATH=f"{tree.room}/my linters:{PATH}") == (0, named, "")
     assert tree.found("it's", folder=str(Path(named).parent), PATH=f".:{PATH}") == (0, f"{tree.room}/my linters/./it's", "")
@@ -127,7 +136,7 @@ def names(_: str) -> None:
         assert tree.found(wrong) == tree.found(ACTIONLINT=wrong) == (3, "", said), wrong
     link = tree.room / "link"
     link.symlink_to(tree.top / "clients/which-actionlint")
-    assert ran([link], env=tree.environment) == (0, f"{tree.room}/a prefix/bin/actionlint\n", "")
+    assert ran([link], env=tree.environment) == (0, f"{release}\n", "")
     tree.remove()
 
 
@@ -149,7 +158,7 @@ def reports(program: str) -> None:
     command.symlink_to("../share/actionlint/clients/actionlint-report")
     status, out, said = ran([command, "--form", "jsonl"], **how)
     assert (status, out) == (3, "") and WHERE in said and said.count("\n") == 1, said
-    shutil.copy(program, command.with_name("actionlint"))
+    shutil.copy(program, tree.link("a prefix/bin/juzbrost"))
     status, out, said = ran([command, "--form", "jsonl"], **how)
     assert status == 1 and '"X13"' in out and not said, (status, out, said)
     tree.remove()
@@ -175,11 +184,28 @@ def language_server(program: str) -> None:
     assert len(editor.messages) == 1 and WHERE in editor.messages[0] and editor.diagnostics() == {}, editor.messages
     editor.quit()
     (tree.room / "a prefix/bin").mkdir()
-    shutil.copy(program, tree.room / "a prefix/bin/actionlint")
+    shutil.copy(program, tree.link("a prefix/bin/juzbrost"))
     editor = opened()
     assert editor.texts(FILE) == [UNDEFINED] and not editor.messages, editor.messages
     editor.quit()
     tree.remove()
+
+
+@CASES.case
+def a_program_of_the_settings(program: str) -> None:
+    """An editor's settings name the linter, as a path or by its name on the PATH, in place of the command line; only a text does."""
+    with tempfile.TemporaryDirectory(prefix="actionlint-test-") as folder:
+        write(folder, FILES)
+        os.mkdir(folder + "/bin")
+        shutil.copy(program, folder + "/bin/juzbrost")
+        environment = {"PATH": f"{folder}/bin:{PATH}", "HOME": folder}
+        for settings, given, is_found in (({"program": "juzbrost"}, "/nowhere", True), ({"program": folder + "/bin/juzbrost"}, None, True),
+                                          ({"program": 1}, "juzbrost", True), ({"program": "nowhere"}, "juzbrost", False)):
+            editor = Editor(given, os.fsencode(folder), environment=environment, settings=settings)
+            editor.settle()
+            assert editor.texts(FILE) == ([UNDEFINED] if is_found else []), (settings, editor.messages)
+            assert editor.messages == [] if is_found else WHERE in editor.messages[0], (settings, editor.messages)
+            editor.quit()
 
 
 @CASES.case

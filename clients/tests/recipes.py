@@ -93,7 +93,7 @@ def the_folder_is_hostile(program: str) -> None:
 def steps(program: str) -> None:
     """No step gives commands except its own, and each has the linter's status."""
     found = steps_that_lint()
-    assert len(found) >= 2, found.keys()
+    assert found, "no page shows a step that runs the linter"
     with hostile_folder(program) as folder:
         for name, script in found.items():
             status, lines = output_of(script, folder)

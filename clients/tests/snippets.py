@@ -294,27 +294,5 @@ def tasks(place: Place) -> None:
         finds_a_fault(room, [task["command"], *task["args"]], "X13")
 
 
-@in_each_place(CASES)
-def recipe(place: Place) -> None:
-    """A step that stops commands around the report; tests/recipes.py shows what a report can contain."""
-    (text,) = of_page("recipe", place)
-    (step,) = yaml.safe_load(text)
-    with place.repository({**FILES, "step.sh": step["run"]}) as room:
-        status, said = room.run(["bash", "--noprofile", "--norc", "-e", "step.sh"])
-        lines = said.splitlines()
-        assert status == 1 and lines[1].startswith("::stop-commands::") and lines[-1] == f"::{lines[1].removeprefix('::stop-commands::')}::"
-        assert UNDEFINED in said, said
-    with place.repository({FILE: RIGHT, "step.sh": step["run"]}) as room:
-        status, said = room.run(["env", "status=7", "bash", "--noprofile", "--norc", "-e", "step.sh"])
-        assert status == 0, (status, said)
-
-
-@CASES.case
-def matcher(_: str) -> None:
-    """The one in clients/github, which matcher.js and tests/command_line_page.py apply."""
-    (text,) = snippets()["matcher"]
-    assert text == (CLIENTS / "github/matcher.json").read_text(encoding="utf-8")
-
-
 if __name__ == "__main__":
     sys.exit(CASES.run(sys.argv[1:]))

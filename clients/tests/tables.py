@@ -21,7 +21,7 @@ from case_files import read_cases
 CASES = Cases("tables")
 FAULT_LINE = re.compile(rb"^[^ :\n][^:\n]*:[0-9]+:[0-9]+: .*\[[a-z-]+\]$", re.M)
 CODE = re.compile(r"/// ([YKGXC][0-9]+): ")
-SECTION_ROW = re.compile(r"^\| (?:\*([^*]+)\* )?\| ([^|]+) \| [^|]+ \|[^|]*\|$", re.M)
+SECTION_ROW = re.compile(r"^\| \*([^*]+)\* \| (.+) \|$", re.M)
 LEAST_LINES = 1_000
 
 
@@ -93,10 +93,9 @@ def shapes_are_known(program: str) -> None:
         below = [shape["items"], shape["free"], *(row["shape"] for row in shape.get("keys", {}).values())]
         assert all(one is None or one in shapes for one in below), (name, below)
     page = (TOP / "docs/LISTS.md").read_text(encoding="utf-8")
-    rows, section = {}, None
-    for name, keys in SECTION_ROW.findall(page[page.index("| Section |"):].split("\n\n", 1)[0]):
-        section = name or section
-        rows.setdefault(section, set()).update(re.findall(r"`([^`]+)`", keys))
+    rows = {}
+    for section, keys in SECTION_ROW.findall(page[page.index("| Section |"):].split("\n\n", 1)[0]):
+        rows[section] = {key for line in keys.split("<br>") for key in re.findall(r"`([^`]+)`", line.partition(": ")[0])}
     known = {shape["section"]: set(shape["keys"]) for shape in shapes.values() if shape.get("section")}
     assert len(rows) >= 20 and all(rows[section] - {"uses"} == known[section] - {"uses"} for section in rows), rows
 

@@ -4,8 +4,8 @@
 use al_base::{Input, Output, Stop};
 use al_check::Actions;
 use al_cli::{
-    Loaded, Unread, Usage, WaitingOutput, Words, load, number_of, parse_words, run_commands,
-    write_report,
+    Loaded, Unread, Usage, WaitingOutput, Words, load, number_of, parse_words, random_seed,
+    run_commands, write_report,
 };
 use al_session::{Refused, Session};
 use std::io::{BufWriter, ErrorKind, Write};
@@ -44,7 +44,7 @@ fn say_unreadable(rt: &HostRuntime, kind: ErrorKind) -> u8 {
     if kind == ErrorKind::OutOfMemory {
         return say_stop(rt, Stop::Memory);
     }
-    say(rt, "the words of the command line are not text");
+    say(rt, "arguments are not valid UTF-8");
     BAD_WORDS
 }
 
@@ -74,7 +74,7 @@ fn run_script(rt: &HostRuntime, oneline: bool) -> u8 {
     };
     let mut reader = Input::new(rt.stdin());
     let mut writer = Output::new(buffer);
-    let mut session = Session::open(rt.alloc(), Actions::new());
+    let mut session = Session::open_seeded(rt.alloc(), Actions::new(), random_seed(rt));
     let answer = run_commands(rt.alloc(), &mut session, &mut reader, &mut writer, oneline);
     // Buffered output is flushed whatever the result is.
     let flushed = writer.flush();
@@ -94,7 +94,9 @@ fn lint_folder(rt: &HostRuntime, words: &Words) -> u8 {
         Err(unread) => return say_unread(rt, unread),
     };
     for path in &gathered.outside {
-        let _ = eprintln!(rt; "actionlint: passed over {path}, which leads out of the folder");
+        let _ = eprintln!(rt;
+            "actionlint: skipped {path}: symbolic link points outside the folder"
+        );
     }
     match lint_files(rt, gathered.files, words.oneline) {
         Ok(status) => status,

@@ -13,7 +13,8 @@ OrderTells = IsTotalOrder fault_cmp × ((a b : Fault) → fault_cmp a b ≡ Equa
 
 -- each fault of a is one of b, and the other way round
 abbrev pub SameFaults : List Fault → List Fault → Type 0
-SameFaults a b = ((fault : Fault) → Contains a fault → Contains b fault) × ((fault : Fault) → Contains b fault → Contains a fault)
+SameFaults a b = ((fault : Fault) → Contains a fault → Contains b fault)
+    × ((fault : Fault) → Contains b fault → Contains a fault)
 
 -- Each fault is less than all faults after it.
 abbrev pub ListIsSorted : Type 0

@@ -3,7 +3,7 @@ use Rattle.std.specs.Prelude.{ℕ, List}
 use Rattle.std.specs.Ordering.{nat_cmp, on, then_cmp}
 use Rattle.std.specs.declared.cmp.Ordering.{Ordering}
 use Rattle.al_base.specs.Orders.{args_cmp}
-use Rattle.al_base.specs.Codes.{code_row}
+use Rattle.al_base.specs.Codes.{code_place}
 use Rattle.al_base.specs.InOrder.{in_order}
 use Rattle.al_base.specs.declared.codes.Code.{Code}
 use Rattle.al_base.specs.declared.codes.Code.TheVariants as C
@@ -11,7 +11,7 @@ use Rattle.al_base.specs.declared.faults.Fault.{Fault}
 
 -- the position of a code among those of its kind
 abbrev pub place_in_kind : Code → ℕ
-place_in_kind code = (code_row code).place
+place_in_kind code = code_place code
 
 -- faults of YAML, then of keys, then of rules, of expressions, of calls
 abbrev pub kind_place : Code → ℕ

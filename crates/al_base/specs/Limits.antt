@@ -25,7 +25,8 @@ most_alias_text = 1048576
 abbrev pub deepest_collection : ℕ
 deepest_collection = 64
 
--- The most characters of an implicit key (one without `?`), as written (YAML 1.2.2, 7.4.2 and 8.2.2).
+-- The most characters of an implicit key (one without `?`), as written (YAML 1.2.2, 7.4.2 and
+-- 8.2.2).
 abbrev pub longest_key : ℕ
 longest_key = 1024
 

@@ -1,5 +1,6 @@
 -- Where texts and names first occur in a list.
-use Rattle.std.specs.Prelude.{◌≡◌, ◌<◌, ℕ, ◌+◌, List, [], ◌∷◌, Bool, Option, Some, None, length, nat_eq, option_map, slice_index_or}
+use Rattle.std.specs.Prelude.{◌≡◌, ◌<◌, ℕ, ◌+◌, List, [], ◌∷◌, Bool, Option, Some, None, length}
+use Rattle.std.specs.Prelude.{nat_eq, option_map, slice_index_or}
 use Rattle.std.specs.Prelude.{if◌then◌else◌}
 use Rattle.std.specs.Option.{option_eq}
 use Rattle.std.specs.Str.{bytes_eq}
@@ -39,4 +40,5 @@ is_first_name p = is_own p.places.items
 
 -- first is true of a position of the list exactly if place finds the text there at this position
 abbrev pub TellsFirsts : (List ℕ → Option ℕ) → List (List ℕ) → (ℕ → Bool) → Type 0
-TellsFirsts place ts first = (i : ℕ) → i < length ts → first i ≡ option_eq nat_eq (place (slice_index_or ts i [])) (Some i)
+TellsFirsts place ts first =
+    (i : ℕ) → i < length ts → first i ≡ option_eq nat_eq (place (slice_index_or ts i [])) (Some i)

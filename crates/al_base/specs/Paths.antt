@@ -1,12 +1,15 @@
--- What the path of a file in a folder is: parts with single slashes between them, none of them `.` or `..`.
-use Rattle.std.specs.Prelude.{ℕ, Bool, codes, ◌||◌, ◌==◌, nat_lt, List, [], ◌∷◌, length, slice_index, Option, None, Some, if◌then◌else◌}
+-- What the path of a file in a folder is: parts with single slashes between them, none of them `.`
+-- or `..`.
+use Rattle.std.specs.Prelude.{ℕ, Bool, codes, ◌||◌, ◌==◌, nat_lt, List, [], ◌∷◌, length}
+use Rattle.std.specs.Prelude.{slice_index, Option, None, Some, if◌then◌else◌}
 use Rattle.std.specs.Char.{is_ascii_control}
 use Rattle.std.specs.List.{list_any, slice_split}
 use Rattle.std.specs.Str.{bytes_eq}
 use Rattle.al_base.specs.Ascii.{ascii}
 use Rattle.al_base.specs.Limits.{longest_path}
 use Rattle.al_base.specs.declared.paths.PathFault.{PathFault}
-use Rattle.al_base.specs.declared.paths.PathFault.TheVariants.{Empty, Absolute, BadPart, BadByte, TooLong}
+use Rattle.al_base.specs.declared.paths.PathFault.TheVariants.{Empty, Absolute, BadPart, BadByte}
+use Rattle.al_base.specs.declared.paths.PathFault.TheVariants.{TooLong}
 
 -- the parts between slashes
 abbrev pub parts : List ℕ → List (List ℕ)

@@ -1,5 +1,7 @@
--- The position of an offset, as two counts over the whole list of bytes. Breaks are LF, CRLF and CR (YAML 1.2.2, 5.4).
-use Rattle.std.specs.Prelude.{◌≡◌, ◌≤◌, ◌<◌, ℕ, zero, suc, ◌+◌, Bool, not, ◌&&◌, ◌||◌, ◌==◌, nat_lt, nat_le, List}
+-- The position of an offset, as two counts over the whole list of bytes. Breaks are LF, CRLF and CR
+-- (YAML 1.2.2, 5.4).
+use Rattle.std.specs.Prelude.{◌≡◌, ◌≤◌, ◌<◌, ℕ, zero, suc, ◌+◌, Bool, not, ◌&&◌, ◌||◌, ◌==◌, nat_lt}
+use Rattle.std.specs.Prelude.{nat_le, List}
 use Rattle.std.specs.Prelude.{slice_index, if◌then◌else◌}
 use Rattle.al_base.specs.Ascii.{ascii}
 
@@ -8,11 +10,12 @@ abbrev pub count_below : (ℕ → Bool) → ℕ → ℕ
 count_below p zero = 0
 count_below p (suc n) = count_below p n + (if p n then 1 else 0)
 
--- whether a break ends right after the byte at k: an LF, or a CR without an LF after it (past the end `slice_index`
--- is 0)
+-- whether a break ends right after the byte at k: an LF, or a CR without an LF after it (past the
+-- end `slice_index` is 0)
 abbrev pub ends_break : List ℕ → ℕ → Bool
 ends_break bytes k =
-    (slice_index bytes k == ascii "\n") || ((slice_index bytes k == ascii "\r") && not (slice_index bytes (k + 1) == ascii "\n"))
+    (slice_index bytes k == ascii "\n")
+    || ((slice_index bytes k == ascii "\r") && not (slice_index bytes (k + 1) == ascii "\n"))
 
 -- 1 plus the breaks that end at or before the offset
 abbrev pub line_at : List ℕ → ℕ → ℕ

@@ -1,5 +1,6 @@
 -- Texts with their positions, sorted by their last bytes and then by all bytes.
-use Rattle.std.specs.Prelude.{◌≡◌, ◌<◌, ℕ, ◌+◌, ◌*◌, ◌%◌, ◌^◌, ◌&&◌, Bool, List, [], Option, Some, length, nat_eq, nat_lt}
+use Rattle.std.specs.Prelude.{◌≡◌, ◌<◌, ℕ, ◌+◌, ◌*◌, ◌%◌, ◌^◌, ◌&&◌, Bool, List, [], Option, Some}
+use Rattle.std.specs.Prelude.{length, nat_eq, nat_lt}
 use Rattle.std.specs.Prelude.{option_map, slice_index, slice_index_or, All}
 use Rattle.std.specs.Cmp.Lexicographic.{slice_cmp}
 use Rattle.std.specs.List.{find, fold}
@@ -35,7 +36,8 @@ module _ {T : Type 0} (bytes : T → List ℕ) where
 
   -- the position in the first entry with a text
   abbrev pub position_among : List (Entry T) → List ℕ → Option ℕ
-  position_among es text = option_map (λ e. e.position) (find (λ e. is_eq (key_cmp (entry_key e) (sort_key text))) es)
+  position_among es text =
+      option_map (λ e. e.position) (find (λ e. is_eq (key_cmp (entry_key e) (sort_key text))) es)
 
   -- the position in the first entry with the text of an entry
   abbrev pub place_of : List (Entry T) → Entry T → Option ℕ
@@ -55,4 +57,6 @@ module _ {T : Type 0} (bytes : T → List ℕ) where
 
   -- places has, at the position of each entry, the position in the first entry with its text
   abbrev pub TellPlaces : List (Entry T) → List ℕ → Type 0
-  TellPlaces es places = (length places ≡ length es) × All (λ e. place_of es e ≡ Some (slice_index places e.position)) es
+  TellPlaces es places =
+      (length places ≡ length es)
+      × All (λ e. place_of es e ≡ Some (slice_index places e.position)) es

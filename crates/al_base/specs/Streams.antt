@@ -33,13 +33,17 @@ write_failures output = output.failures
 
 -- a call that changed an output wrote these bytes
 abbrev pub Writes : {W : Type 0} → (W → Option (List ℕ)) → Output W → Output W → List ℕ → Type 0
-Writes contents old new bytes = Appends (bytes_written contents old) (bytes_written contents new) bytes
+Writes contents old new bytes =
+    Appends (bytes_written contents old) (bytes_written contents new) bytes
 
 -- it wrote a prefix of them
-abbrev pub WritesPrefix : {W : Type 0} → (W → Option (List ℕ)) → Output W → Output W → List ℕ → Type 0
-WritesPrefix contents old new bytes = AppendsPrefix (bytes_written contents old) (bytes_written contents new) bytes
+abbrev pub WritesPrefix : {W : Type 0} → (W → Option (List ℕ)) → Output W → Output W
+    → List ℕ → Type 0
+WritesPrefix contents old new bytes =
+    AppendsPrefix (bytes_written contents old) (bytes_written contents new) bytes
 
--- A call that returns this result writes all of these bytes, or fails after a prefix of them. It fails exactly if the writer does.
+-- A call that returns this result writes all of these bytes, or fails after a prefix of them. It
+-- fails exactly if the writer does.
 pub record WritesOrFails {W T : Type 0} (contents : W → Option (List ℕ)) (old new : Output W) (result : Result T Stop) (bytes : List ℕ)
     : Type 0 where
   pub all : OnOk result (Writes contents old new bytes)

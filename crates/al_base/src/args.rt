@@ -11,7 +11,8 @@ use std::alloc::{AllocError, Global};
 use std::cmp::Ordering;
 use std::marker::Model;
 
-/// The texts that a fault's message names, at most two, each in UTF-8. Contracts see a list of byte lists.
+/// The texts that a fault's message names, at most two, each in UTF-8. Contracts see a list of byte
+/// lists.
 ///
 /// They take one allocation, and none where there is no text: a report can have millions of faults.
 #[derive(Drop)]
@@ -19,7 +20,8 @@ pub struct Args {
     texts: Texts,
 }
 
-/// How the texts are stored. Two share one string; the number is the byte at which the second begins.
+/// How the texts are stored. Two share one string; the number is the byte at which the second
+/// begins.
 #[derive(Drop)]
 enum Texts {
     None,
@@ -55,7 +57,8 @@ impl Args {
         }
     }
 
-    /// Copies of two texts, in the order in which the message names them. Fails with `AllocError` when out of memory.
+    /// Copies of two texts, in the order in which the message names them. Fails with `AllocError`
+    /// when out of memory.
     pub fn two(alloc: Global, first: &str, second: &str) -> Result<Args, AllocError>
         ensures { IfOk result (λ args. args ≡ first.now ∷ second.now ∷ []) }
     {
@@ -67,7 +70,8 @@ impl Args {
         })
     }
 
-    /// A copy of one text. Bytes of it that aren't UTF-8 become U+FFFD. Fails with `AllocError` when out of memory.
+    /// A copy of one text. Bytes of it that aren't UTF-8 become U+FFFD. Fails with `AllocError`
+    /// when out of memory.
     pub fn one_lossy(alloc: Global, text: &[u8]) -> Result<Args, AllocError>
         ensures { IfOk result (λ args. args ≡ utf8_lossy text.now ∷ []) }
     {
@@ -133,7 +137,8 @@ impl Args {
         }
     }
 
-    /// The texts as they are printed, with a `?` for each control byte. Fails with `AllocError` when out of memory.
+    /// The texts as they are printed, with a `?` for each control byte. Fails with `AllocError`
+    /// when out of memory.
     #[tactic(auto, using(crate::proofs::PrintableTexts::printable_boundary, crate::proofs::TwoTexts::parts_printed))]
     pub fn printable(&self, alloc: Global) -> Result<Args, AllocError>
         ensures { IfOk result (λ args. args ≡ map printable self.now) }

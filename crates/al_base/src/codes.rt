@@ -184,7 +184,8 @@ pub enum Caller {
     Step,
 }
 
-/// The code of a fault. Codes are ordered as reports order them: by kind, then in the order of the variants.
+/// The code of a fault. Codes are ordered as reports order them: by kind, then in the order of the
+/// variants.
 #[derive(Clone, Copy, PartialEq, Eq, PartialOrd, Ord, Debug)]
 pub enum Code {
     Yaml(YamlCode),

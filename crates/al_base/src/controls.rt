@@ -1,5 +1,6 @@
 //! Texts as they are printed, with a `?` for each control byte of ASCII.
-ghost use Rattle.std.specs.Prelude.{◌≡◌, ◌<◌, All, IfOk, MatchOption, false, length, slice_index, string_bytes, take, true};
+ghost use Rattle.std.specs.Prelude.{◌≡◌, ◌<◌, All, IfOk, MatchOption, false, length, slice_index};
+ghost use Rattle.std.specs.Prelude.{string_bytes, take, true};
 ghost use Rattle.std.specs.Char.{is_ascii_control};
 ghost use Rattle.al_base.specs.Printable.{printable};
 

@@ -5,10 +5,12 @@ ghost use Rattle.al_base.specs.Rows.Words.{AreListed, IsBefore, at, key_at};
 ghost use Rattle.al_base.specs.declared.codes.Code.TheVariants.{Call, Expression, Key, Rule, Yaml};
 ghost use Rattle.al_base.specs.declared.codes.YamlCode.TheVariants.{UnclosedQuote, WrongKey};
 ghost use Rattle.al_base.specs.declared.codes.KeyCode.TheVariants.{Unexpected, Missing, Repeated};
-ghost use Rattle.al_base.specs.declared.codes.RuleCode.TheVariants.{MissingOutputValue, UnknownEvent};
+ghost use Rattle.al_base.specs.declared.codes.RuleCode.TheVariants.{MissingOutputValue};
+ghost use Rattle.al_base.specs.declared.codes.RuleCode.TheVariants.{UnknownEvent};
 ghost use Rattle.al_base.specs.declared.codes.CallCode.TheVariants.{NotCallable, UndefinedInput};
 ghost use Rattle.al_base.specs.declared.codes.Caller.TheVariants.{Job, Step};
-ghost use Rattle.al_base.specs.declared.codes.ExpressionCode.TheVariants.{BadCharacter, UnclosedChunk};
+ghost use Rattle.al_base.specs.declared.codes.ExpressionCode.TheVariants.{BadCharacter};
+ghost use Rattle.al_base.specs.declared.codes.ExpressionCode.TheVariants.{UnclosedChunk};
 
 /// The lists of some small sets of faults, as the definitions give them. Does nothing at run time.
 pub fn rows()

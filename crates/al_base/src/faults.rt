@@ -2,7 +2,8 @@
 use crate::args::Args;
 use crate::codes::Code;
 
-/// The bytes of a file from `start` up to, and without, `end`: byte offsets from 0, with `start` at most `end`.
+/// The bytes of a file from `start` up to, and without, `end`: byte offsets from 0, with `start` at
+/// most `end`.
 #[derive(Clone, Copy, PartialEq, Eq, PartialOrd, Ord, Debug)]
 pub struct Span {
     pub start: u32,
@@ -11,8 +12,8 @@ pub struct Span {
 
 /// What is wrong at a place of a file.
 ///
-/// Faults are ordered as a report lists them: by where they start, where they end, their code, and then their
-/// arguments, text by text and byte by byte.
+/// Faults are ordered as a report lists them: by where they start, where they end, their code, and
+/// then their arguments, text by text and byte by byte.
 #[derive(Drop, PartialEq, Eq, PartialOrd, Ord)]
 pub struct Fault {
     pub span: Span,

@@ -1,9 +1,9 @@
 //! What all other crates build on. Six jobs, each with its modules:
 //!
-//! - faults, in `codes`, `args`, `faults`, `sink` and `lists`: a span, a code and the texts of a message; where they go as they
-//!   are found; their order, and a file's list of them
-//! - names in which case does not count, in `names`, and the first positions of texts and names in a list, in `name_positions` and
-//!   `sorted_texts`
+//! - faults, in `codes`, `args`, `faults`, `sink` and `lists`: a span, a code and the texts of a
+//!   message; where they go as they are found; their order, and a file's list of them
+//! - names in which case does not count, in `names`, and the first positions of texts and names in
+//!   a list, in `name_positions` and `sorted_texts`
 //! - paths, in `paths`: which texts name a file of a folder
 //! - control bytes of texts that are printed, in `controls`
 //! - positions, in `positions` and `lines`: the line and the column of an offset

@@ -10,10 +10,11 @@ use memchr::memchr2_iter;
 use std::alloc::{AllocError, Global};
 use std::marker::Model;
 
-/// A table of the byte offsets at which a file's lines begin, so that a position needs no walk from the file's start.
+/// A table of the byte offsets at which a file's lines begin, so that a position needs no walk from
+/// the file's start.
 ///
-/// It belongs to the bytes that it was made from: its methods take just these, and offsets of at most their number. Contracts see the list
-/// of offsets, in their order.
+/// It belongs to the bytes that it was made from: its methods take just these, and offsets of at
+/// most their number. Contracts see the list of offsets, in their order.
 #[derive(Drop)]
 pub struct Lines {
     starts: Vec<u32>,
@@ -28,7 +29,8 @@ impl Model for Lines {
 }
 
 impl Lines {
-    /// The table of a file's bytes, of which there are at most 1,048,576. Fails with `AllocError` when out of memory.
+    /// The table of a file's bytes, of which there are at most 1,048,576. Fails with `AllocError`
+    /// when out of memory.
     pub fn of(alloc: Global, bytes: &[u8]) -> Result<Lines, AllocError>
         requires { length bytes.now ≤ largest_file }
         ensures { IfOk result (λ lines. lines ≡ line_starts bytes.now) }
@@ -44,7 +46,8 @@ impl Lines {
         Ok(Lines { starts })
     }
 
-    /// The line and the column of a byte offset, both from 1, as [`position`](crate::position) counts them. Doesn't allocate.
+    /// The line and the column of a byte offset, both from 1, as [`position`](crate::position)
+    /// counts them. Doesn't allocate.
     pub fn position(&self, bytes: &[u8], offset: u32) -> (u32, u32)
         requires made { self.now ≡ line_starts bytes.now }
         requires within { offset ≤ length bytes.now }
@@ -75,8 +78,8 @@ impl Lines {
         }
     }
 
-    /// The location of a byte offset. If the offset `from`, whose location is `known`, is at or before it on the same line, the column is
-    /// counted on from there. Doesn't allocate.
+    /// The location of a byte offset. If the offset `from`, whose location is `known`, is at or
+    /// before it on the same line, the column is counted on from there. Doesn't allocate.
     pub fn location_after(&self, bytes: &[u8], from: u32, known: Location, offset: u32) -> Location
         requires made { self.now ≡ line_starts bytes.now }
         requires within { offset ≤ length bytes.now }
@@ -110,7 +113,8 @@ impl Lines {
     }
 }
 
-// The column of an offset, counted on from the column of another one at or before it on the same line.
+// The column of an offset, counted on from the column of another one at or before it on the same
+// line.
 fn column_from(bytes: &[u8], from: u32, known: u32, offset: u32) -> u32
     requires order { from ≤ offset }
     requires within { offset ≤ length bytes.now }

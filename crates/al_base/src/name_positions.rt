@@ -6,14 +6,16 @@ ghost use Rattle.al_base.specs.SortedTexts.{AreSorted};
 use super::sorted_texts::{Entry, places_by, position_by, sort_entries};
 use std::alloc::{AllocError, Global};
 
-/// A name in lower case: the same for names that differ only in ASCII case. Fails with `AllocError` when out of memory.
+/// A name in lower case: the same for names that differ only in ASCII case. Fails with `AllocError`
+/// when out of memory.
 pub fn in_lower_case(alloc: Global, name: &[u8]) -> Result<Vec<u8>, AllocError>
     ensures { IfOk result (λ v. v.items ≡ lower_case name.now) }
 {
     name.to_ascii_lowercase(alloc)
 }
 
-/// Where each text of a list first occurs. Building it sorts the texts; a lookup takes time logarithmic in their number.
+/// Where each text of a list first occurs. Building it sorts the texts; a lookup takes time
+/// logarithmic in their number.
 #[derive(Drop)]
 pub struct TextPositions<'a> {
     entries: Vec<Entry<&'a [u8]>>,
@@ -57,7 +59,8 @@ impl<'a> TextPositions<'a> {
     }
 }
 
-/// Where each name of a list first occurs, ignoring ASCII case. Building it and lookups take as long as those of `TextPositions`.
+/// Where each name of a list first occurs, ignoring ASCII case. Building it and lookups take as
+/// long as those of `TextPositions`.
 #[derive(Drop)]
 pub struct NamePositions {
     /// The names in lower case.

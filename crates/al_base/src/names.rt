@@ -10,14 +10,16 @@ pub fn is_among(text: &[u8], others: &[&str]) -> bool
     others.iter().any(|other| text == other.as_bytes())
 }
 
-/// Whether two names or texts are equal, ignoring ASCII case. Most equal names are written alike, which takes less time to find.
+/// Whether two names or texts are equal, ignoring ASCII case. Most equal names are written alike,
+/// which takes less time to find.
 pub fn is_same_name(a: &[u8], b: &[u8]) -> bool
     ensures { result ≡ same_name a.now b.now }
 {
     end_alike(a, b) && (a == b || a.eq_ignore_ascii_case(b))
 }
 
-/// Whether two texts have the same length and last bytes, as equal ones do. This rules out most others.
+/// Whether two texts have the same length and last bytes, as equal ones do. This rules out most
+/// others.
 fn end_alike(a: &[u8], b: &[u8]) -> bool
     ensures { IsTrue (same_name a.now b.now) → IsTrue result }
 {

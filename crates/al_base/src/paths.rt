@@ -10,7 +10,8 @@ use std::alloc::{AllocError, Global};
 use std::marker::Model;
 use thiserror::Error;
 
-/// Why a text isn't the path of a file in a folder (P1 to P5, in the order in which they are checked), or that memory ran out.
+/// Why a text isn't the path of a file in a folder (P1 to P5, in the order in which they are
+/// checked), or that memory ran out.
 #[derive(Clone, Copy, PartialEq, Eq, Debug, Error)]
 pub enum PathFault {
     /// P1: the text is empty.
@@ -58,8 +59,8 @@ impl Model for Path {
 }
 
 impl Path {
-    /// The path with this text. Fails with the reason that [`path_fault`] gives if the text isn't a path, and with `PathFault::Memory` if
-    /// it is one, but memory runs out.
+    /// The path with this text. Fails with the reason that [`path_fault`] gives if the text isn't a
+    /// path, and with `PathFault::Memory` if it is one, but memory runs out.
     pub fn new(alloc: Global, text: &str) -> Result<Path, PathFault>
         ensures path { IfOk result (λ path. path ≡ text.now) }
         ensures accepted { OnOk result (path_fault_of text.now ≡ None) }
@@ -82,7 +83,8 @@ impl Path {
     }
 }
 
-/// The first reason, P1 to P5, why a text isn't the path of a file in a folder; `None` if it is one. Doesn't allocate.
+/// The first reason, P1 to P5, why a text isn't the path of a file in a folder; `None` if it is
+/// one. Doesn't allocate.
 pub fn path_fault(path: &str) -> Option<PathFault>
     ensures { result ≡ path_fault_of path.now }
 {

@@ -3,7 +3,8 @@ ghost use Rattle.std.specs.Prelude.{◌≡◌, ◌≤◌, length, ◌<◌};
 ghost use Rattle.al_base.specs.Limits.{largest_file};
 ghost use Rattle.al_base.specs.Positions.{line_at, column_at, ends_break, begins_char, BeginsLine};
 
-/// The location of an offset: its line and column, both from 1, and the offset at which that line begins.
+/// The location of an offset: its line and column, both from 1, and the offset at which that line
+/// begins.
 #[derive(Clone, Copy)]
 pub struct Location {
     pub line: u32,
@@ -13,8 +14,9 @@ pub struct Location {
 
 /// The line and the column of a byte offset, both from 1.
 ///
-/// The line is 1 plus the number of breaks (LF, CRLF or CR) that end at or before the offset; the column is 1 plus
-/// the number of characters of that line before it. Doesn't allocate. The offset is at most the number of bytes.
+/// The line is 1 plus the number of breaks (LF, CRLF or CR) that end at or before the offset; the
+/// column is 1 plus the number of characters of that line before it. Doesn't allocate. The offset
+/// is at most the number of bytes.
 pub fn position(bytes: &[u8], offset: u32) -> (u32, u32)
     requires within { offset ≤ length bytes.now }
     requires small { length bytes.now ≤ largest_file }

@@ -10,10 +10,11 @@ use crate::faults::{Fault, Span};
 use std::alloc::{AllocError, Global};
 use std::marker::Model;
 
-/// The faults found so far, in the order in which they were found, with the allocator for more. Contracts see the list.
+/// The faults found so far, in the order in which they were found, with the allocator for more.
+/// Contracts see the list.
 ///
-/// Each report fails with `AllocError` when out of memory. What the sink holds then is unspecified: its maker drops it, and the list that
-/// the faults were meant for is unchanged.
+/// Each report fails with `AllocError` when out of memory. What the sink holds then is unspecified:
+/// its maker drops it, and the list that the faults were meant for is unchanged.
 #[derive(Drop)]
 pub struct FaultSink {
     alloc: Global,
@@ -76,7 +77,8 @@ impl FaultSink {
         self.report(span, code, args)
     }
 
-    /// Adds a fault whose message names two texts, in this order. Bytes of them that aren't UTF-8 become U+FFFD.
+    /// Adds a fault whose message names two texts, in this order. Bytes of them that aren't UTF-8
+    /// become U+FFFD.
     pub fn report_two(
         &mut self,
         span: Span,
@@ -100,7 +102,8 @@ impl FaultSink {
         self.faults
     }
 
-    /// Appends the faults to a list. Fails with `AllocError` when out of memory; the list is then unchanged.
+    /// Appends the faults to a list. Fails with `AllocError` when out of memory; the list is then
+    /// unchanged.
     pub fn append_to(mut self, out: &mut Vec<Fault>) -> Result<(), AllocError>
         ensures { out.new.items ≡ (if is_ok result then out.old.items ++ self else out.old.items) }
     {

@@ -1,7 +1,8 @@
 //! Sorted texts, each with its position in the original list.
 
 ghost use Rattle.std.specs.Prelude.{◌≡◌, IfOk, IsPermutation};
-ghost use Rattle.al_base.specs.SortedTexts.{AreSorted, StandIn, TellPlaces, entry_key, key_cmp, position_among, sort_key, tail_number};
+ghost use Rattle.al_base.specs.SortedTexts.{AreSorted, StandIn, TellPlaces, entry_key, key_cmp};
+ghost use Rattle.al_base.specs.SortedTexts.{position_among, sort_key, tail_number};
 
 use std::alloc::{AllocError, Global};
 use std::cmp::Ordering;
@@ -47,7 +48,8 @@ impl<T: AsSlice<u8> + Drop> Entry<T> {
     }
 }
 
-/// The entries in order. Those of equal texts stay in the order that they had. Fails with `AllocError` when out of memory.
+/// The entries in order. Those of equal texts stay in the order that they had. Fails with
+/// `AllocError` when out of memory.
 pub(crate) fn sort_entries<T: AsSlice<u8> + Drop>(
     mut entries: Vec<Entry<T>>,
 ) -> Result<Vec<Entry<T>>, AllocError>
@@ -73,7 +75,8 @@ pub(crate) fn position_by<T: AsSlice<u8> + Drop>(entries: &[Entry<T>], text: &[u
     None
 }
 
-/// The first position of the text at each position, by sorted entries. Fails with `AllocError` when out of memory.
+/// The first position of the text at each position, by sorted entries. Fails with `AllocError` when
+/// out of memory.
 pub(crate) fn places_by<T: AsSlice<u8> + Drop>(
     alloc: Global,
     entries: &[Entry<T>],

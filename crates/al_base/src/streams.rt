@@ -3,13 +3,15 @@ ghost use Rattle.std.specs.Prelude.{◌≡◌, length, max, OnOk, OnErr, IsOkUnl
 ghost use Rattle.std.specs.Io.{ReadsAtMost};
 ghost use Rattle.std.specs.Io.KnownBytes.{Keeps, ReadConsumes};
 ghost use Rattle.al_base.specs.Counted.{count_after, HasRisen};
-ghost use Rattle.al_base.specs.Streams.{WritesOrFails, bytes_left, bytes_written, largest_ask, read_failures, turns_of};
+ghost use Rattle.al_base.specs.Streams.{WritesOrFails, bytes_left, bytes_written, largest_ask};
+ghost use Rattle.al_base.specs.Streams.{read_failures, turns_of};
 ghost use Rattle.al_base.specs.Streams.{write_failures};
 
 use super::stops::Stop;
 use std::io::{Read, Write};
 
-/// A reader that counts its reads and those that failed, and remembers the length of the largest buffer. Both counts saturate.
+/// A reader that counts its reads and those that failed, and remembers the length of the largest
+/// buffer. Both counts saturate.
 #[derive(Drop)]
 pub struct Input<R> {
     inner: R,
@@ -18,7 +20,8 @@ pub struct Input<R> {
     largest_ask: usize,
 }
 
-/// A writer that counts, saturating, the writes that failed: those that returned an error, and those that took none of some bytes.
+/// A writer that counts, saturating, the writes that failed: those that returned an error, and
+/// those that took none of some bytes.
 #[derive(Drop)]
 pub struct Output<W> {
     inner: W,
@@ -62,8 +65,9 @@ impl<R: Read> Input<R> {
         self.largest_ask
     }
 
-    /// Makes one read, and returns how many bytes it gave: 0 at the end, or if the buffer is empty. Fails with `Stop::ReadFault` if the
-    /// inner read returns an error, interruption by a signal included.
+    /// Makes one read, and returns how many bytes it gave: 0 at the end, or if the buffer is empty.
+    /// Fails with `Stop::ReadFault` if the inner read returns an error, interruption by a signal
+    /// included.
     pub fn read(&mut self, buf: &mut [u8]) -> Result<usize, Stop>
         ensures bound { ReadsAtMost result buf.new }
         ensures bytes { ReadConsumes (bytes_left R.remaining self.old)
@@ -100,7 +104,8 @@ impl<W: Write> Output<W> {
         self.failures
     }
 
-    /// Writes all of the bytes. Fails with `Stop::WriteFault` if a write failed; a prefix of the bytes has then been written.
+    /// Writes all of the bytes. Fails with `Stop::WriteFault` if a write failed; a prefix of the
+    /// bytes has then been written.
     pub fn write_all(&mut self, bytes: &[u8]) -> Result<(), Stop>
         ensures { WritesOrFails W.contents self.old self.new result bytes.now }
     {
@@ -117,7 +122,8 @@ impl<W: Write> Output<W> {
         Ok(())
     }
 
-    /// Flushes the inner writer. Fails with `Stop::WriteFault` if that failed, which counts as a failed write.
+    /// Flushes the inner writer. Fails with `Stop::WriteFault` if that failed, which counts as a
+    /// failed write.
     pub fn flush(&mut self) -> Result<(), Stop>
         ensures bytes { Keeps (bytes_written W.contents self.old)
             (bytes_written W.contents self.new) }

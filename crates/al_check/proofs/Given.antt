@@ -15,7 +15,7 @@ use Rattle.al_scalar.specs.declared.faults.FaultAt.{FaultAt}
 use Rattle.al_scalar.specs.declared.faults.YamlFault.{YamlFault}
 use Rattle.al_yaml_tree.specs.Document.{tree_of}
 use Rattle.al_yaml_tree.specs.Node.{Node}
-use Rattle.al_session_folder.specs.declared.lint.Target.{Target}
+use Rattle.al_lint.specs.declared.lint.Target.{Target}
 use Rattle.al_tree.specs.Files.{kind_in, root_of}
 use Rattle.al_tree.specs.declared.files.FileKind.{FileKind}
 use Rattle.al_tree.specs.declared.files.Tree.{Tree}

@@ -1,5 +1,5 @@
 -- What the linter means.
-use Rattle.al_session_folder.specs.Meaning.{Meaning}
+use Rattle.al_lint.specs.Meaning.{Meaning}
 use Rattle.al_tree.specs.Kinds.{is_accepted, file_kind}
 use Rattle.al_check_interfaces.specs.declared.interfaces.Interface.{Interface}
 use Rattle.al_check.specs.Calling.{file_interface, file_targets}

@@ -9,7 +9,7 @@ ghost use Rattle.al_tree.specs.Files.{kind_in, root_of, shape_of};
 ghost use Rattle.al_yaml_tree.specs.View.{view};
 ghost use Rattle.al_check_interfaces.specs.FolderCalls.{AreCallsOf};
 ghost use Rattle.al_check_interfaces.specs.Uses as uses;
-ghost use Rattle.al_session_folder.specs.Meaning.{AreAnswers};
+ghost use Rattle.al_lint.specs.Meaning.{AreAnswers};
 ghost use Rattle.al_check.specs.FileFaults as meant;
 ghost use Rattle.al_check.specs.Calling as calling;
 ghost use Rattle.al_check.specs.Calling.{shown_by};

@@ -10,7 +10,7 @@ use crate::files::{Source, file_faults, file_interface, read_file};
 use crate::units::{Unit, brief_of, calls_of, is_clean};
 use al_base::Fault;
 use al_check_interfaces::Interface;
-use al_session_folder::{Lint, Site, Target};
+use al_lint::{Lint, Site, Target};
 use al_tree::{file_kind, is_action, is_workflow};
 use std::alloc::{AllocError, Global};
 

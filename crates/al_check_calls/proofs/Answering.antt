@@ -8,7 +8,7 @@ use Rattle.std.specs.Option.{option_copied, option_map_or}
 use Rattle.std.specs.Slice.{IsItemAt}
 use Rattle.al_base.proofs.Elements.{each_cons}
 use Rattle.al_base.specs.declared.codes.CallCode.TheVariants.{CallCycle}
-use Rattle.al_session_folder.specs.declared.lint.Target.{Target}
+use Rattle.al_lint.specs.declared.lint.Target.{Target}
 use Rattle.al_yaml_tree.specs.Node.{Node}
 use Rattle.al_tree.proofs.Lists.{left_next}
 use Rattle.al_tree.specs.declared.files.FileKind.{FileKind}

@@ -4,8 +4,8 @@ use Rattle.std.specs.Prelude.{codes, option_and_then, slice_index_or}
 use Rattle.std.specs.List.{AllByRecursion, cons_option, filter_map}
 use Rattle.std.specs.Option.{option_map_or}
 use Rattle.al_base.specs.declared.codes.Caller.{Caller}
-use Rattle.al_session_folder.specs.Meaning.{AreAnswers}
-use Rattle.al_session_folder.specs.declared.lint.Target.{Target}
+use Rattle.al_lint.specs.Meaning.{AreAnswers}
+use Rattle.al_lint.specs.declared.lint.Target.{Target}
 use Rattle.al_scalar.specs.Scalar.{Scalar}
 use Rattle.al_yaml_tree.specs.Node.{Node}
 use Rattle.al_tree.specs.Values.{text_at_key}

@@ -4,7 +4,7 @@ use Rattle.std.specs.Option.{option_map_or}
 use Rattle.al_scalar.specs.Scalar.{Scalar, text_of}
 use Rattle.al_expr_grammar.specs.Building.{tree_of_content}
 use Rattle.al_expr_grammar.specs.Refusal.{fault_of_content}
-use Rattle.al_types.specs.Scopes.{Scope}
+use Rattle.al_expr_names.specs.Scopes.{Scope}
 use Rattle.al_types.specs.Types.{Type', Any, String}
 use Rattle.al_expr_typing.specs.Meaning.{meaning_of, type_found}
 use Rattle.al_tree.specs.Faults.{has_chunk}

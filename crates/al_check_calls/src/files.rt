@@ -2,7 +2,7 @@
 ghost use Rattle.std.specs.Prelude.{◌++◌, map, OnOk};
 ghost use Rattle.std.specs.Option.{option_copied};
 ghost use Rattle.al_check_calls.specs.FileCalls as file_calls;
-ghost use Rattle.al_session_folder.specs.Meaning.{AreAnswers};
+ghost use Rattle.al_lint.specs.Meaning.{AreAnswers};
 ghost use Rattle.al_base.specs.Growth.{SameSet};
 ghost use Rattle.al_base.specs.Limits.{largest_file};
 ghost use Rattle.al_check_interfaces.specs.FolderCalls.{AreCallsOf};

@@ -3,8 +3,8 @@ use Rattle.std.proofs.Common.{◌≡◌, List, Option, refl, sym}
 use Rattle.al_base.specs.Growth.{BeginsWith}
 use Rattle.al_base.proofs.Growing.{begins_same}
 use Rattle.al_types.specs.Types.{Type'}
-use Rattle.al_types.specs.declared.names.Context.{Context}
-use Rattle.al_types.specs.declared.names.Context.TheVariants as context
+use Rattle.al_expr_names.specs.declared.names.Context.{Context}
+use Rattle.al_expr_names.specs.declared.names.Context.TheVariants as context
 use Rattle.al_scalar.specs.Scalar.{Scalar}
 use Rattle.al_yaml_tree.specs.Node.{Node}
 use Rattle.al_tree.specs.Files.{jobs_of}

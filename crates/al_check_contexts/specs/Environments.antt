@@ -2,7 +2,7 @@
 use Rattle.std.specs.Prelude.{◌≡◌, Option}
 use Rattle.al_base.specs.Growth.{BeginsWith}
 use Rattle.al_types.specs.Types.{Type'}
-use Rattle.al_types.specs.declared.names.Context.{Context}
+use Rattle.al_expr_names.specs.declared.names.Context.{Context}
 use Rattle.al_yaml_tree.specs.View.{view}
 use Rattle.al_tree.specs.Files.{jobs_of}
 use Rattle.al_check_places.specs.Positions.{Position, Section, section_view}

@@ -8,4 +8,3 @@ pub mod Steps
 pub mod Table
 pub mod Environments
 pub mod Private
-pub mod Rows

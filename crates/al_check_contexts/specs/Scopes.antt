@@ -1,12 +1,13 @@
 -- What an expression can refer to at a place.
 use Rattle.std.specs.Prelude.{List, [], ◌∷◌, Bool, Option, if◌then◌else◌}
 use Rattle.std.specs.Option.{option_map_or}
-use Rattle.al_types.specs.Names.{contexts}
-use Rattle.al_types.specs.Scopes.{Available, Scope, available, special}
-use Rattle.al_types.specs.declared.names.Context.{Context}
-use Rattle.al_types.specs.declared.names.Context.TheVariants.{Github, Env, Vars, Runner, Job, Strategy, Needs, Jobs, Steps, Matrix, Inputs}
-use Rattle.al_types.specs.declared.names.Function.{Function}
-use Rattle.al_types.specs.declared.names.Function.TheVariants.{HashFiles}
+use Rattle.al_expr_names.specs.Names.{contexts}
+use Rattle.al_expr_names.specs.Scopes.{Available, Scope, available, special}
+use Rattle.al_expr_names.specs.declared.names.Context.{Context}
+use Rattle.al_expr_names.specs.declared.names.Context.TheVariants.{Github, Env, Vars, Runner, Job, Strategy}
+use Rattle.al_expr_names.specs.declared.names.Context.TheVariants.{Needs, Jobs, Steps, Matrix, Inputs}
+use Rattle.al_expr_names.specs.declared.names.Function.{Function}
+use Rattle.al_expr_names.specs.declared.names.Function.TheVariants.{HashFiles}
 use Rattle.al_yaml_tree.specs.Node.{Node}
 use Rattle.al_tree.specs.declared.files.FileKind.{FileKind}
 use Rattle.al_tree.specs.declared.files.FileKind.TheVariants as kind

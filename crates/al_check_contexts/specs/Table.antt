@@ -2,7 +2,7 @@
 use Rattle.std.specs.Prelude.{List, Option}
 use Rattle.std.specs.Option.{option_map_or}
 use Rattle.al_types.specs.Types.{Any, Type'}
-use Rattle.al_types.specs.declared.names.Context.{Context}
+use Rattle.al_expr_names.specs.declared.names.Context.{Context}
 use Rattle.al_scalar.specs.Scalar.{Scalar}
 use Rattle.al_yaml_tree.specs.Node.{Node}
 use Rattle.al_check_places.specs.Positions.{Position, Section}

@@ -20,10 +20,10 @@ use crate::start::first_types;
 use crate::steps::StepFields;
 use al_check_objects::strategy_type;
 use al_check_places::{Place, Section, Seen};
+use al_expr_names::Available;
 use al_expr_types::Types;
 use al_expr_typing::Scope;
 use al_tree::FileKind;
-use al_types::Available;
 use al_yaml_tree::Node;
 use std::alloc::{AllocError, Global};
 

@@ -13,8 +13,7 @@ mod scopes;
 mod sections;
 mod start;
 mod steps;
-mod worked;
 
 pub use env::{Env, File};
 pub use known::{Answer, Answers};
-pub use worked::rows;
+pub use scopes::available_at;

@@ -2,11 +2,11 @@
 ghost use Rattle.std.specs.Prelude.{◌≡◌, option_map};
 ghost use Rattle.al_check_contexts.specs.Scopes as scopes;
 ghost use Rattle.al_check_places.specs.Availability.{row_view};
-ghost use Rattle.al_types.specs.Scopes.{available_of};
+ghost use Rattle.al_expr_names.specs.Scopes.{available_of};
 
 use al_check_places::Row;
+use al_expr_names::{Available, CONTEXTS, Context, Function, SPECIAL_FUNCTIONS};
 use al_tree::FileKind;
-use al_types::{Available, CONTEXTS, Context, Function, SPECIAL_FUNCTIONS};
 
 /// The contexts of an action: all but `secrets`.
 const OF_ACTION: &[Context] = &[
@@ -25,11 +25,7 @@ const OF_ACTION: &[Context] = &[
 
 /// What a place with a row of the table makes available. In an action the functions that tell the status of the job so far are available
 /// only in conditions.
-pub(crate) fn available_at(
-    kind: FileKind,
-    row: Option<&'static Row>,
-    is_condition: bool,
-) -> Available
+pub fn available_at(kind: FileKind, row: Option<&'static Row>, is_condition: bool) -> Available
     ensures { available_of result
         ≡ scopes.available_at kind (option_map (λ r. row_view r.now) row.entry) is_condition }
 {

@@ -7,7 +7,7 @@ ghost use Rattle.al_check_places.specs.declared.positions.Seen.TheVariants.{Befo
 ghost use Rattle.al_check_objects.specs.Numbers.{Means};
 ghost use Rattle.al_check_contexts.specs.Table.{Shows, position};
 ghost use Rattle.al_expr_types.specs.Tables.{objects_of};
-ghost use Rattle.al_types.specs.declared.names.Context.TheVariants as context;
+ghost use Rattle.al_expr_names.specs.declared.names.Context.TheVariants as context;
 ghost use Rattle.al_yaml_tree.specs.View.{view};
 
 use crate::env::File;

@@ -22,7 +22,7 @@ use Rattle.al_expr_grammar.specs.Refusal.{expression_fault, fault_of_content}
 use Rattle.al_expr_grammar.specs.Tree.{Tree}
 use Rattle.al_expr_grammar.proofs.Inside.{TreeLies, chunks_lie, content_fault_lies, extent_lies, tree_lies}
 use Rattle.al_expr_grammar.proofs.Spelled.{only_spelled}
-use Rattle.al_types.specs.Scopes.{Scope}
+use Rattle.al_expr_names.specs.Scopes.{Scope}
 use Rattle.al_types.specs.Types.{Type', is_collection}
 use Rattle.al_expr_typing.specs.Meaning.{faults_found, meaning_of, type_found}
 use Rattle.al_expr_typing.proofs.Inside.{meaning_lies}

@@ -5,7 +5,7 @@ use Rattle.std.specs.Prelude.{option_map}
 use Rattle.al_expr_grammar.specs.Chunks.{before_opening, with_opening, chunks_within, chunks_of, no_chunks}
 use Rattle.al_scalar.specs.Scalar.{text_of}
 use Rattle.al_tree.specs.Faults.{has_chunk}
-use Rattle.al_types.specs.Scopes.{Scope}
+use Rattle.al_expr_names.specs.Scopes.{Scope}
 use Rattle.al_check_places.specs.Places.{Place}
 use Rattle.al_check_expressions.specs.Contents.{chunked_faults, content_faults, fault_in_file, place_faults}
 

@@ -4,7 +4,7 @@ use Rattle.std.specs.List.{flat_map}
 use Rattle.al_base.specs.declared.faults.Fault.{Fault}
 use Rattle.al_scalar.specs.Scalar.{text_of}
 use Rattle.al_tree.specs.Faults.{has_chunk}
-use Rattle.al_types.specs.Scopes.{Scope}
+use Rattle.al_expr_names.specs.Scopes.{Scope}
 use Rattle.al_yaml_tree.specs.Node.{Node}
 use Rattle.al_yaml_tree.specs.Spans.{AreFrom, IsLaid}
 use Rattle.al_tree.specs.declared.files.FileKind.{FileKind}

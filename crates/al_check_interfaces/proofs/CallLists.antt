@@ -6,7 +6,7 @@ use Rattle.std.proofs.lemmas.List.{map-append}
 use Rattle.std.proofs.lemmas.Option.{slice_get-get_or, slice_get-map}
 use Rattle.al_base.specs.declared.codes.CallCode.TheVariants as code
 use Rattle.al_base.specs.declared.faults.Fault.{Fault}
-use Rattle.al_session_folder.specs.declared.lint.Target.{Target}
+use Rattle.al_lint.specs.declared.lint.Target.{Target}
 use Rattle.al_check_interfaces.specs.FolderCalls.{FolderCall, as_folder_call, folder_call}
 use Rattle.al_check_interfaces.specs.Uses.{Call, cycle_faults, target_in, targets_of, that_uses}
 use Rattle.al_check_interfaces.specs.declared.calls.FolderCall as code_calls

@@ -8,7 +8,7 @@ use Rattle.al_base.specs.Ascii.{ascii}
 use Rattle.al_base.specs.Paths.{parts, path_fault_of}
 use Rattle.al_base.specs.declared.codes.Caller.{Caller}
 use Rattle.al_base.specs.declared.codes.Caller.TheVariants as caller
-use Rattle.al_session_folder.specs.declared.lint.Target.TheVariants.{Only, FirstOf}
+use Rattle.al_lint.specs.declared.lint.Target.TheVariants.{Only, FirstOf}
 use Rattle.al_tree.specs.Faults.{has_chunk}
 use Rattle.al_tree.specs.Kinds.{is_workflow, is_workflow_name}
 use Rattle.al_check_interfaces.specs.declared.forms.Form.{Form}

@@ -8,7 +8,7 @@ ghost use Rattle.al_check_interfaces.specs.Uses as calling;
 use crate::forms::{Form, form_by};
 use crate::sites::{Call, caller_of};
 use al_base::{Args, CallCode, Code, Fault, FaultSink};
-use al_session_folder::Target;
+use al_lint::Target;
 use std::alloc::AllocError;
 
 /// A call of a file in the folder.

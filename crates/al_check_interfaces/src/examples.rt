@@ -1,5 +1,5 @@
 //! Worked rows of what a `uses` names.
-ghost use Rattle.al_session_folder.specs.declared.lint.Target.TheVariants.{FirstOf, Only};
+ghost use Rattle.al_lint.specs.declared.lint.Target.TheVariants.{FirstOf, Only};
 ghost use Rattle.al_base.specs.declared.codes.Caller.TheVariants.{Job, Step};
 ghost use Rattle.al_check_interfaces.specs.Forms.{form_by};
 ghost use Rattle.al_check_interfaces.specs.declared.forms.Form.TheVariants.{Local, Other, Wrong};

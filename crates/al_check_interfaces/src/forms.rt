@@ -4,7 +4,7 @@ ghost use Rattle.std.specs.List.{list_all};
 ghost use Rattle.al_check_interfaces.specs.Forms as forms;
 
 use al_base::{Caller, Path, PathFault};
-use al_session_folder::Target;
+use al_lint::Target;
 use al_tree::{contains_chunk, is_workflow, is_workflow_name};
 use std::alloc::{AllocError, Global};
 

@@ -1,14 +1,17 @@
--- Which contexts and special functions are available at a place of a workflow (GitHub, "Contexts reference", context availability): the
--- table, and its row with the longest path.
+-- Which contexts and special functions are available at a place of a workflow (GitHub, "Contexts
+-- reference", context availability): the table, and its row with the longest path.
 use Prim.Native.String.{String}
-use Rattle.std.specs.Prelude.{ℕ, List, [], ◌∷◌, ◌++◌, map, filter, Option, Some, None, length, nat_lt, if◌then◌else◌}
+use Rattle.std.specs.Prelude.{ℕ, List, [], ◌∷◌, ◌++◌, map, filter, Option, Some, None, length}
+use Rattle.std.specs.Prelude.{nat_lt, if◌then◌else◌}
 use Rattle.std.specs.List.{fold}
-use Rattle.al_types.specs.declared.names.Context.{Context}
-use Rattle.al_types.specs.declared.names.Context.TheVariants.{Github, Needs, Vars, Inputs, Strategy, Matrix, Job}
-use Rattle.al_types.specs.declared.names.Context.TheVariants.{Runner, Env, Secrets, Steps, Jobs}
-use Rattle.al_types.specs.declared.names.Function.{Function}
-use Rattle.al_types.specs.declared.names.Function.TheVariants.{HashFiles}
-use Rattle.al_types.specs.Scopes.{status}
+use Rattle.al_expr_names.specs.declared.names.Context.{Context}
+use Rattle.al_expr_names.specs.declared.names.Context.TheVariants.{Github, Needs, Vars, Inputs}
+use Rattle.al_expr_names.specs.declared.names.Context.TheVariants.{Strategy, Matrix, Job}
+use Rattle.al_expr_names.specs.declared.names.Context.TheVariants.{Runner, Env, Secrets, Steps}
+use Rattle.al_expr_names.specs.declared.names.Context.TheVariants.{Jobs}
+use Rattle.al_expr_names.specs.declared.names.Function.{Function}
+use Rattle.al_expr_names.specs.declared.names.Function.TheVariants.{HashFiles}
+use Rattle.al_expr_names.specs.Scopes.{status}
 use Rattle.al_check_places.specs.Paths.{Path, path, is_path_prefix, key_view}
 use Rattle.al_check_places.specs.declared.table.Row as rust
 

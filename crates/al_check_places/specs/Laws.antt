@@ -16,7 +16,9 @@ pub record Lies (size : ℕ) (s : Scalar) : Type 0 where
   pub placed : IsPlaced largest_file s
 
 abbrev pub PlacesLie : Type 0
-PlacesLie = (kind : FileKind) (size : ℕ) (root : Node) → IsLaid size root → All (λ p. Lies size p.word) (places_of kind root)
+PlacesLie = (kind : FileKind) (size : ℕ) (root : Node) → IsLaid size root
+    → All (λ p. Lies size p.word) (places_of kind root)
 
 abbrev pub PlacesHaveTexts : Type 0
-PlacesHaveTexts = (kind : FileKind) (root : Node) → HasTexts root → All (λ p. IsUtf8 (text_of p.word)) (places_of kind root)
+PlacesHaveTexts = (kind : FileKind) (root : Node) → HasTexts root
+    → All (λ p. IsUtf8 (text_of p.word)) (places_of kind root)

@@ -5,4 +5,3 @@ pub mod Positions
 pub mod Places
 pub mod Laws
 pub mod Private
-pub mod Rows

@@ -1,6 +1,7 @@
 -- Paths of keys, as tables have them.
 use Prim.Native.String.{String}
-use Rattle.std.specs.Prelude.{ℕ, List, [], ◌∷◌, Bool, true, false, ◌&&◌, Option, Some, None, codes, map, nat_eq, if◌then◌else◌}
+use Rattle.std.specs.Prelude.{ℕ, List, [], ◌∷◌, Bool, true, false, ◌&&◌, Option, Some, None, codes}
+use Rattle.std.specs.Prelude.{map, nat_eq, if◌then◌else◌}
 use Rattle.std.specs.List.{slice_split}
 use Rattle.std.specs.Option.{option_map_or}
 use Rattle.std.specs.Str.{bytes_eq}
@@ -20,7 +21,8 @@ path text =
 abbrev pub is_path_prefix : Path → List (List ℕ) → Bool
 is_path_prefix [] ks = true
 is_path_prefix (p ∷ ps) [] = false
-is_path_prefix (p ∷ ps) (k ∷ ks) = option_map_or (λ name. bytes_eq name k) p true && is_path_prefix ps ks
+is_path_prefix (p ∷ ps) (k ∷ ks) =
+    option_map_or (λ name. bytes_eq name k) p true && is_path_prefix ps ks
 
 -- the meaning of the program's keys
 abbrev pub key_view : Key → Option (List ℕ)

@@ -19,10 +19,12 @@ pub record Position : Type 0 where
   pub seen : Seen
 
 abbrev pub section_of : List WayStep → Section
-section_of (under a ∷ under b ∷ more) = if bytes_eq a (codes "on") then in_on else if bytes_eq a (codes "jobs") then in_job b else apart
+section_of (under a ∷ under b ∷ more) = if bytes_eq a (codes "on") then in_on
+    else if bytes_eq a (codes "jobs") then in_job b else apart
 section_of _ = apart
 
--- A step sees those before it; a job's `outputs` and `environment.url`, and an action's `outputs`, see all.
+-- A step sees those before it; a job's `outputs` and `environment.url`, and an action's `outputs`,
+-- see all.
 abbrev pub seen_in_item : List ℕ → ℕ → Seen
 seen_in_item k i = if bytes_eq k (codes "steps") then steps.Before i else steps.Nothing
 

@@ -1,5 +1,6 @@
 -- Ways from the root of a file to a scalar, and which of them lead to expressions.
-use Rattle.std.specs.Prelude.{ℕ, List, [], ◌∷◌, Bool, ◌&&◌, ◌==◌, not, map, Option, Some, None, length, if◌then◌else◌}
+use Rattle.std.specs.Prelude.{ℕ, List, [], ◌∷◌, Bool, ◌&&◌, ◌==◌, not, map, Option, Some, None}
+use Rattle.std.specs.Prelude.{length, if◌then◌else◌}
 use Rattle.std.specs.List.{filter_map, list_any}
 use Rattle.al_tree.specs.declared.files.FileKind.{FileKind}
 use Rattle.al_tree.specs.declared.files.FileKind.TheVariants as kind
@@ -25,16 +26,17 @@ begins_one paths ks = list_any (λ p. is_path_prefix p ks) paths
 abbrev pub is_one : List Path → List (List ℕ) → Bool
 is_one paths ks = list_any (λ p. (length p == length ks) && is_path_prefix p ks) paths
 
--- In a workflow: everything except `needs`, `id` and `uses`; below `on` only the defaults and values of
--- `workflow_call`.
+-- In a workflow: everything except `needs`, `id` and `uses`; below `on` only the defaults and
+-- values of `workflow_call`.
 abbrev pub is_checked_in_workflow : List (List ℕ) → Bool
 is_checked_in_workflow ks =
     if is_path_prefix (path "on") ks
     then begins_one (map path ("on.workflow_call.inputs.*.default" ∷ "on.workflow_call.outputs.*.value" ∷ [])) ks
     else not (begins_one (map path ("jobs.*.needs" ∷ "jobs.*.uses" ∷ "jobs.*.steps.id" ∷ "jobs.*.steps.uses" ∷ [])) ks)
 
--- In an action: the defaults of inputs, the values of outputs, and everything below `runs` except `using`, `id` and `uses`. A default or
--- value is checked only if it is itself a scalar: its way has no further key and no position.
+-- In an action: the defaults of inputs, the values of outputs, and everything below `runs` except
+-- `using`, `id` and `uses`. A default or value is checked only if it is itself a scalar: its way
+-- has no further key and no position.
 abbrev pub is_checked_in_action : ℕ → List (List ℕ) → Bool
 is_checked_in_action steps ks =
     if is_path_prefix (path "runs") ks then not (begins_one (map path ("runs.using" ∷ "runs.steps.id" ∷ "runs.steps.uses" ∷ [])) ks)

@@ -1,5 +1,5 @@
-//! The scalars of workflows and actions that have expressions, each with its place: which contexts and functions are
-//! available there, and where it is.
+//! The texts of workflows and actions that have expressions, each with its place: which contexts
+//! and functions are available there, and where it is.
 #![tactic(auto)]
 
 mod laws;
@@ -7,11 +7,9 @@ mod positions;
 mod table;
 mod walk;
 mod ways;
-mod worked;
 
 pub use laws::placed_scalars;
 pub use positions::{Position, Section, Seen};
-pub use table::{Key, Row, available};
+pub use table::{Key, Row, available, rows as available_rows};
 pub use walk::{Place, places};
-pub use ways::WayStep;
-pub use worked::rows;
+pub use ways::{CONDITIONS, NOT_IN_RUNS, NOT_IN_WORKFLOW, OF_CALL, OF_INTERFACE, SCRIPTS, WayStep};

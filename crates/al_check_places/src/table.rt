@@ -5,7 +5,7 @@ ghost use Rattle.al_check_places.specs.Paths.{is_path_prefix, key_view};
 ghost use Rattle.std.specs.Option.{option_map_or};
 ghost use Rattle.std.specs.Str.{bytes_eq};
 
-use al_types::{Context, Function};
+use al_expr_names::{Context, Function};
 
 /// A key of a path: a name, or any key.
 #[derive(Clone, Copy)]
@@ -36,216 +36,93 @@ const OF_STEP: &[Context] = &[
     Github, Needs, Vars, Inputs, Strategy, Matrix, Job, Runner, Env, Secrets, Steps,
 ];
 
+macro_rules! key {
+    (*) => {
+        Id
+    };
+    ($name:literal) => {
+        Named($name)
+    };
+}
+
+/// A row: the keys of its path, in which `*` is any key; its contexts; and its special functions.
+macro_rules! row {
+    ([$($key:tt)+], $contexts:expr, $special:expr) => {
+        Row { path: &[$(key!($key)),+], contexts: $contexts, special: $special }
+    };
+}
+
 const TABLE: &[Row] = &[
-    Row {
-        path: &[Named("run-name")],
-        contexts: &[Github, Inputs, Vars],
-        special: &[],
-    },
-    Row {
-        path: &[Named("concurrency")],
-        contexts: &[Github, Inputs, Vars],
-        special: &[],
-    },
-    Row {
-        path: &[
-            Named("on"),
-            Named("workflow_call"),
-            Named("inputs"),
-            Id,
-            Named("default"),
-        ],
-        contexts: &[Github, Inputs, Vars],
-        special: &[],
-    },
-    Row {
-        path: &[Named("env")],
-        contexts: &[Github, Secrets, Inputs, Vars],
-        special: &[],
-    },
-    Row {
-        path: &[
-            Named("on"),
-            Named("workflow_call"),
-            Named("outputs"),
-            Id,
-            Named("value"),
-        ],
-        contexts: &[Github, Jobs, Vars, Inputs],
-        special: &[],
-    },
-    Row {
-        path: &[Named("jobs"), Id, Named("if")],
-        contexts: BASIC,
-        special: &[Always, Cancelled, Success, Failure],
-    },
-    Row {
-        path: &[Named("jobs"), Id, Named("strategy")],
-        contexts: BASIC,
-        special: &[],
-    },
-    Row {
-        path: &[Named("jobs"), Id, Named("concurrency")],
-        contexts: OF_STRATEGY,
-        special: &[],
-    },
-    Row {
-        path: &[Named("jobs"), Id, Named("container")],
-        contexts: OF_STRATEGY,
-        special: &[],
-    },
-    Row {
-        path: &[Named("jobs"), Id, Named("container"), Named("image")],
-        contexts: OF_STRATEGY,
-        special: &[],
-    },
-    Row {
-        path: &[Named("jobs"), Id, Named("continue-on-error")],
-        contexts: OF_STRATEGY,
-        special: &[],
-    },
-    Row {
-        path: &[Named("jobs"), Id, Named("environment")],
-        contexts: OF_STRATEGY,
-        special: &[],
-    },
-    Row {
-        path: &[Named("jobs"), Id, Named("name")],
-        contexts: OF_STRATEGY,
-        special: &[],
-    },
-    Row {
-        path: &[Named("jobs"), Id, Named("runs-on")],
-        contexts: OF_STRATEGY,
-        special: &[],
-    },
-    Row {
-        path: &[Named("jobs"), Id, Named("services")],
-        contexts: OF_STRATEGY,
-        special: &[],
-    },
-    Row {
-        path: &[Named("jobs"), Id, Named("timeout-minutes")],
-        contexts: OF_STRATEGY,
-        special: &[],
-    },
-    Row {
-        path: &[Named("jobs"), Id, Named("with"), Id],
-        contexts: OF_STRATEGY,
-        special: &[],
-    },
-    Row {
-        path: &[Named("jobs"), Id, Named("defaults"), Named("run")],
-        contexts: &[Github, Needs, Vars, Inputs, Strategy, Matrix, Env],
-        special: &[],
-    },
-    Row {
-        path: &[Named("jobs"), Id, Named("env")],
-        contexts: &[Github, Needs, Vars, Inputs, Strategy, Matrix, Secrets],
-        special: &[],
-    },
-    Row {
-        path: &[Named("jobs"), Id, Named("secrets"), Id],
-        contexts: &[Github, Needs, Vars, Inputs, Strategy, Matrix, Secrets],
-        special: &[],
-    },
-    Row {
-        path: &[Named("jobs"), Id, Named("container"), Named("credentials")],
-        contexts: &[Github, Needs, Vars, Inputs, Strategy, Matrix, Env, Secrets],
-        special: &[],
-    },
-    Row {
-        path: &[
-            Named("jobs"),
-            Id,
-            Named("services"),
-            Id,
-            Named("credentials"),
-        ],
-        contexts: &[Github, Needs, Vars, Inputs, Strategy, Matrix, Env, Secrets],
-        special: &[],
-    },
-    Row {
-        path: &[Named("jobs"), Id, Named("container"), Named("env"), Id],
-        contexts: &[
-            Github, Needs, Vars, Inputs, Strategy, Matrix, Job, Runner, Env, Secrets,
-        ],
-        special: &[],
-    },
-    Row {
-        path: &[Named("jobs"), Id, Named("services"), Id, Named("env"), Id],
-        contexts: &[
-            Github, Needs, Vars, Inputs, Strategy, Matrix, Job, Runner, Env, Secrets,
-        ],
-        special: &[],
-    },
-    Row {
-        path: &[Named("jobs"), Id, Named("environment"), Named("url")],
-        contexts: &[
-            Github, Needs, Vars, Inputs, Strategy, Matrix, Job, Runner, Env, Steps,
-        ],
-        special: &[],
-    },
-    Row {
-        path: &[Named("jobs"), Id, Named("outputs"), Id],
-        contexts: OF_STEP,
-        special: &[],
-    },
-    Row {
-        path: &[
-            Named("jobs"),
-            Id,
-            Named("steps"),
-            Named("continue-on-error"),
-        ],
-        contexts: OF_STEP,
-        special: &[HashFiles],
-    },
-    Row {
-        path: &[Named("jobs"), Id, Named("steps"), Named("env")],
-        contexts: OF_STEP,
-        special: &[HashFiles],
-    },
-    Row {
-        path: &[Named("jobs"), Id, Named("steps"), Named("name")],
-        contexts: OF_STEP,
-        special: &[HashFiles],
-    },
-    Row {
-        path: &[Named("jobs"), Id, Named("steps"), Named("run")],
-        contexts: OF_STEP,
-        special: &[HashFiles],
-    },
-    Row {
-        path: &[Named("jobs"), Id, Named("steps"), Named("timeout-minutes")],
-        contexts: OF_STEP,
-        special: &[HashFiles],
-    },
-    Row {
-        path: &[Named("jobs"), Id, Named("steps"), Named("with")],
-        contexts: OF_STEP,
-        special: &[HashFiles],
-    },
-    Row {
-        path: &[
-            Named("jobs"),
-            Id,
-            Named("steps"),
-            Named("working-directory"),
-        ],
-        contexts: OF_STEP,
-        special: &[HashFiles],
-    },
-    Row {
-        path: &[Named("jobs"), Id, Named("steps"), Named("if")],
-        contexts: &[
-            Github, Needs, Vars, Inputs, Strategy, Matrix, Job, Runner, Env, Steps,
-        ],
-        special: &[Always, Cancelled, Success, Failure, HashFiles],
-    },
+    row!(["run-name"], &[Github, Inputs, Vars], &[]),
+    row!(["concurrency"], &[Github, Inputs, Vars], &[]),
+    row!(["on" "workflow_call" "inputs" * "default"], &[Github, Inputs, Vars], &[]),
+    row!(["env"], &[Github, Secrets, Inputs, Vars], &[]),
+    row!(["on" "workflow_call" "outputs" * "value"], &[Github, Jobs, Vars, Inputs], &[]),
+    row!(
+        ["jobs" * "if"],
+        BASIC,
+        &[Always, Cancelled, Success, Failure]
+    ),
+    row!(["jobs" * "strategy"], BASIC, &[]),
+    row!(["jobs" * "concurrency"], OF_STRATEGY, &[]),
+    row!(["jobs" * "container"], OF_STRATEGY, &[]),
+    row!(["jobs" * "container" "image"], OF_STRATEGY, &[]),
+    row!(["jobs" * "continue-on-error"], OF_STRATEGY, &[]),
+    row!(["jobs" * "environment"], OF_STRATEGY, &[]),
+    row!(["jobs" * "name"], OF_STRATEGY, &[]),
+    row!(["jobs" * "runs-on"], OF_STRATEGY, &[]),
+    row!(["jobs" * "services"], OF_STRATEGY, &[]),
+    row!(["jobs" * "timeout-minutes"], OF_STRATEGY, &[]),
+    row!(["jobs" * "with" *], OF_STRATEGY, &[]),
+    row!(["jobs" * "defaults" "run"], &[Github, Needs, Vars, Inputs, Strategy, Matrix, Env], &[]),
+    row!(
+        ["jobs" * "env"],
+        &[Github, Needs, Vars, Inputs, Strategy, Matrix, Secrets],
+        &[]
+    ),
+    row!(["jobs" * "secrets" *], &[Github, Needs, Vars, Inputs, Strategy, Matrix, Secrets], &[]),
+    row!(
+        ["jobs" * "container" "credentials"],
+        &[Github, Needs, Vars, Inputs, Strategy, Matrix, Env, Secrets],
+        &[]
+    ),
+    row!(
+        ["jobs" * "services" * "credentials"],
+        &[Github, Needs, Vars, Inputs, Strategy, Matrix, Env, Secrets],
+        &[]
+    ),
+    row!(
+        ["jobs" * "container" "env" *],
+        &[Github, Needs, Vars, Inputs, Strategy, Matrix, Job, Runner, Env, Secrets],
+        &[]
+    ),
+    row!(
+        ["jobs" * "services" * "env" *],
+        &[Github, Needs, Vars, Inputs, Strategy, Matrix, Job, Runner, Env, Secrets],
+        &[]
+    ),
+    row!(
+        ["jobs" * "environment" "url"],
+        &[Github, Needs, Vars, Inputs, Strategy, Matrix, Job, Runner, Env, Steps],
+        &[]
+    ),
+    row!(["jobs" * "outputs" *], OF_STEP, &[]),
+    row!(["jobs" * "steps" "continue-on-error"], OF_STEP, &[HashFiles]),
+    row!(["jobs" * "steps" "env"], OF_STEP, &[HashFiles]),
+    row!(["jobs" * "steps" "name"], OF_STEP, &[HashFiles]),
+    row!(["jobs" * "steps" "run"], OF_STEP, &[HashFiles]),
+    row!(["jobs" * "steps" "timeout-minutes"], OF_STEP, &[HashFiles]),
+    row!(["jobs" * "steps" "with"], OF_STEP, &[HashFiles]),
+    row!(["jobs" * "steps" "working-directory"], OF_STEP, &[HashFiles]),
+    row!(
+        ["jobs" * "steps" "if"],
+        &[Github, Needs, Vars, Inputs, Strategy, Matrix, Job, Runner, Env, Steps],
+        &[Always, Cancelled, Success, Failure, HashFiles]
+    ),
 ];
 
-fn rows() -> &'static [Row]
+/// The rows of the table. Doesn't allocate.
+pub fn rows() -> &'static [Row]
     ensures { map row_view result.now ≡ table }
 {
     TABLE

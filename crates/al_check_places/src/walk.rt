@@ -6,8 +6,10 @@ ghost use Rattle.al_base.specs.Names.{among};
 ghost use Rattle.al_tree.specs.Table.{keys_view, rule_view, rule as table_rule};
 ghost use Rattle.al_check_places.specs.Availability.{row_view};
 ghost use Rattle.al_check_places.specs.Places as places;
-ghost use Rattle.al_check_places.specs.Places.{row_of_way, entry_places, place_of, places_of_node, places_of_entries};
-ghost use Rattle.al_check_places.specs.Places.{places_of_items, places_of, rule_or_any, scalar_places};
+ghost use Rattle.al_check_places.specs.Places.{row_of_way, entry_places, place_of, places_of_node};
+ghost use Rattle.al_check_places.specs.Places.{places_of_entries};
+ghost use Rattle.al_check_places.specs.Places.{places_of_items, places_of, rule_or_any};
+ghost use Rattle.al_check_places.specs.Places.{scalar_places};
 ghost use Rattle.al_check_places.specs.Private.Walks as walks;
 ghost use Rattle.al_check_places.specs.Private.Walks.{places_in, way_in};
 ghost use Rattle.al_check_places.specs.Ways.{under, way_step_view};
@@ -37,7 +39,8 @@ pub struct Place<'a> {
     pub position: Position<'a>,
 }
 
-/// A walk through a file of a kind: the way from the root to the current node, and the places found so far, in the order of the file.
+/// A walk through a file of a kind: the way from the root to the current node, and the places found
+/// so far, in the order of the file.
 #[derive(Drop)]
 struct Walk<'a> {
     alloc: Global,
@@ -166,7 +169,8 @@ fn find_items<'a>(shape: Shape, nodes: &'a [Node], walk: &mut Walk<'a>) -> Resul
     Ok(())
 }
 
-/// Whether an entry may have an expression: a scalar without `${{` has none, unless its key ends in `if`, like those of conditions.
+/// Whether an entry may have an expression: a scalar without `${{` has none, unless its key ends in
+/// `if`, like those of conditions.
 #[inline(always)]
 fn may_have_expression(entry: &Entry) -> bool
     ensures { result ≡ walks.may_have_expression (entry_view entry.now) }
@@ -231,7 +235,8 @@ fn find_entry<'a>(
     Ok(())
 }
 
-/// The scalars of a file that have expressions, in the order of the file: conditions, and texts with `${{`. Other texts have no fault.
+/// The scalars of a file that have expressions, in the order of the file: conditions, and texts
+/// with `${{`. Other texts have no fault.
 ///
 /// Fails with `AllocError` when out of memory.
 pub fn places(alloc: Global, kind: FileKind, root: &Node) -> Result<Vec<Place<'_>>, AllocError>

@@ -79,7 +79,8 @@ impl<'a> Way<'a> {
     }
 }
 
-const OF_CALL: &[&[Key]] = &[
+/// Below `on` of a workflow, only what begins with these is checked.
+pub const OF_CALL: &[&[Key]] = &[
     &[
         Named("on"),
         Named("workflow_call"),
@@ -96,25 +97,29 @@ const OF_CALL: &[&[Key]] = &[
     ],
 ];
 
-const NOT_IN_WORKFLOW: &[&[Key]] = &[
+/// What begins with these has no expressions, elsewhere in a workflow.
+pub const NOT_IN_WORKFLOW: &[&[Key]] = &[
     &[Named("jobs"), Id, Named("needs")],
     &[Named("jobs"), Id, Named("uses")],
     &[Named("jobs"), Id, Named("steps"), Named("id")],
     &[Named("jobs"), Id, Named("steps"), Named("uses")],
 ];
 
-const OF_INTERFACE: &[&[Key]] = &[
+/// Outside `runs` of an action, only these have expressions.
+pub const OF_INTERFACE: &[&[Key]] = &[
     &[Named("inputs"), Id, Named("default")],
     &[Named("outputs"), Id, Named("value")],
 ];
 
-const NOT_IN_RUNS: &[&[Key]] = &[
+/// What begins with these has no expressions, in `runs` of an action.
+pub const NOT_IN_RUNS: &[&[Key]] = &[
     &[Named("runs"), Named("using")],
     &[Named("runs"), Named("steps"), Named("id")],
     &[Named("runs"), Named("steps"), Named("uses")],
 ];
 
-const CONDITIONS: &[&[Key]] = &[
+/// Conditions: their whole text is an expression, if it has no `${{`.
+pub const CONDITIONS: &[&[Key]] = &[
     &[Named("jobs"), Id, Named("if")],
     &[Named("jobs"), Id, Named("steps"), Named("if")],
     &[Named("runs"), Named("steps"), Named("if")],
@@ -122,7 +127,8 @@ const CONDITIONS: &[&[Key]] = &[
     &[Named("runs"), Named("post-if")],
 ];
 
-const SCRIPTS: &[&[Key]] = &[
+/// The scripts of steps, of which untrusted text would become part.
+pub const SCRIPTS: &[&[Key]] = &[
     &[Named("jobs"), Id, Named("steps"), Named("run")],
     &[Named("runs"), Named("steps"), Named("run")],
 ];

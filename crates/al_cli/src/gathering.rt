@@ -20,6 +20,7 @@ use al_cli_words::Words;
 use al_session::{Refused, SessionBuilder, Target};
 use std::alloc::{AllocError, AllocFailed, Global};
 use std::collections::BTreeSet;
+use std::random::RandomSource;
 use std::rt::Files;
 use thiserror::Error;
 
@@ -65,7 +66,7 @@ impl<T: Drop> From<AllocFailed<T>> for Unread {
 /// The files that a run without a script lints, each with its path and its bytes: those that the words name, or else all
 /// workflows of the folder in order of path; and then, one after another, each file that those before it call and that is
 /// there. Of what the folder lists only regular files are taken, with links followed; anything else of a name can't be read. A
-/// listed or called file to which links lead out of the folder is passed over, and can't be read where the words name it. Each path
+/// listed or called file whose symbolic links point outside the folder is skipped, and can't be read where the words name it. Each path
 /// is in the list once, and [`lint_all`](crate::lint_all) refuses none of the files; the folder that they make there is the one that
 /// [`load`] answers.
 ///
@@ -74,7 +75,7 @@ impl<T: Drop> From<AllocFailed<T>> for Unread {
 /// [`Unread`], for the first file that can't be read or is refused, or where memory ran out. A path is refused before it is read, and of a
 /// file at most 1,048,577 bytes are asked for.
 #[tactic(auto, using(crate::proofs::Turns::all_small))]
-pub fn gather<R: Files + AllocGlobal + Clone + Drop>(
+pub fn gather<R: Files + RandomSource + AllocGlobal + Clone + Drop>(
     rt: &R,
     alloc: Global,
     words: &Words,
@@ -90,12 +91,12 @@ pub fn gather<R: Files + AllocGlobal + Clone + Drop>(
     Ok(gathering.files.into_list()?)
 }
 
-/// The same files, read and not checked yet, and the paths that were passed over.
+/// The same files, read and not checked yet, and the paths that were skipped.
 ///
 /// # Errors
 ///
 /// Those of [`gather`].
-pub fn load<R: Files + AllocGlobal + Clone + Drop>(
+pub fn load<R: Files + RandomSource + AllocGlobal + Clone + Drop>(
     rt: &R,
     alloc: Global,
     words: &Words,
@@ -130,7 +131,7 @@ fn gather_from<D: Disk>(alloc: Global, disk: &mut D, words: &Words) -> Result<Ga
         AreInOrder (map (λ file. file.now) words.now.files.items) gathering.files) }
 {
     let mut gathering = Gathering {
-        files: TakenFiles::new(alloc),
+        files: TakenFiles::new(alloc, disk.seed()),
         candidates: Candidates {
             waiting: BTreeSet::new(alloc),
             absent: BTreeSet::new(alloc),
@@ -297,7 +298,7 @@ impl Gathering {
         }
     }
 
-    // Skips a path that leads out of the folder, for good.
+    // Skips a path whose symbolic links point outside the folder, for good.
     fn pass_over(&mut self, path: &str) -> Result<(), Unread>
         ensures files { (self.new).files ≡ (self.old).files }
         ensures waiting { (self.new).candidates.waiting.keys

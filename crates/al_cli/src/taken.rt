@@ -11,7 +11,7 @@ ghost use Rattle.al_cli.specs.Taken.{AreGathered, owned_entry};
 use crate::gathering::Loaded;
 use al_base::{Path, PathFault};
 use al_check::Actions;
-use al_session::{Refused, Target};
+use al_session::{Refused, Seed, Target};
 use std::alloc::{AllocError, Global};
 use std::marker::Model;
 
@@ -36,11 +36,11 @@ impl Model for TakenFiles {
 
 impl TakenFiles {
     /// No files. Doesn't allocate.
-    pub(crate) fn new(alloc: Global) -> TakenFiles
+    pub(crate) fn new(alloc: Global, seed: Seed) -> TakenFiles
         ensures { result ≡ [] }
     {
         TakenFiles {
-            files: Loaded::new(alloc, Actions::for_one_report()),
+            files: Loaded::seeded(alloc, Actions::for_one_report(), seed),
             order: Vec::new(alloc),
         }
     }

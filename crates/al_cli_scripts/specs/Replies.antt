@@ -1,5 +1,6 @@
 -- What a script's session does at a command: the folder, the reply and the status.
-use Rattle.std.specs.Prelude.{◌≡◌, ◌≢◌, ◌⊎◌, ℕ, Bool, List, ◌++◌, length, codes, decimal, Option, None, Some, Result, Ok, Err}
+use Rattle.std.specs.Prelude.{◌≡◌, ◌≢◌, ◌⊎◌, ℕ, Bool, List, ◌++◌, length, codes, decimal, Option}
+use Rattle.std.specs.Prelude.{None, Some, Result, Ok, Err}
 use Rattle.std.specs.Io.KnownBytes.{Keeps}
 use Rattle.al_base.specs.Counted.{AppendsPrefix}
 use Rattle.al_base.specs.declared.stops.Stop.{Stop}
@@ -9,7 +10,8 @@ use Rattle.al_session.specs.Affected.{affected_paths}
 use Rattle.al_session.specs.Folder.{Folder, put_refusal, delete_refusal, with_file, without_file}
 use Rattle.al_session.specs.Report.{report_of, status_of}
 use Rattle.al_session.specs.declared.lint.Refused.{Refused}
-use Rattle.al_session.specs.declared.lint.Refused.TheVariants.{BadPath, NotAccepted, TooLarge, Full, NoSuchFile, Memory}
+use Rattle.al_session.specs.declared.lint.Refused.TheVariants.{BadPath, NotAccepted, TooLarge, Full}
+use Rattle.al_session.specs.declared.lint.Refused.TheVariants.{NoSuchFile, Memory}
 use Rattle.al_check.specs.Linting.{linting}
 use Rattle.al_check_interfaces.specs.contracts.interfaces.InterfacePartialEq.TheImpl as interface
 use Rattle.al_cli_scripts.specs.Script.{Command, Put, Delete, Report}
@@ -42,15 +44,21 @@ edit_reply None old new =
 edit_reply (Some refused) old new = refused_reply refused
 
 abbrev pub after_command : Folder → Command → Folder
-after_command folder (Put path bytes) = edit_result (put_refusal linting folder path bytes) folder (with_file folder path bytes)
-after_command folder (Delete path) = edit_result (delete_refusal linting folder path) folder (without_file folder path)
+after_command folder (Put path bytes) =
+    edit_result (put_refusal linting folder path bytes) folder (with_file folder path bytes)
+after_command folder (Delete path) =
+    edit_result (delete_refusal linting folder path) folder (without_file folder path)
 after_command folder Report = folder
 
 -- the reply to a command; a report has snippets, or only lines
 abbrev pub reply_to : Bool → Folder → Command → List ℕ
-reply_to oneline folder (Put path bytes) = edit_reply (put_refusal linting folder path bytes) folder (with_file folder path bytes)
-reply_to oneline folder (Delete path) = edit_reply (delete_refusal linting folder path) folder (without_file folder path)
-reply_to oneline folder Report = report_of oneline linting folder ++ (codes "status " ++ decimal (status_of linting folder) ++ codes "\n")
+reply_to oneline folder (Put path bytes) =
+    edit_reply (put_refusal linting folder path bytes) folder (with_file folder path bytes)
+reply_to oneline folder (Delete path) =
+    edit_reply (delete_refusal linting folder path) folder (without_file folder path)
+reply_to oneline folder Report =
+    report_of oneline linting folder
+    ++ (codes "status " ++ decimal (status_of linting folder) ++ codes "\n")
 
 -- why a command is refused, unless it is because memory ran out
 abbrev pub refusal_of : Folder → Command → Option Refused
@@ -60,7 +68,8 @@ refusal_of folder Report = None
 
 -- the session of a script, over its folders
 abbrev pub session : Bool → Steps Folder
-session oneline = record { reply = reply_to oneline; after = after_command; status = status_of linting }
+session oneline =
+    record { reply = reply_to oneline; after = after_command; status = status_of linting }
 
 -- ---- what a reply to an edit writes
 

@@ -2,7 +2,8 @@
 
 ghost use Rattle.std.specs.Prelude.{◌≡◌, ◌<◌, ◌≤◌, ◌+◌, MatchOption, length, take, slice_index};
 ghost use Rattle.al_base.specs.Limits.{longest_line};
-ghost use Rattle.al_cli_scripts.specs.Private.Next.{IsNext, IsLineOf, IsPutOf, IsLengthOf, IsPutLine, IsDeleteOf};
+ghost use Rattle.al_cli_scripts.specs.Private.Next.{IsNext, IsLineOf, IsPutOf, IsLengthOf};
+ghost use Rattle.al_cli_scripts.specs.Private.Next.{IsPutLine, IsDeleteOf};
 ghost use Rattle.al_cli_scripts.specs.Script.{HasNoBreak, IsPathText};
 
 use al_base::limits::LONGEST_LINE;

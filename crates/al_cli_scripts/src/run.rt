@@ -3,7 +3,8 @@
 ghost use Rattle.std.specs.Prelude.{Err, None, max, ◌≡◌, ◌≢◌, [], ◌++◌, ◌⊎◌, length};
 ghost use Rattle.std.specs.Prelude.{codes, IfOk, OnOk, OnErr, IfErr, IsErrOf, decimal};
 ghost use Rattle.al_base.specs.Counted.{count_after};
-ghost use Rattle.al_base.specs.Streams.{bytes_left, turns_of, read_failures, largest_ask, bytes_written, write_failures};
+ghost use Rattle.al_base.specs.Streams.{bytes_left, turns_of, read_failures, largest_ask};
+ghost use Rattle.al_base.specs.Streams.{bytes_written, write_failures};
 ghost use Rattle.al_base.specs.Streams.{Writes, WritesOrFails, WritesPrefix};
 ghost use Rattle.al_cli_scripts.specs.Private.Next.{meaning};
 ghost use Rattle.al_cli_scripts.specs.Script.{IsPending};
@@ -11,7 +12,8 @@ ghost use Rattle.al_cli_scripts.specs.Runs.{CountsFailures, LeavesFolder, Runs, 
 ghost use Rattle.al_cli_scripts.specs.Replies as replies;
 ghost use Rattle.al_session.specs.declared.lint.Refused.TheVariants as refused;
 ghost use Rattle.al_cli_scripts.specs.Private.Answered.{Progresses, IsStuck};
-ghost use Rattle.al_base.specs.declared.stops.Stop.TheVariants.{ReadFault, WriteFault, Memory, TooManyTurns};
+ghost use Rattle.al_base.specs.declared.stops.Stop.TheVariants.{ReadFault, WriteFault, Memory};
+ghost use Rattle.al_base.specs.declared.stops.Stop.TheVariants.{TooManyTurns};
 ghost use Rattle.al_base.specs.Limits.{largest_read};
 
 use super::commands::{Command, NextCommand, next_command};
@@ -32,7 +34,8 @@ pub(crate) enum Progress {
     Bad,
 }
 
-/// Runs the script that the reader gives in a new session, whose folder is empty, as [`run_commands`] does.
+/// Runs the script that the reader gives in a new session, whose folder is empty, as
+/// [`run_commands`] does.
 ///
 /// # Errors
 ///
@@ -50,20 +53,23 @@ pub fn run_session<R: Read, W: Write>(
     run_commands(alloc, &mut session, reader, writer, oneline)
 }
 
-/// Runs the script that the reader gives over a session, which then has the folder that its commands leave. Reports have
-/// only the lines of faults if `oneline` is set. Returns the session's status if the input ends with no command begun, and
-/// otherwise 2, for a bad command.
+/// Runs the script that the reader gives over a session, which then has the folder that its
+/// commands leave. Reports have only the lines of faults if `oneline` is set. Returns the session's
+/// status if the input ends with no command begun, and otherwise 2, for a bad command.
 ///
-/// Each read is for 65,536 bytes. None follows the one at which the input ends or a command turns out to be bad.
+/// Each read is for 65,536 bytes. None follows the one at which the input ends or a command turns
+/// out to be bad.
 ///
 /// # Errors
 ///
-/// - [`Stop::ReadFault`] if a read failed, and [`Stop::TooManyTurns`] if the script didn't end within 1,048,576 reads. The
-///   writer has the replies to all whole commands read so far, and what was read after these isn't a bad command.
-/// - [`Stop::WriteFault`] if a write or a flush failed, and [`Stop::Memory`] if memory ran out. The writer has a prefix of
-///   the output of the whole script.
+/// - [`Stop::ReadFault`] if a read failed, and [`Stop::TooManyTurns`] if the script didn't end
+///   within 1,048,576 reads. The writer has the replies to all whole commands read so far, and what
+///   was read after these isn't a bad command.
+/// - [`Stop::WriteFault`] if a write or a flush failed, and [`Stop::Memory`] if memory ran out. The
+///   writer has a prefix of the output of the whole script.
 ///
-/// After an error the session has carried out the script up to some command; which one isn't promised.
+/// After an error the session has carried out the script up to some command; which one isn't
+/// promised.
 pub fn run_commands<R: Read, W: Write>(
     alloc: Global,
     session: &mut Session<Actions>,
@@ -97,7 +103,8 @@ struct Run {
 }
 
 impl Run {
-    // A run that hasn't read anything. The clauses leave the zeros out: a tactic that sees `replicate 65536 0` computes it.
+    // A run that hasn't read anything. The clauses leave the zeros out: a tactic that sees
+    // `replicate 65536 0` computes it.
     fn new(alloc: Global, oneline: bool) -> Result<Run, AllocError>
         ensures oneline { IfOk result (λ run. run.oneline ≡ oneline) }
         ensures waiting { IfOk result (λ run. run.waiting.items ≡ []) }

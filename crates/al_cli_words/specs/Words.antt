@@ -1,7 +1,9 @@
 -- The command line: its options, in terms of clap's definitions, and what its words ask for.
-use Rattle.std.specs.Prelude.{◌≡◌, ◌≢◌, ◌⊎◌, Bool, true, false, List, [], ◌∷◌, Option, Some, None, map, unwrap_or, codes}
+use Rattle.std.specs.Prelude.{◌≡◌, ◌≢◌, ◌⊎◌, Bool, true, false, List, [], ◌∷◌, Option, Some, None}
+use Rattle.std.specs.Prelude.{map, unwrap_or, codes}
 use Rattle.std.specs.List.{fold}
-use Rattle.clap.specs.Words.{App, IsAmong, Kinds, Row, Rule, Text, all_of, fault_of, first_of, one_of, matches_of, new_app, new_rule}
+use Rattle.clap.specs.Words.{App, IsAmong, Kinds, Row, Rule, Text, all_of, fault_of, first_of}
+use Rattle.clap.specs.Words.{one_of, matches_of, new_app, new_rule}
 use Rattle.clap.specs.Words.{with_rule}
 use Rattle.clap.specs.Simple.{on_top}
 use Rattle.clap.specs.declared.builder.action.ArgAction.{ArgAction}
@@ -48,7 +50,8 @@ root_in rows = first_of (codes "root") rows
 abbrev pub files_in : List Row → List Text
 files_in rows = unwrap_or (all_of (codes "file") rows) []
 
--- the matches ask for these words: the flags, DIR and FILEs are theirs, and a script has neither FILEs nor DIR
+-- the matches ask for these words: the flags, DIR and FILEs are theirs, and a script has neither
+-- FILEs nor DIR
 pub record AsksFor (rows : List Row) (words : Words) : Type 0 where
   pub oneline : IsFlag (one_of (codes "oneline") rows) words.oneline
   pub session : IsFlag (one_of (codes "session") rows) words.session
@@ -79,7 +82,8 @@ IsNoRun rows (usage.Help text) = ⊥
 IsNoRun rows (usage.Clap text) = ⊥
 IsNoRun rows usage.Memory = Unit {0}
 
--- why words don't ask for a run: they combine what can't be combined; they ask for help; they are wrong in another way; or memory ran out
+-- why words don't ask for a run: they combine what can't be combined; they ask for help; they are
+-- wrong in another way; or memory ran out
 abbrev pub IsUsage : List Text → Usage → Type 0
 IsUsage words usage.Session = (kinds_in words ≡ []) × AreBeside (rows_in words)
 IsUsage words (usage.Help text) = IsAmong DisplayHelp (kinds_in words)

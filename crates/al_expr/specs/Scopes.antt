@@ -1,9 +1,9 @@
 -- What is available at a place, with types as trees.
 use Rattle.std.specs.Prelude.{◌≡◌, true}
-use Rattle.al_types.specs.Scopes.{Scope, available_of}
+use Rattle.al_expr_names.specs.Scopes.{Scope, available_of}
 use Rattle.al_types.specs.Types.{Type'}
-use Rattle.al_types.specs.declared.names.Context.{Context}
-use Rattle.al_types.specs.declared.names.Context.TheVariants as context
+use Rattle.al_expr_names.specs.declared.names.Context.{Context}
+use Rattle.al_expr_names.specs.declared.names.Context.TheVariants as context
 use Rattle.al_expr_types.specs.Tables.{is_known, type_at}
 use Rattle.al_expr_types.specs.declared.types.Types.{Types}
 use Rattle.al_expr_typing.specs.Scopes.{context_number}

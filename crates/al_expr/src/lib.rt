@@ -19,10 +19,11 @@ pub use al_expr_grammar::{
     Chunk, Expr, Keyword, Operand, Operator, PathStep, Token, TokenKind, Word, chunks, extent,
     grammar, lex, parse_expr,
 };
-pub use al_types::{
-    Available, CONTEXTS, Context, Form, Function, Parameters, Returned, SPECIAL_FUNCTIONS,
-    Signature, Wanted, signature_of,
+pub use al_expr_names::{
+    Available, CONTEXTS, Context, Function, Parameters, Returned, SPECIAL_FUNCTIONS, Signature,
+    Wanted, signature_of,
 };
+pub use al_types::Form;
 pub use fusing::fuse;
 pub use relations::assignable;
 pub use scope::{ContextTypes, Scope};

@@ -1,7 +1,7 @@
 //! What an expression can refer to at its place, with types as trees.
 
 use crate::trees::Ty;
-use al_types::Available;
+use al_expr_names::Available;
 
 /// What an expression can refer to at its place in a workflow or an action.
 #[derive(Drop)]

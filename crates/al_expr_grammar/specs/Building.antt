@@ -1,4 +1,5 @@
--- The tree that tokens spell, built from the last token to the first. For tokens that spell none it is some tree, which is never used.
+-- The tree that tokens spell, built from the last token to the first. For tokens that spell none it
+-- is some tree, which is never used.
 use Rattle.std.specs.Prelude.{ℕ, zero, suc, List, [], ◌∷◌, drop, slice_index_or}
 use Rattle.std.specs.List.{fold}
 use Rattle.al_base.specs.declared.faults.Span.{Span}
@@ -7,11 +8,13 @@ use Rattle.al_expr_grammar.specs.declared.token.TokenKind.TheVariants as kind
 use Rattle.al_expr_grammar.specs.Grammar.{level_of}
 use Rattle.al_expr_grammar.specs.Lexeme.{Lexeme, lexeme}
 use Rattle.al_expr_grammar.specs.Tokens.{Lexed, AllRead, tokens_of}
-use Rattle.al_expr_grammar.specs.Tree.{Sign, sign, Tree, Constant, Number, Text, Named, Call, Group, Negated}
-use Rattle.al_expr_grammar.specs.Tree.{StepTree, Property, All, Index, arguments_of, chain_of, path_of}
+use Rattle.al_expr_grammar.specs.Tree.{Sign, sign, Tree, Constant, Number, Text, Named, Call, Group}
+use Rattle.al_expr_grammar.specs.Tree.{Negated}
+use Rattle.al_expr_grammar.specs.Tree.{StepTree, Property, All, Index, arguments_of, chain_of}
+use Rattle.al_expr_grammar.specs.Tree.{path_of}
 
--- What follows an operand in its bracket: the steps of its path; the operators with their operands, level by level from the tightest; the
--- arguments after its own; and where the bracket closes.
+-- What follows an operand in its bracket: the steps of its path; the operators with their operands,
+-- level by level from the tightest; the arguments after its own; and where the bracket closes.
 pub record Remainder : Type 0 where
   pub steps : List StepTree
   pub levels : List (List (Sign × Tree))
@@ -38,10 +41,12 @@ with_step s f = (record f.0 { steps = s ∷ f.0.steps }, f.1)
 abbrev pub with_path : Tree → Following → Tree × Following
 with_path t f = (path_of t f.0.steps, (record f.0 { steps = [] }, f.1))
 
--- An operator of a level and the operand after it, before other operators: those that bind tighter belong to the operand.
+-- An operator of a level and the operand after it, before other operators: those that bind tighter
+-- belong to the operand.
 abbrev pub add_operator : ℕ → Sign → Tree → List (List (Sign × Tree)) → List (List (Sign × Tree))
 add_operator zero s t levels = ((s, t) ∷ slice_index_or levels 0 []) ∷ drop 1 levels
-add_operator (suc l) s t levels = [] ∷ add_operator l s (chain_of t (slice_index_or levels 0 [])) (drop 1 levels)
+add_operator (suc l) s t levels =
+    [] ∷ add_operator l s (chain_of t (slice_index_or levels 0 [])) (drop 1 levels)
 
 -- the expression that an operand begins
 abbrev pub whole : Tree × Following → Tree
@@ -55,14 +60,19 @@ abbrev mutual
   -- what follows an operand
   pub following_operand : List Lexeme → Following
   following_operand (lexeme (kind.Infix o) b s ∷ ts) =
-      let x = from_operand ts in (record x.1.0 { levels = add_operator (level_of o) (sign o s) x.0 x.1.0.levels }, x.1.1)
-  following_operand (lexeme kind.Dot b d ∷ lexeme kind.Star c s ∷ ts) = with_step (All d s) (following_operand ts)
-  following_operand (lexeme kind.Dot b d ∷ lexeme k c s ∷ ts) = with_step (Property d c s) (following_operand ts)
-  following_operand (lexeme kind.OpenIndex b d ∷ lexeme kind.Star c s ∷ lexeme k a e ∷ ts) = with_step (All d e) (following_operand ts)
+      let x = from_operand ts in
+      (record x.1.0 { levels = add_operator (level_of o) (sign o s) x.0 x.1.0.levels }, x.1.1)
+  following_operand (lexeme kind.Dot b d ∷ lexeme kind.Star c s ∷ ts) =
+      with_step (All d s) (following_operand ts)
+  following_operand (lexeme kind.Dot b d ∷ lexeme k c s ∷ ts) =
+      with_step (Property d c s) (following_operand ts)
+  following_operand (lexeme kind.OpenIndex b d ∷ lexeme kind.Star c s ∷ lexeme k a e ∷ ts) =
+      with_step (All d e) (following_operand ts)
   following_operand (lexeme kind.OpenIndex b d ∷ ts) =
       let x = from_operand ts in with_step (Index d (whole x) x.1.0.close) (past_bracket x.1.1)
   following_operand (lexeme kind.Comma b s ∷ ts) =
-      let x = from_operand ts in (record x.1.0 { levels = []; arguments = whole x ∷ x.1.0.arguments }, x.1.1)
+      let x = from_operand ts in
+      (record x.1.0 { levels = []; arguments = whole x ∷ x.1.0.arguments }, x.1.1)
   following_operand (lexeme k b s ∷ ts) = let f = following_operand ts in close_at s (f.0 ∷ f.1)
   following_operand [] = close_at (span 0 0) []
 

@@ -1,10 +1,13 @@
 -- The chunks of a text, `${{ .. }}` (GitHub, "Evaluate expressions in workflows and actions").
 --
--- A text splits into the bytes before its first `${{`, that opening, a content, the closing `}}` and the rest, whose chunks follow. The
--- closing is the first `}}` outside quotes: the content before it has an even number of single quotes. So at most one split is right, and
--- the chunks are unique.
-use Rattle.std.specs.Prelude.{◌≡◌, ℕ, zero, suc, ◌+◌, ◌-◌, List, [], ◌∷◌, Bool, true, ◌&&◌, not, if◌then◌else◌, length}
-use Rattle.std.specs.Prelude.{codes, drop, find, nat_eq, slice_range, take, Option, Some, None, option_map}
+-- A text splits into the bytes before its first `${{`, that opening, a content, the closing `}}`
+-- and the rest, whose chunks follow. The closing is the first `}}` outside quotes: the content
+-- before it has an even number of single quotes. So at most one split is right, and the chunks are
+-- unique.
+use Rattle.std.specs.Prelude.{◌≡◌, ℕ, zero, suc, ◌+◌, ◌-◌, List, [], ◌∷◌, Bool, true, ◌&&◌, not}
+use Rattle.std.specs.Prelude.{if◌then◌else◌, length}
+use Rattle.std.specs.Prelude.{codes, drop, find, nat_eq, slice_range, take, Option, Some, None}
+use Rattle.std.specs.Prelude.{option_map}
 use Rattle.std.specs.List.{range_with_len, starts_with}
 use Rattle.al_base.specs.declared.codes.ExpressionCode.TheVariants as code
 use Rattle.al_base.specs.declared.faults.Fault.{Fault}
@@ -30,12 +33,14 @@ closes bs = starts_with nat_eq bs (codes "}}")
 -- No quote is open after these bytes of a content: they have an even number of quotes.
 abbrev pub is_outside_quotes : List ℕ → Bool
 is_outside_quotes [] = true
-is_outside_quotes (b ∷ bs) = let more = is_outside_quotes bs in if is_quote b then not more else more
+is_outside_quotes (b ∷ bs) = let more = is_outside_quotes bs in if is_quote b
+    then not more else more
 
 -- the number of bytes before the first `${{`
 abbrev pub before_opening : List ℕ → Option ℕ
 before_opening [] = None
-before_opening (b ∷ bs) = let later = option_map suc (before_opening bs) in if opens (b ∷ bs) then Some 0 else later
+before_opening (b ∷ bs) = let later = option_map suc (before_opening bs) in if opens (b ∷ bs)
+    then Some 0 else later
 
 -- the number of bytes of a content before the first `}}` outside quotes
 abbrev pub closing_position : List ℕ → Option ℕ
@@ -48,17 +53,19 @@ no_chunks f = record { chunks = []; fault = f }
 abbrev pub then_chunk : Span → Chunked → Chunked
 then_chunk s c = record { chunks = s ∷ c.chunks; fault = c.fault }
 
--- The fault of a content that starts here and isn't closed before the text ends: X2 at the last quote if a quote is open, otherwise X20
--- at its opening.
+-- The fault of a content that starts here and isn't closed before the text ends: X2 at the last
+-- quote if a quote is open, otherwise X20 at its opening.
 abbrev pub open_fault : ℕ → List ℕ → Option Fault
 open_fault start content =
-    if is_outside_quotes content then Some (expression_fault code.UnclosedChunk (span (start - 3) start) [])
+    if is_outside_quotes content
+    then Some (expression_fault code.UnclosedChunk (span (start - 3) start) [])
     else open_text (add_to start (last_quote content))
 
 -- the content from an offset on, up to its closing, and the chunks of the rest
 abbrev pub with_content : (ℕ → List ℕ → Chunked) → ℕ → List ℕ → Option ℕ → Chunked
 with_content rest start bs None = no_chunks (open_fault start bs)
-with_content rest start bs (Some len) = then_chunk (span start (start + len)) (rest (start + len + 2) (drop (len + 2) bs))
+with_content rest start bs (Some len) =
+    then_chunk (span start (start + len)) (rest (start + len + 2) (drop (len + 2) bs))
 
 -- the content after an opening
 abbrev pub with_opening : (ℕ → List ℕ → Chunked) → ℕ → List ℕ → Option ℕ → Chunked

@@ -17,7 +17,8 @@ AllLie size faults = AllByRecursion (λ (f : Fault). LiesIn size f.span) faults
 
 -- the content of each chunk of a text
 abbrev pub ChunksLie : Type 0
-ChunksLie = (text : List ℕ) → AllByRecursion (λ (s : Span). LiesIn (length text) s) (chunks_of text).chunks
+ChunksLie = (text : List ℕ)
+    → AllByRecursion (λ (s : Span). LiesIn (length text) s) (chunks_of text).chunks
 
 -- the fault at a text's end
 abbrev pub EndFaultLies : Type 0
@@ -25,11 +26,13 @@ EndFaultLies = (text : List ℕ) → AllLie (length text) (option_to_list (chunk
 
 -- the fault of a content's tokens
 abbrev pub TokenFaultLies : Type 0
-TokenFaultLies = (content : List ℕ) → AllLie (length content) (option_to_list (fault_of_lexed content (tokens_of content)))
+TokenFaultLies = (content : List ℕ)
+    → AllLie (length content) (option_to_list (fault_of_lexed content (tokens_of content)))
 
 -- the fault of a content
 abbrev pub ContentFaultLies : Type 0
-ContentFaultLies = (content : List ℕ) → AllLie (length content) (option_to_list (fault_of_content content))
+ContentFaultLies =
+    (content : List ℕ) → AllLie (length content) (option_to_list (fault_of_content content))
 
 -- an expression itself
 abbrev pub ExtentLies : Type 0

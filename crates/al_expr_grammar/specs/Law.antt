@@ -15,7 +15,8 @@ FaultsSpellNothing = (ts : List Lexeme) (t : Tree) → IsTreeOf t ts
 -- Nor does any list that begins with the tokens up to and including that one.
 abbrev pub NoWayOn : Type 0
 NoWayOn = (front back other : List Lexeme) (x : Lexeme) (t : Tree) →
-    verdict_of (kinds (front ++ x ∷ back)) ≡ Unexpected (length (x ∷ back)) → IsTreeOf t (front ++ x ∷ other) → ⊥
+    verdict_of (kinds (front ++ x ∷ back)) ≡ Unexpected (length (x ∷ back))
+    → IsTreeOf t (front ++ x ∷ other) → ⊥
 
 -- No list spells two trees.
 abbrev pub OneTree : Type 0
@@ -27,4 +28,5 @@ SomeTree = (ts : List Lexeme) → verdict_of (kinds ts) ≡ Fine → (t : Tree) 
 
 -- The tree of a content without a fault is the one that the content spells.
 abbrev pub TreeIsSpelled : Type 0
-TreeIsSpelled = (content : List ℕ) (t : Tree) → fault_of_content content ≡ None → (tree_of_content content ≡ t) ↔ Spells content t
+TreeIsSpelled = (content : List ℕ) (t : Tree) → fault_of_content content ≡ None
+    → (tree_of_content content ≡ t) ↔ Spells content t

@@ -1,20 +1,24 @@
 -- The result of each function of the parser.
-use Rattle.std.specs.Prelude.{◌≡◌, ◌≢◌, ℕ, zero, suc, ◌+◌, ◌<◌, ◌≤◌, List, ◌∷◌, length, map, Result, MatchResult}
+use Rattle.std.specs.Prelude.{◌≡◌, ◌≢◌, ℕ, zero, suc, ◌+◌, ◌<◌, ◌≤◌, List, ◌∷◌, length, map, Result}
+use Rattle.std.specs.Prelude.{MatchResult}
 use Rattle.std.specs.Borrow.{Bor}
 use Rattle.al_expr_grammar.specs.declared.ast.Expr.{Expr}
 use Rattle.al_expr_grammar.specs.declared.ast.PathStep.{PathStep}
 use Rattle.al_expr_grammar.specs.declared.token.Token.{Token}
 use Rattle.al_expr_grammar.specs.declared.token.TokenKind.{TokenKind}
-use Rattle.al_expr_grammar.specs.declared.token.TokenKind.TheVariants.{Name, Open, OpenIndex, Comma, Bang, Dot, Infix}
+use Rattle.al_expr_grammar.specs.declared.token.TokenKind.TheVariants.{Name, Open, OpenIndex, Comma}
+use Rattle.al_expr_grammar.specs.declared.token.TokenKind.TheVariants.{Bang, Dot, Infix}
 use Rattle.al_expr_grammar.specs.declared.parser.ParseError.{ParseError}
 use Rattle.al_expr_grammar.specs.declared.parser.ParseError.TheVariants as error
 use Rattle.al_base.specs.declared.faults.Span.{Span}
 use Rattle.al_base.specs.Limits.{deepest_expression}
 use Rattle.al_expr_grammar.specs.Lexeme.{Lexeme, lexeme, kinds, seen}
 use Rattle.al_expr_grammar.specs.Tree.{Sign, Tree, StepTree}
-use Rattle.al_expr_grammar.specs.Grammar.{Nonterminal, Binary, Unary, Postfix, Primary, level_of, Derives, Operators, Walks, Lists}
+use Rattle.al_expr_grammar.specs.Grammar.{Nonterminal, Binary, Unary, Postfix, Primary, level_of}
+use Rattle.al_expr_grammar.specs.Grammar.{Derives, Operators, Walks, Lists}
 use Rattle.al_expr_grammar.specs.View.{expr_view, step_of}
-use Rattle.al_expr_grammar.specs.Table.{Verdict, Early, Unexpected, TooDeep, E, O, Frame, Call, outside, scan}
+use Rattle.al_expr_grammar.specs.Table.{Verdict, Early, Unexpected, TooDeep, E, O, Frame, Call}
+use Rattle.al_expr_grammar.specs.Table.{outside, scan}
 
 -- No negation is open in the innermost bracket where a chain of operators begins.
 abbrev pub StartsAt : Nonterminal → ℕ → Type 0
@@ -56,35 +60,43 @@ IsVerdict (error.TooDeep left) v = v ≡ TooDeep left
 
 -- Where an operand is expected, the verdict is this fault.
 abbrev pub Refused : Nonterminal → ℕ → List Lexeme → ParseError → Type 0
-Refused p room ts e = (k : ℕ) (st : List Frame) → StartsAt p k → k + outside st + room ≡ deepest_expression
+Refused p room ts e =
+    (k : ℕ) (st : List Frame) → StartsAt p k → k + outside st + room ≡ deepest_expression
     → IsVerdict e (scan E k st (kinds ts))
 
--- The result of parsing an expression: a tree of this kind for a prefix of the tokens, with the tokens left, or the fault.
-abbrev pub Parses : Nonterminal → ℕ → List Lexeme → Result (Expr × Bor (List Token)) ParseError → Type 0
+-- The result of parsing an expression: a tree of this kind for a prefix of the tokens, with the
+-- tokens left, or the fault.
+abbrev pub Parses : Nonterminal → ℕ → List Lexeme
+    → Result (Expr × Bor (List Token)) ParseError → Type 0
 Parses p room ts result =
     MatchResult result (λ x. Parsed p room ts (expr_view x.0) (map seen x.1.now)) (λ e. Refused p room ts e)
 
 -- The part of a chain of operators read so far.
 pub record PartOfChain (l room : ℕ) (ts : List Lexeme) (os : List (Sign × Tree)) (rest : List Lexeme) : Type 0 where
   pub derives : Operators l ts os rest
-  pub goes : (st : List Frame) → outside st + room ≡ deepest_expression → scan O 0 st (kinds ts) ≡ scan O 0 st (kinds rest)
+  pub goes : (st : List Frame) → outside st + room ≡ deepest_expression
+      → scan O 0 st (kinds ts) ≡ scan O 0 st (kinds rest)
   pub shorter : length rest ≤ length ts
 
 -- The part of a path read so far.
 pub record PartOfPath (room : ℕ) (ts : List Lexeme) (ss : List StepTree) (rest : List Lexeme) : Type 0 where
   pub derives : Walks ts ss rest
-  pub goes : (k : ℕ) (st : List Frame) → k + outside st + room ≡ deepest_expression → scan O k st (kinds ts) ≡ scan O k st (kinds rest)
+  pub goes : (k : ℕ) (st : List Frame) → k + outside st + room ≡ deepest_expression
+      → scan O k st (kinds ts) ≡ scan O k st (kinds rest)
   pub shorter : length rest ≤ length ts
 
 -- one step of a path
 pub record StepRead (room : ℕ) (ts : List Lexeme) (s : StepTree) (rest : List Lexeme) : Type 0 where
-  pub derives : (ss : List StepTree) (after : List Lexeme) → Walks rest ss after → Walks ts (s ∷ ss) after
-  pub goes : (k : ℕ) (st : List Frame) → k + outside st + room ≡ deepest_expression → scan O k st (kinds ts) ≡ scan O k st (kinds rest)
+  pub derives : (ss : List StepTree) (after : List Lexeme) → Walks rest ss after
+      → Walks ts (s ∷ ss) after
+  pub goes : (k : ℕ) (st : List Frame) → k + outside st + room ≡ deepest_expression
+      → scan O k st (kinds ts) ≡ scan O k st (kinds rest)
   pub shorter : length rest < length ts
 
 -- After an operand, the verdict of the table is this fault.
 abbrev pub StepRefused : ℕ → List Lexeme → ParseError → Type 0
-StepRefused room ts e = (k : ℕ) (st : List Frame) → k + outside st + room ≡ deepest_expression → IsVerdict e (scan O k st (kinds ts))
+StepRefused room ts e = (k : ℕ) (st : List Frame) → k + outside st + room ≡ deepest_expression
+    → IsVerdict e (scan O k st (kinds ts))
 
 -- the result of parsing a step
 abbrev pub ParsesStep : ℕ → List Lexeme → Result (PathStep × Bor (List Token)) ParseError → Type 0

@@ -1,5 +1,6 @@
 -- The fault of a content that isn't an expression.
-use Rattle.std.specs.Prelude.{◌≡◌, ℕ, ◌+◌, ◌-◌, List, [], ◌∷◌, nat_lt, if◌then◌else◌, length, drop, Option, Some, None, option_map}
+use Rattle.std.specs.Prelude.{◌≡◌, ℕ, ◌+◌, ◌-◌, List, [], ◌∷◌, nat_lt, if◌then◌else◌, length, drop}
+use Rattle.std.specs.Prelude.{Option, Some, None, option_map}
 use Rattle.al_base.specs.declared.codes.Code.TheVariants.{Expression}
 use Rattle.al_base.specs.declared.codes.ExpressionCode as codes
 use Rattle.al_base.specs.declared.codes.ExpressionCode.TheVariants as code
@@ -26,8 +27,10 @@ fault_at make (lexeme k b s ∷ ts) = Some (make s b)
 abbrev pub fault_of_verdict : ℕ → List Lexeme → Verdict → Option Fault
 fault_of_verdict len ts Fine = None
 fault_of_verdict len ts Early = Some (expression_fault code.EndsEarly (span len len) [])
-fault_of_verdict len ts (Unexpected left) = fault_at (λ s b. expression_fault code.UnexpectedToken s (b ∷ [])) (drop (length ts - left) ts)
-fault_of_verdict len ts (TooDeep left) = fault_at (λ s b. expression_fault code.TooDeep s []) (drop (length ts - left) ts)
+fault_of_verdict len ts (Unexpected left) =
+    fault_at (λ s b. expression_fault code.UnexpectedToken s (b ∷ [])) (drop (length ts - left) ts)
+fault_of_verdict len ts (TooDeep left) =
+    fault_at (λ s b. expression_fault code.TooDeep s []) (drop (length ts - left) ts)
 
 abbrev pub open_text : Option ℕ → Option Fault
 open_text = option_map (λ quote. expression_fault code.UnclosedText (span quote (quote + 1)) [])
@@ -45,7 +48,8 @@ fault_of_tokens content other = fault_of_lexed content other
 -- X5, otherwise X1 or X2, otherwise X3 or X6, otherwise X4
 abbrev pub fault_of_content : List ℕ → Option Fault
 fault_of_content content =
-    if nat_lt longest_expression (length content) then Some (expression_fault code.TooLong (span 0 1) [])
+    if nat_lt longest_expression (length content)
+    then Some (expression_fault code.TooLong (span 0 1) [])
     else fault_of_tokens content (tokens_of content)
 
 -- an expression of this tree

@@ -2,11 +2,13 @@
 use Rattle.std.specs.Prelude.{ℕ, suc, ◌+◌, List, [], ◌∷◌, length, Bool, nat_lt, if◌then◌else◌}
 use Rattle.al_base.specs.Limits.{deepest_expression}
 use Rattle.al_expr_grammar.specs.declared.token.TokenKind.{TokenKind}
-use Rattle.al_expr_grammar.specs.declared.token.TokenKind.TheVariants.{Name, Keyword, Number, Text, Open, Close, OpenIndex, CloseIndex, Dot}
+use Rattle.al_expr_grammar.specs.declared.token.TokenKind.TheVariants.{Name, Keyword, Number, Text}
+use Rattle.al_expr_grammar.specs.declared.token.TokenKind.TheVariants.{Open, Close, OpenIndex}
+use Rattle.al_expr_grammar.specs.declared.token.TokenKind.TheVariants.{CloseIndex, Dot}
 use Rattle.al_expr_grammar.specs.declared.token.TokenKind.TheVariants.{Comma, Star, Bang, Infix}
 
--- E: an operand is expected. A: after a call's bracket. I: after an index's bracket. S: after `[*`. D: after a dot. O: after an operand.
--- N: after a name.
+-- E: an operand is expected. A: after a call's bracket. I: after an index's bracket. S: after `[*`.
+-- D: after a dot. O: after an operand. N: after a name.
 pub data Mode : Type 0 where
   E A I S D O N : Mode
 
@@ -14,8 +16,8 @@ pub data Mode : Type 0 where
 pub data Frame : Type 0 where
   Group Call Index : ℕ → Frame
 
--- What a token leads to: nothing, as it isn't allowed; a mode with this many negations open in the innermost bracket, and the open
--- brackets; or the same one level deeper.
+-- What a token leads to: nothing, as it isn't allowed; a mode with this many negations open in the
+-- innermost bracket, and the open brackets; or the same one level deeper.
 pub data Transition : Type 0 where
   Stuck : Transition
   Go Deeper : Mode → ℕ → List Frame → Transition
@@ -71,13 +73,15 @@ outside (Group k ∷ st) = 1 + k + outside st
 outside (Call k ∷ st) = 1 + k + outside st
 outside (Index k ∷ st) = 1 + k + outside st
 
--- continues after a step, given whether there is room for one more level, and how many tokens were left
+-- continues after a step, given whether there is room for one more level, and how many tokens were
+-- left
 abbrev pub onward : Transition → Bool → ℕ → (Mode → ℕ → List Frame → Verdict) → Verdict
 onward Stuck room left go = Unexpected left
 onward (Go m k st) room left go = go m k st
 onward (Deeper m k st) room left go = if room then go m k st else TooDeep left
 
--- the verdict on the tokens, in a mode with this many negations in the innermost bracket, and the open brackets
+-- the verdict on the tokens, in a mode with this many negations in the innermost bracket, and the
+-- open brackets
 abbrev pub scan : Mode → ℕ → List Frame → List TokenKind → Verdict
 scan m k st [] = finish m st
 scan m k st (t ∷ ts) =

@@ -12,8 +12,8 @@ pub struct Word<'a> {
 
 /// An expression. Spans are byte offsets in its content.
 ///
-/// The steps of a path are one list, and so are the operators of one level, so only brackets and negations make the
-/// tree deeper. Brackets are kept, since spans include them and they end a path.
+/// The steps of a path are one list, and so are the operators of one level, so only brackets and
+/// negations make the tree deeper. Brackets are kept, since spans include them and they end a path.
 #[derive(Drop)]
 #[cycle(ast)]
 pub enum Expr<'a> {

@@ -78,12 +78,12 @@ fn open_fault(start: usize, content: &[u8]) -> Option<Fault>
     last_quote(content).map(|quote| unclosed_text(start + quote))
 }
 
-/// The closed chunks of a text, in order, and the fault at its end, if there is one. Spans are byte offsets in the
-/// text.
+/// The closed chunks of a text, in order, and the fault at its end, if there is one. Spans are byte
+/// offsets in the text.
 ///
-/// `${{` opens a chunk; in it a single quote switches quoting, and the first `}}` outside quotes closes it. The fault
-/// is X2 at the last quote if the text ends in quotes, otherwise X20 at the `${{` of a chunk that isn't closed. Fails
-/// with `AllocError` when out of memory.
+/// `${{` opens a chunk; in it a single quote switches quoting, and the first `}}` outside quotes
+/// closes it. The fault is X2 at the last quote if the text ends in quotes, otherwise X20 at the
+/// `${{` of a chunk that isn't closed. Fails with `AllocError` when out of memory.
 pub fn chunks(alloc: Global, text: &str) -> Result<(Vec<Chunk>, Option<Fault>), AllocError>
     requires { length text.now ≤ longest_text }
     ensures spans { IfOk result (λ r. map span_of_chunk r.0.items ≡ (chunks_of text.now).chunks) }

@@ -52,11 +52,13 @@ fn parse_fault(
     }
 }
 
-/// The tree of a content, or the fault because of which it has none. Spans are byte offsets in the content.
+/// The tree of a content, or the fault because of which it has none. Spans are byte offsets in the
+/// content.
 ///
-/// The fault is X5 if the content is longer than 21,000 bytes; otherwise X1 or X2 of its tokens; otherwise X3 at the
-/// first unexpected token, or X6 at the token at which the nesting reaches 51; otherwise X4 at the content's end, if
-/// its tokens end too early. Fails with `AllocError` when out of memory.
+/// The fault is X5 if the content is longer than 21,000 bytes; otherwise X1 or X2 of its tokens;
+/// otherwise X3 at the first unexpected token, or X6 at the token at which the nesting reaches 51;
+/// otherwise X4 at the content's end, if its tokens end too early. Fails with `AllocError` when out
+/// of memory.
 pub fn parse_expr(alloc: Global, content: &str) -> Result<Result<Expr<'_>, Fault>, AllocError>
     ensures tree { IfOk result (λ r. IfOk r (λ e. Spells content.now (expr_view e))) }
     ensures none { IfOk result (λ r. IfOk r (λ e. fault_of_content content.now ≡ None)) }

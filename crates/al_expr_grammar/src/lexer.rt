@@ -1,12 +1,14 @@
 //! The tokens of a content, or the character at which they end early.
 
-ghost use Rattle.std.specs.Prelude.{map, IfOk, IfSome, All, MatchOption, MatchResult, drop, slice_index};
+ghost use Rattle.std.specs.Prelude.{map, IfOk, IfSome, All, MatchOption, MatchResult, drop};
+ghost use Rattle.std.specs.Prelude.{slice_index};
 ghost use Rattle.std.specs.Prelude.{◌+◌, ◌≡◌, ◌≢◌, ◌≤◌, ◌<◌, Some, length};
 ghost use Rattle.std.specs.Int.{is_in_range};
 ghost use Rattle.std.specs.List.{prefix_len};
 ghost use Rattle.al_expr_grammar.specs.Lexeme.{seen};
 ghost use Rattle.al_base.specs.Limits.{longest_text};
-ghost use Rattle.al_expr_grammar.specs.Tokens.{goes_on_name, is_blank_byte, mark, word_kind, text_tail, read, tokens_of, AllRead};
+ghost use Rattle.al_expr_grammar.specs.Tokens.{goes_on_name, is_blank_byte, mark, word_kind};
+ghost use Rattle.al_expr_grammar.specs.Tokens.{text_tail, read, tokens_of, AllRead};
 ghost use Rattle.al_expr_grammar.specs.Refusal.{fault_of_lexed};
 
 use crate::faults::{plain_fault, unclosed_text};
@@ -69,8 +71,8 @@ fn name_kind(name: &[u8]) -> TokenKind
     }
 }
 
-/// The number of bytes after the opening quote of a string, the closing one included; `None` if it is never closed. A
-/// doubled quote is part of the string.
+/// The number of bytes after the opening quote of a string, the closing one included; `None` if it
+/// is never closed. A doubled quote is part of the string.
 fn text_len(bytes: &[u8]) -> Option<usize>
     ensures value { result ≡ text_tail bytes.now }
     ensures within { IfSome result (λ n. n ≤ length bytes.now) }
@@ -149,8 +151,8 @@ pub fn last_quote(bytes: &[u8]) -> Option<usize>
 
 /// The tokens of a content, in order, with their texts and spans in it.
 ///
-/// The fault is X1 at the first character that begins no token, or X2 at the content's last quote if a string is
-/// never closed. Fails with `AllocError` when out of memory.
+/// The fault is X1 at the first character that begins no token, or X2 at the content's last quote
+/// if a string is never closed. Fails with `AllocError` when out of memory.
 #[tactic(auto, using(crate::proofs::Lexing::past_blank))]
 pub fn lex(alloc: Global, content: &str) -> Result<Result<Vec<Token>, Fault>, AllocError>
     requires { length content.now ≤ longest_text }

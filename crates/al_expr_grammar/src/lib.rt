@@ -1,5 +1,5 @@
-//! The grammar of expressions, `${{ .. }}`: the chunks of a text, tokens, trees, and the fault of a content that
-//! isn't an expression.
+//! The grammar of expressions, `${{ .. }}`: the chunks of a text, tokens, trees, and the fault of a
+//! content that isn't an expression.
 #![tactic(auto)]
 
 mod ast;

@@ -3,7 +3,8 @@
 ghost use Rattle.std.specs.Prelude.{◌≡◌, ◌≤◌, ◌<◌, ◌+◌, ◌^◌, length};
 ghost use Rattle.std.specs.Char.{is_ascii_digit, is_ascii_hexdigit};
 ghost use Rattle.std.specs.List.{prefix_len};
-ghost use Rattle.al_expr_grammar.specs.Tokens.{with_digits, fraction_len, exponent_len, hex_len, decimal_len};
+ghost use Rattle.al_expr_grammar.specs.Tokens.{with_digits, fraction_len, exponent_len, hex_len};
+ghost use Rattle.al_expr_grammar.specs.Tokens.{decimal_len};
 ghost use Rattle.al_expr_grammar.specs.Tokens.{unsigned_len, number_len};
 
 /// The number of digits at the start.

@@ -1,21 +1,27 @@
 //! A recursive descent parser.
 
 ghost use Rattle.std.specs.Prelude.{map, List, ◌≡◌, ◌+◌, MatchOption, MatchResult, [], ◌∷◌};
-ghost use Rattle.al_expr_grammar.specs.Lexeme.{Lexeme, seen, kinds, kind_of, lexeme_text, lexeme_span};
-ghost use Rattle.al_expr_grammar.specs.Parsed.{EndsPath, IsStray, IsVerdict, Lacks, NoBang, NoOperator};
-ghost use Rattle.al_expr_grammar.specs.Parsed.{Parsed, Parses, ParsesStep, StepRead, StepRefused, ArgumentsRead, ArgumentsRefused};
+ghost use Rattle.al_expr_grammar.specs.Lexeme.{Lexeme, seen, kinds, kind_of, lexeme_text};
+ghost use Rattle.al_expr_grammar.specs.Lexeme.{lexeme_span};
+ghost use Rattle.al_expr_grammar.specs.Parsed.{EndsPath, IsStray, IsVerdict, Lacks, NoBang};
+ghost use Rattle.al_expr_grammar.specs.Parsed.{NoOperator};
+ghost use Rattle.al_expr_grammar.specs.Parsed.{Parsed, Parses, ParsesStep, StepRead, StepRefused};
+ghost use Rattle.al_expr_grammar.specs.Parsed.{ArgumentsRead, ArgumentsRefused};
 ghost use Rattle.al_expr_grammar.specs.View.{expr_view, step_of};
-ghost use Rattle.al_expr_grammar.specs.Grammar.{Binary, Unary, Postfix, Primary, level_of, below, IsTreeOf};
+ghost use Rattle.al_expr_grammar.specs.Grammar.{Binary, Unary, Postfix, Primary, level_of, below};
+ghost use Rattle.al_expr_grammar.specs.Grammar.{IsTreeOf};
 ghost use Rattle.al_expr_grammar.specs.Table.{Fine, verdict_of};
 ghost use Rattle.al_expr_grammar.specs.declared.parser.ParseError.TheVariants.{Memory, TooDeep};
-ghost use Rattle.al_expr_grammar.specs.declared.token.TokenKind.TheVariants.{Infix, Name, Open, OpenIndex, Close, Dot};
+ghost use Rattle.al_expr_grammar.specs.declared.token.TokenKind.TheVariants.{Infix, Name, Open};
+ghost use Rattle.al_expr_grammar.specs.declared.token.TokenKind.TheVariants.{OpenIndex, Close, Dot};
 
 use crate::ast::{Expr, Operand, PathStep, Word};
 use crate::token::{Operator, Token, TokenKind};
 use al_base::limits::DEEPEST_EXPRESSION;
 use std::alloc::{AllocError, AllocFailed, Global};
 
-/// Why tokens were not parsed, with how many are left at the fault, the faulty one included: 0 if they end too early.
+/// Why tokens were not parsed, with how many are left at the fault, the faulty one included: 0 if
+/// they end too early.
 #[derive(Clone, Copy, Debug)]
 pub enum ParseError {
     Memory,
@@ -115,7 +121,8 @@ fn accept<'t, 'a>(tokens: &'t [Token<'a>], kind: TokenKind) -> Option<(Token<'a>
     }
 }
 
-/// The nesting that is left inside a bracket or after a `!`, at which this many tokens are left, itself included.
+/// The nesting that is left inside a bracket or after a `!`, at which this many tokens are left,
+/// itself included.
 fn deeper(room: u32, left: usize) -> Result<u32, ParseError>
     ensures { MatchResult result (λ inner. inner + 1 ≡ room)
         (λ e. (room ≡ 0) × (e ≡ TooDeep left)) }

@@ -41,7 +41,8 @@ pub enum TokenKind {
     Infix(Operator),
 }
 
-/// A token of a content, with its text as written (a string with its quotes) and its span in the content.
+/// A token of a content, with its text as written (a string with its quotes) and its span in the
+/// content.
 #[derive(Clone, Copy)]
 pub struct Token<'a> {
     pub kind: TokenKind,

@@ -1,17 +1,21 @@
 //! Worked chunks, tokens and trees of small texts, computed by the definitions.
 ghost use Rattle.al_expr_grammar.specs.Rows.Chunks.{closed, cut_off};
 ghost use Rattle.al_expr_grammar.specs.Rows.Tokens as row;
-ghost use Rattle.al_expr_grammar.specs.Rows.Trees.{chain, mark_at, name_at, operation, path, property_at};
+ghost use Rattle.al_expr_grammar.specs.Rows.Trees.{chain, mark_at, name_at, operation, path};
+ghost use Rattle.al_expr_grammar.specs.Rows.Trees.{property_at};
 ghost use Rattle.al_expr_grammar.specs.Building.{tree_of_content};
 ghost use Rattle.al_expr_grammar.specs.Chunks.{chunks_of};
 ghost use Rattle.al_expr_grammar.specs.Tokens.{AllRead, Bad, Unclosed, last_quote, tokens_of};
 ghost use Rattle.al_expr_grammar.specs.Tree as tree;
-ghost use Rattle.al_expr_grammar.specs.declared.token.Operator.TheVariants.{And, Equal, Less, NotEqual, Or};
+ghost use Rattle.al_expr_grammar.specs.declared.token.Operator.TheVariants.{And, Equal, Less};
+ghost use Rattle.al_expr_grammar.specs.declared.token.Operator.TheVariants.{NotEqual, Or};
 ghost use Rattle.al_base.specs.Spans.{span};
-ghost use Rattle.al_base.specs.declared.codes.ExpressionCode.TheVariants.{UnclosedChunk, UnclosedText};
+ghost use Rattle.al_base.specs.declared.codes.ExpressionCode.TheVariants.{UnclosedChunk};
+ghost use Rattle.al_base.specs.declared.codes.ExpressionCode.TheVariants.{UnclosedText};
 ghost use Rattle.std.specs.Prelude.{◌≡◌, [], ◌∷◌, codes, None, Some};
 
-/// Where the contents of chunks lie in some texts, and what is wrong at their ends. Does nothing at run time.
+/// Where the contents of chunks lie in some texts, and what is wrong at their ends. Does nothing at
+/// run time.
 pub fn chunk_rows()
     ensures none { chunks_of (codes "a $''{{ }} b") ≡ closed [] }
     ensures closing_in_quotes { chunks_of (codes "a ${{ 'x}}' }} b") ≡ closed ((5, 12) ∷ []) }

@@ -78,7 +78,7 @@ module _ (new old : List Parts) (m n : ℕ) (has : Has new old m n) where
   types_same ts h =
       (all_weaker (is_below m) (is_below n) (λ t k. (type_same t k).0) ts h, same_mapped (is_below m) (type_in new) (type_in old) (λ t k. (type_same t k).1) ts h)
 
-  numbers_same : (ns : List ℕ) → are_below m ns ≡ true → (are_below n ns ≡ true) × (map (object_in new) ns ≡ map (object_in old) ns)
+  pub numbers_same : (ns : List ℕ) → are_below m ns ≡ true → (are_below n ns ≡ true) × (map (object_in new) ns ≡ map (object_in old) ns)
   numbers_same ns h = (
     all_weaker (λ k. nat_lt k m) (λ k. nat_lt k n) (λ k e. (has k e).0) ns h,
     same_mapped (λ k. nat_lt k m) (object_in new) (object_in old) (λ k e. (has k e).1) ns h,
@@ -103,7 +103,7 @@ module _ (new old : List Parts) (m n : ℕ) (has : Has new old m n) where
       let own = types_same e.own.items after.1 in
       (λ d. fields.0 d && (base.0 d && own.0 d), λ d. ((fields.1 d).0, (fields.1 d).1, fuse_optional (base.1 d).2 (common_of (own.1 d))))
   object_same (object.Strings ns) h = (refl, refl)
-  object_same (object.Common ns) h = let same = numbers_same ns.items h in (same.0, ap fuse_all same.1)
+  object_same (object.Common ns) h = let same = numbers_same ns.value.items h in (same.0, ap fuse_all same.1)
 
   pub joined_same : (j : Join) → is_join_below m j ≡ true → (is_join_below n j ≡ true) × (join_in new j ≡ join_in old j)
   joined_same joined.Nothing h = (refl, refl)

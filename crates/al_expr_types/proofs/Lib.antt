@@ -3,6 +3,7 @@ pub mod Tables
 pub mod FieldMaps
 pub mod Fusing
 pub mod Joins
+pub mod ObjectLists
 pub mod Gathering
 pub mod Keeping
 pub mod Merges

@@ -79,7 +79,7 @@ abbrev pub object_parts : List Parts → Object → Parts
 object_parts ms (object.Fields f) = fields_parts ms f
 object_parts ms (object.Extension e) = extension_parts ms e
 object_parts ms (object.Strings ns) = strings_parts ns.now
-object_parts ms (object.Common ns) = fuse_all (map (object_in ms) ns.items)
+object_parts ms (object.Common ns) = fuse_all (map (object_in ms) ns.value.items)
 
 -- objects one after another, after those before them
 abbrev pub parts_after : List Parts → List Object → List Parts
@@ -116,7 +116,7 @@ abbrev pub is_object_below : ℕ → Object → Bool
 is_object_below n (object.Fields f) = are_fields_below n f
 is_object_below n (object.Extension e) = are_fields_below n e.fields && is_extended_below n e
 is_object_below n (object.Strings ns) = true
-is_object_below n (object.Common ns) = are_below n ns.items
+is_object_below n (object.Common ns) = are_below n ns.value.items
 
 -- each object refers only to earlier ones
 abbrev pub are_in_order : ℕ → List Object → Bool

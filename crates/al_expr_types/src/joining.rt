@@ -1,6 +1,6 @@
 //! What types have in common, one after another.
 
-ghost use Rattle.std.specs.Prelude.{◌≡◌, ◌∷◌, ◌++◌, [], List, Contains, IfOk, IsTrue, map, nat_lt, not, true, ℕ};
+ghost use Rattle.std.specs.Prelude.{◌≡◌, ◌∷◌, ◌++◌, [], List, IfOk, map, nat_lt, not, true, ℕ};
 ghost use Rattle.al_types.specs.Presence.{is_present};
 ghost use Rattle.al_types.specs.Types.{Any, Parts, Present, fuse_optional, fuse_type};
 ghost use Rattle.al_types.specs.Fused.{fuse_parts, fuse_all};
@@ -8,10 +8,8 @@ ghost use Rattle.al_expr_types.specs.Joining.{is_join_below, join_in, object_joi
 ghost use Rattle.al_expr_types.specs.Types.{are_below, arrays_of, base_type, is_below, object_in, type_in};
 ghost use Rattle.al_expr_types.specs.declared.ty.Base.TheVariants as base;
 
-use crate::names::MOST_SCANNED;
 use crate::ty::{Base, Scalar, Ty};
 use std::alloc::{AllocError, Global};
-use std::collections::BTreeMap;
 
 /// What some types have in common.
 #[derive(Drop)]
@@ -26,10 +24,8 @@ pub enum Join {
 #[derive(Drop)]
 pub struct ObjectJoin {
     pub(crate) arrays: u32,
+    /// Their numbers, some perhaps more than once.
     pub(crate) objects: Vec<u32>,
-    /// The positions of those that aren't searched one by one, so that none is taken twice. Affects only time and
-    /// memory.
-    places: BTreeMap<u32, usize>,
 }
 
 /// The type any, nested in this many arrays.
@@ -92,21 +88,6 @@ impl ObjectJoin {
         ObjectJoin {
             arrays,
             objects: Vec::new(alloc),
-            places: BTreeMap::new(alloc),
-        }
-    }
-
-    /// Whether an object is among them. If it is missed, it is only taken twice.
-    fn has(&self, n: u32) -> bool
-        ensures { IsTrue result → Contains self.now.objects.items n }
-    {
-        let objects = self.objects.as_slice();
-        if objects[..objects.len().min(MOST_SCANNED)].contains(&n) {
-            return true;
-        }
-        match self.places.get(&n) {
-            Some(i) => objects.get(*i) == Some(&n),
-            None => false,
         }
     }
 
@@ -115,15 +96,10 @@ impl ObjectJoin {
         ensures objects { IfOk result (λ s. s.objects.items ≡ self.objects.items ++ n ∷ []) }
     {
         let mut objects = self.objects;
-        let mut places = self.places;
-        if objects.len() >= MOST_SCANNED {
-            places.insert(n, objects.len())?;
-        }
         objects.push(n)?;
         Ok(ObjectJoin {
             arrays: self.arrays,
             objects,
-            places,
         })
     }
 
@@ -137,9 +113,6 @@ impl ObjectJoin {
             (λ s. (k : ℕ) → are_below k self.objects.items ≡ true → nat_lt n k ≡ true
             → are_below k s.objects.items ≡ true) }
     {
-        if self.has(n) {
-            return Ok(self);
-        }
         self.push(n)
     }
 
@@ -192,7 +165,6 @@ impl Join {
                 Ok(Join::Objects(ObjectJoin {
                     arrays: join.arrays,
                     objects,
-                    places: BTreeMap::new(alloc),
                 }))
             }
         }

@@ -3,9 +3,11 @@
 //! prefix of an object's fields.
 #![tactic(auto)]
 
+mod common;
 mod fields;
 mod indexing;
 mod joining;
+mod lists;
 mod merging;
 mod name_index;
 mod name_list;

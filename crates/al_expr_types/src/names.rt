@@ -9,8 +9,14 @@ use crate::name_index::NameIndex;
 use al_base::is_same_name;
 use std::alloc::{AllocError, Global};
 
-/// Up to this many names, or objects, are searched one by one, which takes no memory. Of more, the positions are kept.
-pub(crate) const MOST_SCANNED: usize = 64;
+/// Up to this many names are searched one by one, which takes no memory. Of more, the positions are kept.
+const MOST_SCANNED: usize = 64;
+
+/// And up to this many if one is longer than `LONG`.
+const MOST_LONG_SCANNED: usize = 8;
+
+/// The number of bytes up to which a name takes little time to compare.
+const LONG: usize = 32;
 
 /// The names of fields in order, each once, ignoring ASCII case. They are borrowed from a file.
 #[derive(Drop)]
@@ -50,6 +56,7 @@ fn index_for_more(
     alloc: Global,
     names: &[&[u8]],
     index: Option<NameIndex>,
+    more: &[u8],
 ) -> Result<Option<NameIndex>, AllocError>
     requires { place_by index (map (λ n. n.now) names.now)
         ≡ name_place (map (λ n. n.now) names.now) }
@@ -60,7 +67,12 @@ fn index_for_more(
     if index.is_some() {
         return Ok(index);
     }
-    if names.len() < MOST_SCANNED {
+    let most = if more.len() > LONG {
+        MOST_LONG_SCANNED
+    } else {
+        MOST_SCANNED
+    };
+    if names.len() < most {
         return Ok(None);
     }
     Ok(Some(index_of(alloc, names)?))
@@ -119,7 +131,8 @@ impl<'a> Names<'a> {
         ensures { IfOk result (λ ns. names_in ns ≡ names_in self.entry ++ name.now ∷ []) }
     {
         let mut names = self.names;
-        let index = match index_for_more(*names.allocator(), names.as_slice(), self.index)? {
+        let alloc = *names.allocator();
+        let index = match index_for_more(alloc, names.as_slice(), self.index, name)? {
             Some(mut index) => {
                 index.insert(name, names.len())?;
                 Some(index)

@@ -8,6 +8,9 @@ use crate::ty::Ty;
 use std::alloc::AllocError;
 use std::rc::Rc;
 
+/// The number of objects that are kept together: of the fields between two bases, and of a part of a list.
+pub(crate) const BLOCK: usize = 64;
+
 /// A prefix of some fields, and the type of all other fields, if others are possible. Prefixes share the fields.
 #[derive(Drop)]
 pub struct Fields<'a> {
@@ -61,5 +64,5 @@ pub enum Object<'a> {
     /// String fields with these names: the outputs of a call, which aren't copied.
     Strings(&'a NameList),
     /// What these objects have in common.
-    Common(Vec<u32>),
+    Common(Rc<Vec<u32>>),
 }

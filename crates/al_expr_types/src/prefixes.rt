@@ -7,7 +7,7 @@ ghost use Rattle.al_types.specs.Types.{Parts, fuse_optional, object_type};
 ghost use Rattle.al_expr_types.specs.Types.{common_of, is_below, type_in};
 
 use crate::fields::FieldMap;
-use crate::objects::{Extension, Fields, Object, Prefix};
+use crate::objects::{BLOCK, Extension, Fields, Object, Prefix};
 use crate::ty::{Base, Ty};
 use crate::types::Types;
 use std::alloc::{AllocError, Global};
@@ -23,9 +23,6 @@ pub struct Prefixes<'a> {
     firsts: Vec<usize>,
     base: Option<Prefix>,
 }
-
-/// The number of fields between two bases.
-const BLOCK: usize = 64;
 
 /// For each type, the position at which its object first occurs, or its own position if it isn't an object. Fails with `AllocError` when
 /// out of memory, as everything here does.

@@ -3,6 +3,7 @@
 ghost use Rattle.std.specs.Prelude.{◌≡◌, ◌<◌, List, IfOk, IfSome, length, map, option_map, true, ℕ};
 ghost use Rattle.al_base.specs.Growth.{BeginsWith};
 ghost use Rattle.al_types.specs.Types.{Parts, fuse_optional, object_type, option_of, property_in};
+ghost use Rattle.al_types.specs.Fused.{fuse_all};
 ghost use Rattle.al_expr_types.specs.Joining.{is_join_below, join_in};
 ghost use Rattle.al_expr_types.specs.Parts.{part_in};
 ghost use Rattle.al_expr_types.specs.Tables.{objects_of, type_at};
@@ -14,11 +15,12 @@ ghost use Rattle.std.specs.List.{list_all};
 
 use crate::joining::Join;
 use crate::name_list::NameList;
-use crate::objects::{Extension, Fields, Object};
+use crate::objects::{BLOCK, Extension, Fields, Object};
 use crate::parts::Part;
 use crate::ty::Ty;
 use crate::types::Types;
 use std::alloc::{AllocError, Global};
+use std::rc::Rc;
 
 /// Joins types with those so far. Fails with `AllocError` when out of memory, as everything here does.
 fn and_all(alloc: Global, types: &[Ty], so_far: Join) -> Result<Join, AllocError>
@@ -200,12 +202,14 @@ impl<'a> Types<'a> {
     }
 
     /// The numbers of the objects that an object is the common part of, if it is one.
-    pub(crate) fn members(&self, n: u32) -> Result<Option<Vec<u32>>, AllocError>
+    pub(crate) fn members(&self, n: u32) -> Result<Option<Rc<Vec<u32>>>, AllocError>
         requires { n < length self.now.objects.items }
-        ensures { IfOk result (λ of. IfSome of (λ v. are_below n v.items ≡ true)) }
+        ensures common { IfOk result (λ of. IfSome of (λ list. object_in (objects_of self.now) n
+            ≡ fuse_all (map (object_in (objects_of self.now)) list.value.items))) }
+        ensures below { IfOk result (λ of. IfSome of (λ list. are_below n list.value.items ≡ true)) }
     {
         match self.object(n) {
-            Object::Common(of) => Ok(Some(Vec::from_slice(self.alloc, of.as_slice())?)),
+            Object::Common(of) => Ok(Some(of.clone()?)),
             _ => Ok(None),
         }
     }
@@ -221,7 +225,16 @@ impl<'a> Types<'a> {
         }
     }
 
-    /// Computes, for each object that an object is made from, what all its fields have in common.
+    /// Whether an object has so few fields that what they have in common isn't worth keeping.
+    fn is_small(&self, n: u32) -> bool {
+        match self.objects.get(n as usize) {
+            Some(Object::Fields(fields)) => fields.count < BLOCK,
+            Some(Object::Strings(_)) => true,
+            _ => false,
+        }
+    }
+
+    /// Computes what all fields of an object have in common for each object that it is made from, but for small ones.
     #[cycle(commons)]
     fn make_commons(&mut self, n: u32) -> Result<(), AllocError>
         requires { n < length self.old.objects.items }
@@ -235,6 +248,9 @@ impl<'a> Types<'a> {
             return Ok(());
         };
         for m in of.as_slice() {
+            if self.is_small(*m) {
+                continue;
+            }
             self.common(*m)?;
         }
         Ok(())

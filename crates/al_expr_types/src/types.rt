@@ -6,6 +6,7 @@ ghost use Rattle.al_expr_types.specs.Types.{are_in_order};
 
 use crate::fields::FieldMap;
 use crate::joining::Join;
+use crate::lists::Lists;
 use crate::name_list::NameList;
 use crate::objects::{Fields, Object};
 use crate::ty::{Base, Ty};
@@ -18,6 +19,8 @@ use std::collections::BTreeMap;
 pub struct Types<'a> {
     pub(crate) alloc: Global,
     pub(crate) objects: Vec<Object<'a>>,
+    /// The lists of the objects that are common to others.
+    pub(crate) lists: Lists,
     /// What all fields of an object have in common, for objects where it was needed.
     commons: BTreeMap<u32, Option<Ty>>,
     /// How many objects were searched for the fields of an object.
@@ -50,6 +53,7 @@ impl<'a> Types<'a> {
         Types {
             alloc,
             objects: Vec::new(alloc),
+            lists: Lists::new(alloc),
             commons: BTreeMap::new(alloc),
             looks: BTreeMap::new(alloc),
             indexes: BTreeMap::new(alloc),
@@ -177,7 +181,7 @@ impl<'a> Types<'a> {
             Join::Nothing => Ok(None),
             Join::One(ty) => Ok(Some(ty)),
             Join::Objects(join) => {
-                let number = self.push(Object::Common(join.objects))?;
+                let number = self.common_object(join.objects.as_slice())?;
                 Ok(Some(Ty {
                     arrays: join.arrays,
                     of: Base::Object(number),

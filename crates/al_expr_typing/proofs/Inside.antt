@@ -16,14 +16,14 @@ use Rattle.al_expr_grammar.specs.Tree.{Tree, sign, Named, Call, Group, Negated, 
 use Rattle.al_expr_grammar.specs.Tree.{IndexThen, Operands, NoOperand, OperandThen, Arguments, NoArgument, ArgumentThen}
 use Rattle.al_expr_grammar.specs.declared.token.Operator.{Operator}
 use Rattle.al_expr_grammar.proofs.Inside.{TreeLies, StepsLie, OperandsLie, ArgumentsLie, start_of, whole_lies}
-use Rattle.al_types.specs.Names.{context_of, function_of}
-use Rattle.al_types.specs.Scopes.{Scope}
-use Rattle.al_types.specs.Signatures.{accepts, signature, takes_count, parameter_at}
+use Rattle.al_expr_names.specs.Names.{context_of, function_of}
+use Rattle.al_expr_names.specs.Scopes.{Scope}
+use Rattle.al_expr_names.specs.Signatures.{accepts, signature, takes_count, parameter_at}
 use Rattle.al_types.specs.Types.{Type', Any, Number, Bool', ArrayOf, ObjectOf, option_of, or_else}
-use Rattle.al_types.specs.declared.names.Context.{Context}
-use Rattle.al_types.specs.declared.names.Function.{Function}
-use Rattle.al_types.specs.declared.names.Function.TheVariants.{Format}
-use Rattle.al_types.specs.declared.signatures.Parameters.{Parameters}
+use Rattle.al_expr_names.specs.declared.names.Context.{Context}
+use Rattle.al_expr_names.specs.declared.names.Function.{Function}
+use Rattle.al_expr_names.specs.declared.names.Function.TheVariants.{Format}
+use Rattle.al_expr_names.specs.declared.signatures.Parameters.{Parameters}
 use Rattle.al_expr_typing.specs.Comparison.{comparable_types}
 use Rattle.al_expr_typing.specs.Literals.{literal_text}
 use Rattle.al_expr_typing.specs.Meaning.{Typed, typed, all_of, and_then, argument_faults, argument_then}

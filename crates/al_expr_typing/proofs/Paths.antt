@@ -4,11 +4,11 @@ use Rattle.std.specs.Option.{option_map_or}
 use Rattle.al_base.specs.declared.faults.Fault.{Fault}
 use Rattle.al_base.specs.declared.faults.Span.{Span}
 use Rattle.al_base.specs.declared.codes.ExpressionCode.TheVariants as code
-use Rattle.al_types.specs.declared.names.Function.{Function}
+use Rattle.al_expr_names.specs.declared.names.Function.{Function}
 use Rattle.al_expr_grammar.specs.Refusal.{expression_fault}
 use Rattle.al_types.specs.Types.{Type'}
 use Rattle.al_expr_grammar.specs.Tree.{Tree, Named, Path, PathSteps, Sign, sign, Arguments, StepTree, Property, All, Index, steps_of, operands_of, arguments_of}
-use Rattle.al_types.specs.Scopes.{Scope}
+use Rattle.al_expr_names.specs.Scopes.{Scope}
 use Rattle.al_expr_grammar.specs.Extents.{extent}
 use Rattle.al_expr_typing.specs.Untrusted.{chain_part, untrusted_chain}
 use Rattle.al_expr_typing.specs.Meaning.{Typed, typed, faults_then, call, call_from, untrusted_faults}

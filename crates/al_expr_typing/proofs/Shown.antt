@@ -1,7 +1,7 @@
 -- The views of a scope and of arguments are the same in a longer table.
 use Rattle.std.proofs.Common.{◌≡◌, List, map, true}
 use Rattle.al_base.specs.Growth.{BeginsWith}
-use Rattle.al_types.specs.Scopes.{available_of}
+use Rattle.al_expr_names.specs.Scopes.{available_of}
 use Rattle.al_expr_types.specs.Tables.{is_known, objects_of}
 use Rattle.al_expr_types.specs.declared.types.Types.{Types}
 use Rattle.al_expr_types.proofs.Below.{all_weaker, same_mapped}

@@ -3,7 +3,7 @@ use Rattle.std.specs.Prelude.{ℕ, List, length}
 use Rattle.al_expr_grammar.specs.Inside.{AllLie}
 use Rattle.al_expr_grammar.specs.Refusal.{Spells}
 use Rattle.al_expr_grammar.specs.Tree.{Tree}
-use Rattle.al_types.specs.Scopes.{Scope}
+use Rattle.al_expr_names.specs.Scopes.{Scope}
 use Rattle.al_expr_typing.specs.Meaning.{faults_found, meaning_of}
 
 abbrev pub MeaningFaultsLie : Type 0

@@ -8,17 +8,17 @@ use Rattle.al_base.specs.declared.faults.Fault.{Fault}
 use Rattle.al_base.specs.declared.faults.Span.{Span}
 use Rattle.al_expr_grammar.specs.declared.token.Operator.{Operator}
 use Rattle.al_expr_grammar.specs.declared.token.Operator.TheVariants as operator
-use Rattle.al_types.specs.declared.names.Context.{Context}
-use Rattle.al_types.specs.declared.names.Function.{Function}
-use Rattle.al_types.specs.declared.names.Function.TheVariants as function
-use Rattle.al_types.specs.declared.signatures.Parameters.{Parameters}
+use Rattle.al_expr_names.specs.declared.names.Context.{Context}
+use Rattle.al_expr_names.specs.declared.names.Function.{Function}
+use Rattle.al_expr_names.specs.declared.names.Function.TheVariants as function
+use Rattle.al_expr_names.specs.declared.signatures.Parameters.{Parameters}
 use Rattle.al_expr_grammar.specs.Refusal.{expression_fault}
-use Rattle.al_types.specs.Names.{context_of, function_of}
+use Rattle.al_expr_names.specs.Names.{context_of, function_of}
 use Rattle.al_expr_typing.specs.Placeholders.{used_arguments}
 use Rattle.al_types.specs.Types.{Type', Any, Number, Bool', String, ArrayOf, ObjectOf, fuse_type, option_of, or_any, or_else}
 use Rattle.al_expr_typing.specs.Comparison.{comparable_types}
-use Rattle.al_types.specs.Signatures.{signature, takes_count, parameter_at, accepts, returned_type}
-use Rattle.al_types.specs.Scopes.{Scope}
+use Rattle.al_expr_names.specs.Signatures.{signature, takes_count, parameter_at, accepts, returned_type}
+use Rattle.al_expr_names.specs.Scopes.{Scope}
 use Rattle.al_expr_grammar.specs.Extents.{extent, across}
 use Rattle.al_expr_typing.specs.Literals.{literal_text, type_of_keyword}
 use Rattle.al_expr_typing.specs.Untrusted.{untrusted_chain}

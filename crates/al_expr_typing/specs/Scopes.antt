@@ -1,8 +1,8 @@
 -- What is available at a place, with types in a table.
 use Rattle.std.specs.Prelude.{◌≡◌, List, true}
-use Rattle.al_types.specs.Scopes.{Scope, available_of}
-use Rattle.al_types.specs.declared.names.Context.{Context}
-use Rattle.al_types.specs.declared.names.Context.TheVariants as context
+use Rattle.al_expr_names.specs.Scopes.{Scope, available_of}
+use Rattle.al_expr_names.specs.declared.names.Context.{Context}
+use Rattle.al_expr_names.specs.declared.names.Context.TheVariants as context
 use Rattle.al_types.specs.Types.{Parts}
 use Rattle.al_expr_types.specs.Tables.{is_known, objects_of}
 use Rattle.al_expr_types.specs.Types.{type_in}

@@ -6,9 +6,9 @@ ghost use Rattle.al_expr_typing.specs.Meaning.{argument_faults, format_faults};
 ghost use Rattle.al_expr_typing.specs.Meaning.{unused_arguments};
 ghost use Rattle.al_expr_grammar.specs.Refusal.{expression_fault};
 ghost use Rattle.al_expr_typing.specs.Arguments.{argument_in};
-ghost use Rattle.al_types.specs.Scopes.{can_call};
+ghost use Rattle.al_expr_names.specs.Scopes.{can_call};
 ghost use Rattle.al_expr_typing.specs.Scopes.{scope_in};
-ghost use Rattle.al_types.specs.Signatures.{accepts, returned_type, parameter_at};
+ghost use Rattle.al_expr_names.specs.Signatures.{accepts, returned_type, parameter_at};
 ghost use Rattle.al_expr_grammar.specs.Tree.{arguments_of};
 ghost use Rattle.al_types.specs.Types.{Parts};
 ghost use Rattle.al_expr_types.specs.Types.{is_below, type_in};
@@ -21,8 +21,8 @@ use crate::reports::report_text;
 use crate::scope::Scope;
 use al_base::{Args, Code, ExpressionCode, FaultSink, Span};
 use al_expr_grammar::{Expr, Word};
+use al_expr_names::{Function, Parameters, Returned, Wanted};
 use al_expr_types::{Scalar, Ty};
-use al_types::{Function, Parameters, Returned, Wanted};
 use std::alloc::AllocError;
 
 /// The type and span of an argument.

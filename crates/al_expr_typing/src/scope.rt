@@ -3,8 +3,8 @@
 ghost use Rattle.std.specs.Prelude.{◌≡◌};
 ghost use Rattle.al_expr_typing.specs.Scopes.{context_number};
 
+use al_expr_names::{Available, Context};
 use al_expr_types::Ty;
-use al_types::{Available, Context};
 
 /// What an expression can refer to at its place in a workflow or an action.
 #[derive(Clone, Copy)]

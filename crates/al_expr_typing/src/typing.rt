@@ -12,7 +12,7 @@ ghost use Rattle.al_expr_typing.specs.Meaning.{begins_logic, untrusted_faults, a
 ghost use Rattle.al_expr_typing.specs.Steps.{base_name};
 ghost use Rattle.al_expr_typing.specs.Meaning as meaning;
 ghost use Rattle.al_expr_typing.specs.Literals.{literal_text};
-ghost use Rattle.al_types.specs.Names.{context_of, function_of};
+ghost use Rattle.al_expr_names.specs.Names.{context_of, function_of};
 ghost use Rattle.al_expr_grammar.specs.Tree.{steps_of, operands_of, arguments_of};
 ghost use Rattle.al_expr_grammar.specs.View.{expr_view, step_of, operand_of};
 
@@ -25,8 +25,8 @@ use crate::steps::{PropertyStep, all, element, property};
 use crate::untrusted::untrusted_chain;
 use al_base::{ExpressionCode, FaultSink, Span};
 use al_expr_grammar::{Expr, Operand, PathStep, Word, across, extent, path_extent};
+use al_expr_names::{Context, Function};
 use al_expr_types::{Join, Scalar, Ty, Types};
-use al_types::{Context, Function};
 use std::alloc::AllocError;
 
 /// The type of an expression under a scope. Adds the faults in it, X7 to X17 and X19, in the order in which it is read. Spans are byte

@@ -3,7 +3,8 @@
 ghost use Rattle.al_graph.specs.Private.Finishing.{IsFinished, IsSearch, frames_of};
 ghost use Rattle.al_graph.specs.Graphs.{Edge, edges_of};
 ghost use Rattle.al_graph.specs.Private.Marks.{Marked};
-ghost use Rattle.std.specs.Prelude.{◌≡◌, ℕ, ◌<◌, ◌++◌, ◌∷◌, [], false, true, length, slice_index_or, set, IfOk, OnOk};
+ghost use Rattle.std.specs.Prelude.{◌≡◌, ℕ, ◌<◌, ◌++◌, ◌∷◌, [], false, true, length};
+ghost use Rattle.std.specs.Prelude.{slice_index_or, set, IfOk, OnOk};
 
 use std::alloc::{AllocError, Global};
 
@@ -33,8 +34,8 @@ fn enter<'a>(
     Ok(())
 }
 
-/// Searches from a node, unless it was seen, until everything reachable from it is finished. The stack of frames is empty before and
-/// after.
+/// Searches from a node, unless it was seen, until everything reachable from it is finished. The
+/// stack of frames is empty before and after.
 fn finish_from<'a>(
     graph: &'a [Vec<usize>],
     from: usize,
@@ -70,8 +71,8 @@ fn finish_from<'a>(
     Ok(())
 }
 
-/// The nodes in an order in which a depth-first search finishes them: each after those reachable from it, except those from which it can
-/// be reached.
+/// The nodes in an order in which a depth-first search finishes them: each after those reachable
+/// from it, except those from which it can be reached.
 ///
 /// Takes time linear in nodes and edges. Fails with `AllocError` when out of memory.
 pub(crate) fn finish_order(alloc: Global, graph: &[Vec<usize>]) -> Result<Vec<usize>, AllocError>

@@ -1,13 +1,14 @@
-//! Strongly connected components, as labels of nodes: two nodes have the same label if each can be reached from the
-//! other.
+//! Strongly connected components, as labels of nodes: two nodes have the same label if each can be
+//! reached from the other.
 //!
-//! They are found by two searches (Kosaraju's algorithm). The first follows the edges backward and yields a postorder of the nodes. The
-//! second goes through that order from the end: each node without a label passes its own to all nodes without one that can be reached
-//! from it.
+//! They are found by two searches (Kosaraju's algorithm). The first follows the edges backward and
+//! yields a postorder of the nodes. The second goes through that order from the end: each node
+//! without a label passes its own to all nodes without one that can be reached from it.
 
 ghost use Rattle.al_graph.specs.Private.Labelling.{IsBackward, IsLabelling, Labels};
 ghost use Rattle.al_graph.specs.Graphs.{Edge, StronglyConnected, edges_of};
-ghost use Rattle.std.specs.Prelude.{◌≡◌, ℕ, ◌<◌, ◌+◌, ◌↔◌, ◌∷◌, [], None, length, slice_index_or, vec_len, IfOk, OnOk};
+ghost use Rattle.std.specs.Prelude.{◌≡◌, ℕ, ◌<◌, ◌+◌, ◌↔◌, ◌∷◌, [], None, length, slice_index_or};
+ghost use Rattle.std.specs.Prelude.{vec_len, IfOk, OnOk};
 
 use crate::finishing::finish_order;
 use crate::turning::transpose;
@@ -32,8 +33,8 @@ fn label_node(
     Ok(())
 }
 
-/// Labels the node at this position of the order and all nodes without a label that can be reached from it, unless it has a label. The
-/// list of waiting nodes is empty before and after.
+/// Labels the node at this position of the order and all nodes without a label that can be reached
+/// from it, unless it has a label. The list of waiting nodes is empty before and after.
 fn label_from(
     graph: &[Vec<usize>],
     order: &[usize],
@@ -62,8 +63,8 @@ fn label_from(
     Ok(())
 }
 
-/// A label for each node of a graph, the same for two nodes if and only if they are in one strongly connected component. No label is
-/// `None`.
+/// A label for each node of a graph, the same for two nodes if and only if they are in one strongly
+/// connected component. No label is `None`.
 ///
 /// Takes time linear in nodes and edges. Fails with `AllocError` when out of memory.
 pub fn strongly_connected_components(

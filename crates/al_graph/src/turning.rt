@@ -5,7 +5,8 @@ ghost use Rattle.std.specs.Prelude.{◌≡◌, ℕ, ◌<◌, length, vec_len, If
 
 use std::alloc::{AllocError, Global};
 
-/// How many edges lead to each node, which is the length of its list in the transpose. Only capacities depend on these numbers.
+/// How many edges lead to each node, which is the length of its list in the transpose. Only
+/// capacities depend on these numbers.
 fn edge_counts(alloc: Global, graph: &[Vec<usize>]) -> Result<Vec<usize>, AllocError>
     requires { (j k : ℕ) → Edge (edges_of graph.now) j k → k < length graph.now }
     ensures { IfOk result (λ counts. vec_len counts ≡ length graph.now) }

@@ -3,7 +3,8 @@ use Rattle.std.specs.Prelude.{ℕ, List, [], ◌∷◌, ◌++◌, codes, Option,
 use Rattle.std.specs.List.{flat_map}
 use Rattle.std.specs.Option.{option_map_or}
 use Rattle.std.specs.Str.{bytes_eq}
-use Rattle.al_base.specs.declared.codes.RuleCode.TheVariants.{ScheduleTooOften, UnknownActivity, UnknownEvent, UnknownInputType}
+use Rattle.al_base.specs.declared.codes.RuleCode.TheVariants.{ScheduleTooOften, UnknownActivity}
+use Rattle.al_base.specs.declared.codes.RuleCode.TheVariants.{UnknownEvent, UnknownInputType}
 use Rattle.al_base.specs.declared.codes.RuleCode.TheVariants.{WrongPattern, WrongSchedule}
 use Rattle.al_base.specs.declared.faults.Fault.{Fault}
 use Rattle.al_scalar.specs.Scalar.{Scalar}
@@ -65,8 +66,10 @@ abbrev pub event_name_faults : Named → List Fault
 event_name_faults n = unless (is_event n.text) UnknownEvent n
 
 abbrev pub named_faults : Scalar × Node → List Fault
-named_faults m = if is_event (key_of m) then event_faults (key_of m) m.1 else about UnknownEvent (of_scalar m.0)
+named_faults m = if is_event (key_of m) then event_faults (key_of m) m.1
+    else about UnknownEvent (of_scalar m.0)
 
 -- the faults of the value of `on`
 abbrev pub on_faults : Node → List Fault
-on_faults on = flat_map (λ s. event_name_faults (of_scalar s)) (texts_in on) ++ flat_map named_faults (entries_in on)
+on_faults on = flat_map (λ s. event_name_faults (of_scalar s)) (texts_in on)
+    ++ flat_map named_faults (entries_in on)

@@ -1,5 +1,6 @@
 -- The faults of the `needs` of jobs.
-use Rattle.std.specs.Prelude.{◌≡◌, ℕ, List, [], ◌∷◌, ◌++◌, Bool, codes, map, Option, Some, None, if◌then◌else◌}
+use Rattle.std.specs.Prelude.{◌≡◌, ℕ, List, [], ◌∷◌, ◌++◌, Bool, codes, map, Option, Some, None}
+use Rattle.std.specs.Prelude.{if◌then◌else◌}
 use Rattle.std.specs.List.{flat_map, filter_map, enumerate_from}
 use Rattle.al_base.specs.declared.codes.RuleCode.TheVariants.{NeedsCycle, UndefinedJob}
 use Rattle.al_base.specs.declared.faults.Fault.{Fault}
@@ -38,22 +39,27 @@ all_needs jobs = flat_map needs_in (enumerate_from 0 jobs)
 abbrev pub cycle_fault : NeedEntry → Fault
 cycle_fault n = rule_fault NeedsCycle n.text.span (n.key.text ∷ n.text.text ∷ [])
 
--- The fault of an entry: its job isn't defined; there is a walk of needs from that job back to this one; or none.
-pub data IsNeedFaults (Leads : ℕ → ℕ → Type 0) (n : NeedEntry) : Option ℕ → List Fault → Type 0 where
+-- The fault of an entry: its job isn't defined; there is a walk of needs from that job back to this
+-- one; or none.
+pub data IsNeedFaults (Leads : ℕ → ℕ → Type 0) (n : NeedEntry) : Option ℕ → List Fault
+    → Type 0 where
   undefined_job : IsNeedFaults Leads n None (about UndefinedJob n.text)
   closes_cycle : (j : ℕ) → Leads j n.job → IsNeedFaults Leads n (Some j) (cycle_fault n ∷ [])
   closes_no_cycle : (j : ℕ) → ¬ Leads j n.job → IsNeedFaults Leads n (Some j) []
 
 -- the faults of entries, one after another
-pub data AreNeedsFaults (position : List ℕ → Option ℕ) (Leads : ℕ → ℕ → Type 0) : List NeedEntry → List Fault → Type 0 where
+pub data AreNeedsFaults (position : List ℕ → Option ℕ) (Leads : ℕ → ℕ → Type 0) : List NeedEntry
+    → List Fault → Type 0 where
   no_needs : AreNeedsFaults position Leads [] []
-  and_need : (n : NeedEntry) (ns : List NeedEntry) (first rest : List Fault) → IsNeedFaults Leads n (position n.text.text) first
+  and_need : (n : NeedEntry) (ns : List NeedEntry) (first rest : List Fault)
+      → IsNeedFaults Leads n (position n.text.text) first
       → AreNeedsFaults position Leads ns rest
       → AreNeedsFaults position Leads (n ∷ ns) (first ++ rest)
 
 abbrev pub IsNeedsFaults : List (Scalar × Node) → List Fault → Type 0
 IsNeedsFaults jobs found =
-    let position = name_place (keys_in jobs) in AreNeedsFaults position (Walk (needs_lists position jobs)) (all_needs jobs) found
+    let position = name_place (keys_in jobs) in
+    AreNeedsFaults position (Walk (needs_lists position jobs)) (all_needs jobs) found
 
 -- what is added for some entries, and for all
 pub record AddsNeeds (position : List ℕ → Option ℕ) (Leads : ℕ → ℕ → Type 0) (ns : List NeedEntry) (old new : List Fault) : Type 0 where
@@ -63,9 +69,11 @@ pub record AddsNeeds (position : List ℕ → Option ℕ) (Leads : ℕ → ℕ �
 
 abbrev pub AddsAllNeeds : List (Scalar × Node) → List Fault → List Fault → Type 0
 AddsAllNeeds jobs old new =
-    let position = name_place (keys_in jobs) in AddsNeeds position (Walk (needs_lists position jobs)) (all_needs jobs) old new
+    let position = name_place (keys_in jobs) in
+    AddsNeeds position (Walk (needs_lists position jobs)) (all_needs jobs) old new
 
--- For worked rows: the fault of an entry, given a test of which jobs have a walk to the job that needs them
+-- For worked rows: the fault of an entry, given a test of which jobs have a walk to the job that
+-- needs them
 abbrev pub tested_faults : (ℕ → Bool) → NeedEntry → Option ℕ → List Fault
 tested_faults leads n None = about UndefinedJob n.text
 tested_faults leads n (Some j) = if leads j then cycle_fault n ∷ [] else []

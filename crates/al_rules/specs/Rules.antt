@@ -1,15 +1,18 @@
 -- The faults of the rules, of a workflow and of an action.
-use Rattle.std.specs.Prelude.{◌≡◌, ◌↔◌, ◌⊎◌, List, [], ◌∷◌, ◌++◌, codes, map, Option, if◌then◌else◌, is_some, Contains, option_map}
+use Rattle.std.specs.Prelude.{◌≡◌, ◌↔◌, ◌⊎◌, List, [], ◌∷◌, ◌++◌, codes, map, Option, if◌then◌else◌}
+use Rattle.std.specs.Prelude.{is_some, Contains, option_map}
 use Rattle.std.specs.Prelude.{option_and_then}
 use Rattle.std.specs.List.{flat_map, filter_map}
 use Rattle.std.specs.Option.{option_map_or}
-use Rattle.al_base.specs.declared.codes.RuleCode.TheVariants.{MissingOutputValue, MissingShell, UnknownUsing}
+use Rattle.al_base.specs.declared.codes.RuleCode.TheVariants.{MissingOutputValue, MissingShell}
+use Rattle.al_base.specs.declared.codes.RuleCode.TheVariants.{UnknownUsing}
 use Rattle.al_base.specs.declared.faults.Fault.{Fault}
 use Rattle.al_scalar.specs.Scalar.{Scalar}
 use Rattle.al_yaml_tree.specs.Access.{scalar_in}
 use Rattle.al_yaml_tree.specs.Node.{Node}
 use Rattle.al_tree.specs.Faults.{runs_of}
-use Rattle.al_tree.specs.Values.{entries_at, items_at, key_at, text_at_key, text_below, value_at, value_below}
+use Rattle.al_tree.specs.Values.{entries_at, items_at, key_at, text_at_key, text_below, value_at}
+use Rattle.al_tree.specs.Values.{value_below}
 use Rattle.al_tree.specs.Files.{jobs_of, kind_in, root_of}
 use Rattle.al_tree.specs.declared.table.Shape.{Shape}
 use Rattle.al_tree.specs.declared.table.Shape.TheVariants.{CompositeRuns, DockerRuns, NodeRuns}
@@ -27,11 +30,13 @@ use Rattle.al_rules_settings.specs.Words.{Named, about, of_scalar, rule_fault}
 -- the faults of a step
 abbrev pub step_faults : Node → List Fault
 step_faults step =
-    env_faults step ++ condition_faults (text_at_key (codes "if") step) ++ shell_faults (text_at_key (codes "shell") step)
+    env_faults step ++ condition_faults (text_at_key (codes "if") step)
+    ++ shell_faults (text_at_key (codes "shell") step)
     ++ script_faults (text_at_key (codes "run") step)
 
 abbrev pub steps_faults : List Node → List Fault
-steps_faults steps = ids_faults (map of_scalar (filter_map (text_at_key (codes "id")) steps)) ++ flat_map step_faults steps
+steps_faults steps = ids_faults (map of_scalar (filter_map (text_at_key (codes "id")) steps))
+    ++ flat_map step_faults steps
 
 -- the faults of a container or a service
 abbrev pub container_faults : Node → List Fault
@@ -52,12 +57,14 @@ settings_faults job =
     ++ option_map_or matrix_faults (value_below (codes "strategy" ∷ codes "matrix" ∷ []) job) []
 
 abbrev pub job_faults : Scalar × Node → List Fault
-job_faults j = settings_faults j.1 ++ containers_faults j.1 ++ steps_faults (items_at (codes "steps") j.1)
+job_faults j = settings_faults j.1 ++ containers_faults j.1
+    ++ steps_faults (items_at (codes "steps") j.1)
 
 -- the faults of a workflow, given those of its `needs`
 abbrev pub workflow_faults : List Fault → Node → List Fault
 workflow_faults needs root =
-    option_map_or on_faults (value_at (codes "on") root) [] ++ section_faults root ++ ids_faults (job_keys (jobs_of root)) ++ needs
+    option_map_or on_faults (value_at (codes "on") root) [] ++ section_faults root
+    ++ ids_faults (job_keys (jobs_of root)) ++ needs
     ++ flat_map job_faults (jobs_of root)
 
 -- a step of a composite action that runs a script and names no shell
@@ -68,15 +75,18 @@ no_shell_faults step =
 
 -- an output of a composite action without a value
 abbrev pub output_faults : Scalar × Node → List Fault
-output_faults m = if is_some (value_at (codes "value") m.1) then [] else about MissingOutputValue (of_scalar m.0)
+output_faults m = if is_some (value_at (codes "value") m.1) then []
+    else about MissingOutputValue (of_scalar m.0)
 
 abbrev pub composite_faults : Node → Node → List Fault
 composite_faults root runs =
-    steps_faults (items_at (codes "steps") runs) ++ flat_map no_shell_faults (items_at (codes "steps") runs)
+    steps_faults (items_at (codes "steps") runs)
+    ++ flat_map no_shell_faults (items_at (codes "steps") runs)
     ++ flat_map output_faults (entries_at (codes "outputs") root)
 
 abbrev pub hooks_faults : Node → List Fault
-hooks_faults runs = condition_faults (text_at_key (codes "pre-if") runs) ++ condition_faults (text_at_key (codes "post-if") runs)
+hooks_faults runs = condition_faults (text_at_key (codes "pre-if") runs)
+    ++ condition_faults (text_at_key (codes "post-if") runs)
 
 -- the faults by the section that `runs` is; if that is unknown, only `using` is checked
 abbrev pub using_faults : Node → Node → Named → Shape → List Fault

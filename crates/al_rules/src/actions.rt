@@ -1,6 +1,7 @@
 //! Rules of actions, depending on `using`.
 
-ghost use Rattle.al_rules.specs.Rules.{action_faults, composite_faults, hooks_faults, scalar_of_value};
+ghost use Rattle.al_rules.specs.Rules.{action_faults, composite_faults, hooks_faults};
+ghost use Rattle.al_rules.specs.Rules.{scalar_of_value};
 ghost use Rattle.al_rules_settings.specs.Views.{named_of};
 ghost use Rattle.al_tree.specs.Values.{value_at};
 ghost use Rattle.al_yaml_tree.specs.View.{view};
@@ -13,7 +14,8 @@ use al_tree::{Shape, items_under, key, members_under, runs_of, text_under, value
 use al_yaml_tree::Node;
 use std::alloc::AllocError;
 
-/// Adds the faults of a composite action: those of its steps, scripts that name no shell, and outputs without a value.
+/// Adds the faults of a composite action: those of its steps, scripts that name no shell, and
+/// outputs without a value.
 fn check_composite(root: &Node, runs: &Node, faults: &mut FaultSink) -> Result<(), AllocError>
     ensures { OnOk result (faults.new ≡ faults.old
         ++ composite_faults (view root.now) (view runs.now)) }

@@ -1,6 +1,7 @@
 //! Rules of events: their names, activity types, filters, schedules, and the types of inputs.
 
-ghost use Rattle.al_rules.specs.Events.{activity_type_faults, cron_faults, event_faults, filter_faults, filters_faults};
+ghost use Rattle.al_rules.specs.Events.{activity_type_faults, cron_faults, event_faults};
+ghost use Rattle.al_rules.specs.Events.{filter_faults, filters_faults};
 ghost use Rattle.al_rules.specs.Events.{inputs_faults, on_faults};
 ghost use Rattle.al_yaml_tree.specs.View.{view};
 ghost use Rattle.std.specs.Prelude.{◌≡◌, ◌++◌, map, OnOk};
@@ -107,8 +108,8 @@ fn check_event(name: &[u8], event: &Node, faults: &mut FaultSink) -> Result<(), 
     }
 }
 
-/// Adds the faults of the value of `on`: unknown events, and for each other event its activity types, filters,
-/// schedules and types of inputs.
+/// Adds the faults of the value of `on`: unknown events, and for each other event its activity
+/// types, filters, schedules and types of inputs.
 ///
 /// # Errors
 ///

@@ -10,8 +10,8 @@ use al_base::{Fault, FaultSink};
 use al_tree::Tree;
 use std::alloc::{AllocError, Global};
 
-/// Adds to a list the faults of a workflow or an action by the rules of a single file, in no particular order. Their
-/// spans are byte offsets of the file.
+/// Adds to a list the faults of a workflow or an action by the rules of a single file, in no
+/// particular order. Their spans are byte offsets of the file.
 ///
 /// # Errors
 ///

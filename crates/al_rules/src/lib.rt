@@ -1,5 +1,5 @@
-//! Rules of workflows and actions that depend on a single file, including those for the value of `on`: events, activity
-//! types, filters, schedules, and the types of inputs.
+//! Rules of workflows and actions that depend on a single file, including those for the value of
+//! `on`: events, activity types, filters, schedules, and the types of inputs.
 #![tactic(auto)]
 
 mod actions;
@@ -12,7 +12,9 @@ mod needs;
 mod sections;
 mod workflows;
 
+pub use al_rules_settings::{PERMISSIONS, SCOPE_VALUES, SHELLS, WHOLE_VALUES};
 pub use events::check_on;
 pub use examples::rows;
 pub use files::rules;
 pub use laws::spans;
+pub use names::{CALL_TYPES, DISPATCH_TYPES, activities_of};

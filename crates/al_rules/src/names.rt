@@ -35,18 +35,14 @@ const ACTIVITIES: &[Activities] = &[
     activities!("workflow_run" => "completed" "requested" "in_progress"),
 ];
 
-pub(crate) const CALL_TYPES: &[&str] = &["boolean", "number", "string"];
+/// The types of the inputs of `workflow_call`.
+pub const CALL_TYPES: &[&str] = &["boolean", "number", "string"];
 
-pub(crate) const DISPATCH_TYPES: &[&str] = &[
-    "boolean",
-    "number",
-    "string",
-    "choice",
-    "environment",
-];
+/// The types of the inputs of `workflow_dispatch`.
+pub const DISPATCH_TYPES: &[&str] = &["boolean", "number", "string", "choice", "environment"];
 
 /// The activity types of an event; `None` if any text is accepted.
-pub(crate) fn activities_of(event: &[u8]) -> Option<&'static [&'static str]>
+pub fn activities_of(event: &[u8]) -> Option<&'static [&'static str]>
     ensures { option_map (λ ts. map (λ n. n.now) ts.now) result ≡ activities_named event.now }
 {
     for row in ACTIVITIES {

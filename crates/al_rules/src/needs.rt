@@ -43,10 +43,11 @@ fn has_label_of(labels: &[Option<usize>], job: usize, other: usize) -> bool
     labels.get(job).copied().flatten() == labels.get(other).copied().flatten()
 }
 
-/// Adds the faults of the `needs` of a job at a position: entries that name no job, and entries on a cycle.
+/// Adds the faults of the `needs` of a job at a position: entries that name no job, and entries on
+/// a cycle.
 ///
-/// `positions` has the first job with each key, ignoring ASCII case. Two jobs have the same label exactly if they lead
-/// to one another.
+/// `positions` has the first job with each key, ignoring ASCII case. Two jobs have the same label
+/// exactly if they lead to one another.
 fn check_job(
     positions: &NamePositions,
     labels: &[Option<usize>],
@@ -74,8 +75,8 @@ fn check_job(
 
 /// Adds the faults of the `needs` of all jobs.
 ///
-/// An entry is on a cycle if its job and the job it names are in one strongly connected component. So the time is
-/// linear in jobs and entries, apart from looking up each name.
+/// An entry is on a cycle if its job and the job it names are in one strongly connected component.
+/// So the time is linear in jobs and entries, apart from looking up each name.
 pub(crate) fn check_needs(jobs: &[Member<'_>], faults: &mut FaultSink) -> Result<(), AllocError>
     ensures { OnOk result (AddsAllNeeds (map member_of jobs.now) faults.old faults.new) }
 {

@@ -1,6 +1,7 @@
 //! Steps, containers and jobs: which rules apply where.
 
-ghost use Rattle.al_rules.specs.Rules.{container_faults, containers_faults, job_faults, section_faults};
+ghost use Rattle.al_rules.specs.Rules.{container_faults, containers_faults, job_faults};
+ghost use Rattle.al_rules.specs.Rules.{section_faults};
 ghost use Rattle.al_rules.specs.Rules.{settings_faults, step_faults, steps_faults};
 ghost use Rattle.al_rules_settings.specs.Views.{named_of};
 ghost use Rattle.al_rules_settings.specs.Words.{of_scalar};

@@ -1,4 +1,5 @@
--- The names of jobs, steps and environment variables (GitHub, "Workflow syntax", `jobs.<job_id>`, `env`).
+-- The names of jobs, steps and environment variables (GitHub, "Workflow syntax", `jobs.<job_id>`,
+-- `env`).
 use Rattle.std.specs.Prelude.{ℕ, List, [], ◌∷◌, length, Bool, false, ◌==◌, ◌||◌, ◌&&◌, nat_lt, not}
 use Rattle.std.specs.List.{list_all}
 use Rattle.al_base.specs.Ascii.{ascii}

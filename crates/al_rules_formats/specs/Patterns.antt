@@ -1,11 +1,14 @@
--- The grammar of filter patterns, over characters (GitHub, "Workflow syntax", "Filter pattern cheat sheet").
+-- The grammar of filter patterns, over characters (GitHub, "Workflow syntax", "Filter pattern cheat
+-- sheet").
 --
 --     pattern = ["!"] item {item}
 --     item    = (character | "\" character | "[" class "]") {"?" | "+"}
 --
--- A character of an item isn't `\`, `[`, `?` or `+`. A class is one or more characters up to the first `]`; read from left to right,
--- two of them with `-` between them are a range, whose second one isn't less than its first.
-use Rattle.std.specs.Prelude.{ℕ, List, [], ◌∷◌, Bool, true, false, ◌==◌, nat_eq, nat_le, ◌||◌, ◌&&◌, not, codes, drop}
+-- A character of an item isn't `\`, `[`, `?` or `+`. A class is one or more characters up to the
+-- first `]`; read from left to right, two of them with `-` between them are a range, whose second
+-- one isn't less than its first.
+use Rattle.std.specs.Prelude.{ℕ, List, [], ◌∷◌, Bool, true, false, ◌==◌, nat_eq, nat_le, ◌||◌, ◌&&◌}
+use Rattle.std.specs.Prelude.{not, codes, drop}
 use Rattle.std.specs.Prelude.{if◌then◌else◌}
 use Rattle.std.specs.List.{list_any, starts_with}
 use Rattle.std.specs.Str.{chars}
@@ -26,7 +29,8 @@ before_bracket (c ∷ cs) = if c == ascii "]" then [] else c ∷ before_bracket 
 
 -- no range descends
 abbrev pub ascends : List ℕ → Bool
-ascends (low ∷ mark ∷ high ∷ cs) = if mark == ascii "-" then nat_le low high && ascends cs else ascends (mark ∷ high ∷ cs)
+ascends (low ∷ mark ∷ high ∷ cs) = if mark == ascii "-" then nat_le low high && ascends cs
+    else ascends (mark ∷ high ∷ cs)
 ascends _ = true
 
 abbrev pub is_class : List ℕ → Bool
@@ -67,7 +71,8 @@ has_barred Paths cs = starts_with nat_eq (after_not cs) (codes "./")
 
 -- a pattern by its characters: an optional `!`, then one or more items
 abbrev pub is_right : Filter → List ℕ → Bool
-is_right filter cs = not (has_barred filter cs) && (are_items_from false cs || are_items_from false (after_not cs))
+is_right filter cs =
+    not (has_barred filter cs) && (are_items_from false cs || are_items_from false (after_not cs))
 
 abbrev pub is_pattern : Filter → List ℕ → Bool
 is_pattern filter bs = is_right filter (chars (utf8_lossy bs))

@@ -1,3 +1,4 @@
--- Terms that only contracts of private functions need. No definition of what the product means uses them.
+-- Terms that only contracts of private functions need. No definition of what the product means uses
+-- them.
 pub mod PatternStates
 pub mod Views

@@ -1,6 +1,7 @@
 //! Texts that are one expression.
 
-ghost use Rattle.al_rules_formats.specs.Chunks.{is_lone_chunk as lone_chunk, is_short, is_lone, may_stand};
+ghost use Rattle.al_rules_formats.specs.Chunks.{is_lone_chunk as lone_chunk, is_short, is_lone};
+ghost use Rattle.al_rules_formats.specs.Chunks.{may_stand};
 ghost use Rattle.std.specs.Prelude.{◌≡◌, [], ◌∷◌, false, true, drop, IfOk, MatchOption, None};
 
 use al_base::Span;
@@ -65,8 +66,8 @@ fn short_text(bytes: &[u8]) -> Option<&str>
 
 /// Whether a text is one expression, `${{ .. }}`, with only what is allowed outside its braces.
 ///
-/// `false` for a text of more than 4,194,304 bytes or that isn't UTF-8: no file has such a text. Fails with `AllocError` when out of
-/// memory.
+/// `false` for a text of more than 4,194,304 bytes or that isn't UTF-8: no file has such a text.
+/// Fails with `AllocError` when out of memory.
 pub fn is_lone_chunk(alloc: Global, around: Around, text: &[u8]) -> Result<bool, AllocError>
     ensures { IfOk result (λ r. r ≡ lone_chunk around text.now) }
 {

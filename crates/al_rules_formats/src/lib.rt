@@ -1,4 +1,5 @@
-//! The small languages in the texts of workflows and actions: filter patterns, schedules, names, and texts that are one expression.
+//! The small languages in the texts of workflows and actions: filter patterns, schedules, names,
+//! and texts that are one expression.
 #![tactic(auto)]
 
 mod chunks;

@@ -18,14 +18,16 @@ fn continues(byte: u8) -> bool
     begins(byte) || byte.is_ascii_digit() || byte == b'-'
 }
 
-/// Whether a text is an id of a job or a step: an ASCII letter or `_`, then ASCII letters, digits, `_` and `-`.
+/// Whether a text is an id of a job or a step: an ASCII letter or `_`, then ASCII letters, digits,
+/// `_` and `-`.
 pub fn is_id(text: &[u8]) -> bool
     ensures { result ≡ id text.now }
 {
     matches!(text, [first, rest @ ..] if begins(*first) && rest.iter().all(|byte| continues(*byte)))
 }
 
-/// Whether a text is the name of an environment variable: it isn't empty, and has no space, `=` or `&`.
+/// Whether a text is the name of an environment variable: it isn't empty, and has no space, `=` or
+/// `&`.
 pub fn is_variable(text: &[u8]) -> bool
     ensures { result ≡ variable text.now }
 {

@@ -1,8 +1,11 @@
-//! Filter patterns, of branches, tags and paths (GitHub, "Workflow syntax", "Filter pattern cheat sheet").
+//! Filter patterns, of branches, tags and paths (GitHub, "Workflow syntax", "Filter pattern cheat
+//! sheet").
 
-ghost use Rattle.al_rules_formats.specs.Patterns.{are_items_from, after_not as without_not, has_barred as barred};
+ghost use Rattle.al_rules_formats.specs.Patterns.{are_items_from, after_not as without_not};
+ghost use Rattle.al_rules_formats.specs.Patterns.{has_barred as barred};
 ghost use Rattle.al_rules_formats.specs.Patterns.{is_pattern as pattern, is_right};
-ghost use Rattle.al_rules_formats.specs.Private.PatternStates.{outside as outside_class, read as read_one};
+ghost use Rattle.al_rules_formats.specs.Private.PatternStates.{outside as outside_class};
+ghost use Rattle.al_rules_formats.specs.Private.PatternStates.{read as read_one};
 ghost use Rattle.std.specs.Prelude.{◌≡◌, false, IfOk};
 
 use std::alloc::{AllocError, Global};
@@ -112,7 +115,8 @@ fn is_right_pattern(filter: Filter, characters: &[char]) -> bool
     !has_barred(filter, characters) && (are_items(characters) || are_items(after_not(characters)))
 }
 
-/// Whether a text is a filter pattern: an optional `!`, then one or more items, without what filters of this kind can't have.
+/// Whether a text is a filter pattern: an optional `!`, then one or more items, without what
+/// filters of this kind can't have.
 ///
 /// Bytes that aren't UTF-8 are read as U+FFFD. Fails with `AllocError` when out of memory.
 pub fn is_pattern(alloc: Global, filter: Filter, text: &[u8]) -> Result<bool, AllocError>

@@ -1,8 +1,12 @@
-//! Schedules: five fields, each a set of numbers (GitHub, "Events that trigger workflows", `schedule`).
+//! Schedules: five fields, each a set of numbers (GitHub, "Events that trigger workflows",
+//! `schedule`).
 
-ghost use Rattle.al_rules_formats.specs.Schedules.{from_to as numbers_from_to, head_of, items_of_field, item_parts};
-ghost use Rattle.al_rules_formats.specs.Schedules.{is_field as field_is_right, is_just_below, is_too_often as too_often};
-ghost use Rattle.al_rules_formats.specs.Schedules.{number_in as in_range_number, picks as item_picks};
+ghost use Rattle.al_rules_formats.specs.Schedules.{from_to as numbers_from_to, head_of};
+ghost use Rattle.al_rules_formats.specs.Schedules.{items_of_field, item_parts};
+ghost use Rattle.al_rules_formats.specs.Schedules.{is_field as field_is_right, is_just_below};
+ghost use Rattle.al_rules_formats.specs.Schedules.{is_too_often as too_often};
+ghost use Rattle.al_rules_formats.specs.Schedules.{number_in as in_range_number};
+ghost use Rattle.al_rules_formats.specs.Schedules.{picks as item_picks};
 ghost use Rattle.al_rules_formats.specs.Schedules.{schedule_of, schedule_value, words};
 ghost use Rattle.al_rules_formats.specs.Texts.{pieces};
 ghost use Rattle.al_base.specs.Ascii.{ascii};
@@ -209,7 +213,8 @@ fn words_of(alloc: Global, text: &[u8]) -> Result<Vec<&[u8]>, AllocError>
     pieces.filter(|piece| !piece.is_empty()).collect(alloc)
 }
 
-/// The items of a schedule's minutes, or `None` if the text isn't a schedule. Fails with `AllocError` when out of memory.
+/// The items of a schedule's minutes, or `None` if the text isn't a schedule. Fails with
+/// `AllocError` when out of memory.
 pub fn schedule(alloc: Global, text: &[u8]) -> Result<Option<Vec<Item>>, AllocError>
     ensures { IfOk result (λ r. option_map (λ v. v.items) r ≡ schedule_of text.now) }
 {
@@ -254,7 +259,8 @@ fn is_close_below(low: u32, numbers: &[u32]) -> bool
     numbers.iter().any(|high| low < *high && *high - low < 5)
 }
 
-/// Whether two of the minutes of an hour in these items differ by less than 5. Fails with `AllocError` when out of memory.
+/// Whether two of the minutes of an hour in these items differ by less than 5. Fails with
+/// `AllocError` when out of memory.
 pub fn is_too_often(alloc: Global, items: &[Item]) -> Result<bool, AllocError>
     ensures { IfOk result (λ r. r ≡ too_often items.now) }
 {

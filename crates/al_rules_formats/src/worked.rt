@@ -1,8 +1,10 @@
 //! Worked filter patterns and schedules, computed by the definitions.
-ghost use Rattle.al_rules_formats.specs.Rows.Patterns.{right_names, right_paths, wrong_names, wrong_paths};
+ghost use Rattle.al_rules_formats.specs.Rows.Patterns.{right_names, right_paths, wrong_names};
+ghost use Rattle.al_rules_formats.specs.Rows.Patterns.{wrong_paths};
 ghost use Rattle.al_rules_formats.specs.Patterns.{is_right};
 ghost use Rattle.al_rules_formats.specs.Rows.Schedules.{every, frequent_schedules, right_schedules};
-ghost use Rattle.al_rules_formats.specs.Rows.Schedules.{runs_seldom, runs_too_often, wrong_schedules};
+ghost use Rattle.al_rules_formats.specs.Rows.Schedules.{runs_seldom, runs_too_often};
+ghost use Rattle.al_rules_formats.specs.Rows.Schedules.{wrong_schedules};
 ghost use Rattle.al_base.specs.Ascii.{ascii};
 ghost use Rattle.al_rules_formats.specs.Schedules.{minute_set, schedule_of, written_number};
 ghost use Rattle.al_rules_formats.specs.Texts.{pieces};
@@ -10,7 +12,8 @@ ghost use Rattle.al_rules_formats.specs.declared.patterns.Filter.TheVariants.{Na
 ghost use Rattle.std.specs.List.{list_all, list_any};
 ghost use Rattle.std.specs.Prelude.{◌≡◌, [], ◌∷◌, codes, false, is_some, None, Some, true};
 
-/// Texts that are filter patterns, of branches and tags or of paths, and texts that aren't. Does nothing at run time.
+/// Texts that are filter patterns, of branches and tags or of paths, and texts that aren't. Does
+/// nothing at run time.
 pub fn pattern_rows()
     ensures right_names { list_all (is_right Names) right_names ≡ true }
     ensures wrong_names { list_any (is_right Names) wrong_names ≡ false }
@@ -18,7 +21,8 @@ pub fn pattern_rows()
     ensures wrong_paths { list_any (is_right Paths) wrong_paths ≡ false }
 {}
 
-/// Texts that are schedules, and texts that aren't, or that run too often. Does nothing at run time.
+/// Texts that are schedules, and texts that aren't, or that run too often. Does nothing at run
+/// time.
 pub fn schedule_rows()
     ensures right { list_all runs_seldom right_schedules ≡ true }
     ensures wrong { list_any (λ text. is_some (schedule_of text)) wrong_schedules ≡ false }

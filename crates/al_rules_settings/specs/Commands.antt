@@ -1,5 +1,6 @@
 -- Deprecated commands in a text (GitHub, "Workflow commands").
-use Rattle.std.specs.Prelude.{ℕ, List, [], ◌∷◌, ◌^◌, map, codes, ◌+◌, ◌-◌, length, nat_lt, if◌then◌else◌}
+use Rattle.std.specs.Prelude.{ℕ, List, [], ◌∷◌, ◌^◌, map, codes, ◌+◌, ◌-◌, length, nat_lt}
+use Rattle.std.specs.Prelude.{if◌then◌else◌}
 use Rattle.std.specs.List.{flat_map}
 use Rattle.memchr.specs.Find.{matches}
 use Rattle.al_base.specs.declared.codes.RuleCode.TheVariants.{DeprecatedCommand}
@@ -23,7 +24,8 @@ commands =
     ∷ (codes "::set-env name=", codes "set-env") ∷ (codes "::add-path::", codes "add-path") ∷ []
 
 abbrev pub command_fault : Scalar → List ℕ → List ℕ → ℕ → Fault
-command_fault s needle name i = rule_fault DeprecatedCommand (part_span s i (length needle)) (name ∷ [])
+command_fault s needle name i =
+    rule_fault DeprecatedCommand (part_span s i (length needle)) (name ∷ [])
 
 -- each occurrence of a command from the left, without those that overlap the one before
 abbrev pub one_command : Scalar → List ℕ × List ℕ → List Fault

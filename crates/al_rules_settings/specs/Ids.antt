@@ -10,7 +10,8 @@ use Rattle.al_rules_settings.specs.Words.{Named, unless}
 -- each id that equals an earlier one, ignoring ASCII case, after ids with these texts
 abbrev pub repeated_faults : List (List ℕ) → List Named → List Fault
 repeated_faults seen [] = []
-repeated_faults seen (n ∷ ns) = unless (is_none (name_place seen n.text)) RepeatedId n ++ repeated_faults (seen ++ n.text ∷ []) ns
+repeated_faults seen (n ∷ ns) = unless (is_none (name_place seen n.text)) RepeatedId n
+    ++ repeated_faults (seen ++ n.text ∷ []) ns
 
 -- invalid ids, and repeated ones
 abbrev pub ids_faults : List Named → List Fault

@@ -1,5 +1,6 @@
 -- Faults of a matrix.
-use Rattle.std.specs.Prelude.{ℕ, List, [], ◌∷◌, ◌++◌, Bool, false, ◌||◌, not, codes, map, Option, is_some, if◌then◌else◌}
+use Rattle.std.specs.Prelude.{ℕ, List, [], ◌∷◌, ◌++◌, Bool, false, ◌||◌, not, codes, map, Option}
+use Rattle.std.specs.Prelude.{is_some, if◌then◌else◌}
 use Rattle.std.specs.List.{list_all, flat_map, filter}
 use Rattle.std.specs.Option.{option_map_or}
 use Rattle.al_base.specs.NamePlaces.{name_place}
@@ -30,7 +31,9 @@ abbrev pub are_combinations : Node → Bool
 are_combinations n = option_map_or (list_all is_combination) (sequence_in n) false
 
 abbrev pub is_row_value : List ℕ → Node → Bool
-is_row_value k n = is_null_node n || is_dynamic n || (if is_combination_key k then are_combinations n else is_some (sequence_in n))
+is_row_value k n =
+    is_null_node n || is_dynamic n
+    || (if is_combination_key k then are_combinations n else is_some (sequence_in n))
 
 -- the fault of a wrong shape
 abbrev pub shape_faults : Bool → Span → List ℕ → List Fault
@@ -59,4 +62,5 @@ mapping_faults n =
 
 abbrev pub matrix_faults : Node → List Fault
 matrix_faults n =
-    if is_some (mapping_in n) then mapping_faults n else shape_faults (is_null_node n || is_dynamic n) (span_of n) (codes "matrix")
+    if is_some (mapping_in n) then mapping_faults n
+    else shape_faults (is_null_node n || is_dynamic n) (span_of n) (codes "matrix")

@@ -1,8 +1,10 @@
 -- Faults of shells, permissions, environment variables, credentials, conditions and scripts.
-use Rattle.std.specs.Prelude.{ℕ, List, [], ◌∷◌, ◌++◌, Bool, false, ◌||◌, ◌&&◌, not, codes, Option, if◌then◌else◌}
+use Rattle.std.specs.Prelude.{ℕ, List, [], ◌∷◌, ◌++◌, Bool, false, ◌||◌, ◌&&◌, not, codes, Option}
+use Rattle.std.specs.Prelude.{if◌then◌else◌}
 use Rattle.std.specs.List.{flat_map}
 use Rattle.std.specs.Option.{option_map_or}
-use Rattle.al_base.specs.declared.codes.RuleCode.TheVariants.{AlwaysTrue, PasswordNotExpression, UnknownPermission, UnknownShell}
+use Rattle.al_base.specs.declared.codes.RuleCode.TheVariants.{AlwaysTrue, PasswordNotExpression}
+use Rattle.al_base.specs.declared.codes.RuleCode.TheVariants.{UnknownPermission, UnknownShell}
 use Rattle.al_base.specs.declared.codes.RuleCode.TheVariants.{WrongPermission, WrongVariable}
 use Rattle.al_base.specs.declared.faults.Fault.{Fault}
 use Rattle.al_scalar.specs.Scalar.{Scalar, text_of}
@@ -24,20 +26,25 @@ abbrev pub is_shell : List ℕ → Bool
 is_shell text = has_chunk text || has_part (codes "{0}") text || among shells text
 
 abbrev pub shell_faults : Option Scalar → List Fault
-shell_faults shell = option_map_or (λ s. unless (is_shell (of_scalar s).text) UnknownShell (of_scalar s)) shell []
+shell_faults shell =
+    option_map_or (λ s. unless (is_shell (of_scalar s).text) UnknownShell (of_scalar s)) shell []
 
 -- an unknown permission, and a wrong value of a known one
 abbrev pub permission_value_faults : List (List ℕ) → Node → List Fault
-permission_value_faults values n = option_map_or (λ s. unless_among WrongPermission values (of_scalar s)) (text_in n) []
+permission_value_faults values n =
+    option_map_or (λ s. unless_among WrongPermission values (of_scalar s)) (text_in n) []
 
 abbrev pub permission_faults : Scalar × Node → List Fault
-permission_faults m = unless_among UnknownPermission permissions (of_scalar m.0) ++ permission_value_faults scope_values m.1
+permission_faults m = unless_among UnknownPermission permissions (of_scalar m.0)
+    ++ permission_value_faults scope_values m.1
 
 abbrev pub all_permissions_faults : Node → List Fault
-all_permissions_faults n = permission_value_faults whole_values n ++ flat_map permission_faults (entries_in n)
+all_permissions_faults n =
+    permission_value_faults whole_values n ++ flat_map permission_faults (entries_in n)
 
 abbrev pub permissions_faults : Node → List Fault
-permissions_faults section = option_map_or all_permissions_faults (value_at (codes "permissions") section) []
+permissions_faults section =
+    option_map_or all_permissions_faults (value_at (codes "permissions") section) []
 
 -- an invalid name of an environment variable
 abbrev pub variable_faults : Scalar × Node → List Fault
@@ -51,7 +58,8 @@ abbrev pub is_password : Node → Bool
 is_password n = option_map_or (λ s. is_null s || is_lone_chunk Nothing (text_of s)) (scalar_in n) false
 
 abbrev pub password_faults : Node → List Fault
-password_faults n = if is_password n then [] else rule_fault PasswordNotExpression (span_of n) [] ∷ []
+password_faults n = if is_password n then []
+    else rule_fault PasswordNotExpression (span_of n) [] ∷ []
 
 -- the fault of the credentials of a container or a service
 abbrev pub credentials_faults : Node → List Fault

@@ -16,7 +16,8 @@ pub record Named : Type 0 where
 abbrev pub of_scalar : Scalar → Named
 of_scalar s = record { text = text_of s; span = s.span }
 
--- A fault with these texts as arguments, which are UTF-8: bytes that aren't become U+FFFD, but no file that was read has any.
+-- A fault with these texts as arguments, which are UTF-8: bytes that aren't become U+FFFD, but no
+-- file that was read has any.
 abbrev pub rule_fault : RuleCode → Span → List (List ℕ) → Fault
 rule_fault rule at texts = record { span = at; code = code.Rule rule; args = map utf8_lossy texts }
 

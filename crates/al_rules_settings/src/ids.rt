@@ -9,7 +9,8 @@ use al_base::{FaultSink, NamePositions, RuleCode};
 use al_rules_formats::is_id;
 use std::alloc::AllocError;
 
-/// Adds the faults of the keys of jobs or the ids of steps: invalid ones, and those that repeat an earlier one, ignoring ASCII case.
+/// Adds the faults of the keys of jobs or the ids of steps: invalid ones, and those that repeat an
+/// earlier one, ignoring ASCII case.
 ///
 /// Fails with `AllocError` when out of memory.
 pub fn check_ids(ids: &[Named<'_>], faults: &mut FaultSink) -> Result<(), AllocError>

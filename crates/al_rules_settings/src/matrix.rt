@@ -1,9 +1,12 @@
 //! The matrix of a job.
 
 ghost use Rattle.al_base.specs.NamePlaces.{name_place, name_position};
-ghost use Rattle.al_rules_settings.specs.Matrix.{are_combinations as all_combinations, exclude_faults, exclude_keys};
-ghost use Rattle.al_rules_settings.specs.Matrix.{is_combination as combination, is_dynamic as dynamic};
-ghost use Rattle.al_rules_settings.specs.Matrix.{is_null_node as null_node, is_row_value as row_value};
+ghost use Rattle.al_rules_settings.specs.Matrix.{are_combinations as all_combinations};
+ghost use Rattle.al_rules_settings.specs.Matrix.{exclude_faults, exclude_keys};
+ghost use Rattle.al_rules_settings.specs.Matrix.{is_combination as combination};
+ghost use Rattle.al_rules_settings.specs.Matrix.{is_dynamic as dynamic};
+ghost use Rattle.al_rules_settings.specs.Matrix.{is_null_node as null_node};
+ghost use Rattle.al_rules_settings.specs.Matrix.{is_row_value as row_value};
 ghost use Rattle.al_rules_settings.specs.Matrix.{matrix_faults, row_names as names_of_rows};
 ghost use Rattle.al_rules_settings.specs.Words.{of_scalar};
 ghost use Rattle.al_tree.specs.Values.{entries_in, member_of};
@@ -90,7 +93,8 @@ fn check_excluded(
     Ok(())
 }
 
-/// Adds the faults of the keys of `exclude`, given the rows. Most matrices have none, and the rows aren't looked up.
+/// Adds the faults of the keys of `exclude`, given the rows. Most matrices have none, and the rows
+/// aren't looked up.
 fn check_excludes(
     rows: &[Member<'_>],
     items: &[Node],

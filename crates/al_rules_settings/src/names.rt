@@ -1,6 +1,7 @@
 //! The names of permissions, their values, and shells.
 
-pub(crate) const PERMISSIONS: &[&str] = &[
+/// The scopes of permissions.
+pub const PERMISSIONS: &[&str] = &[
     "actions",
     "artifact-metadata",
     "attestations",
@@ -19,8 +20,11 @@ pub(crate) const PERMISSIONS: &[&str] = &[
     "statuses",
 ];
 
-pub(crate) const SHELLS: &[&str] = &["bash", "sh", "pwsh", "powershell", "python", "cmd"];
+/// The shells that GitHub knows by name.
+pub const SHELLS: &[&str] = &["bash", "sh", "pwsh", "powershell", "python", "cmd"];
 
-pub(crate) const SCOPE_VALUES: &[&str] = &["read", "write", "none"];
+/// The values of a scope.
+pub const SCOPE_VALUES: &[&str] = &["read", "write", "none"];
 
-pub(crate) const WHOLE_VALUES: &[&str] = &["read-all", "write-all"];
+/// The values of `permissions` as a whole.
+pub const WHOLE_VALUES: &[&str] = &["read-all", "write-all"];

@@ -27,7 +27,8 @@ pub fn named_text(scalar: &Scalar) -> Named<'_>
     }
 }
 
-/// Adds a fault that has the span of a text and names it. Fails with `AllocError` when out of memory.
+/// Adds a fault that has the span of a text and names it. Fails with `AllocError` when out of
+/// memory.
 pub fn report(rule: RuleCode, named: Named<'_>, faults: &mut FaultSink) -> Result<(), AllocError>
     ensures { OnOk result (faults.new ≡ faults.old ++ about rule (named_of named.entry)) }
 {
@@ -49,7 +50,8 @@ pub fn report_unless(
     report(rule, named, faults)
 }
 
-/// Adds the fault of a text, unless it is one of some names. Fails with `AllocError` when out of memory.
+/// Adds the fault of a text, unless it is one of some names. Fails with `AllocError` when out of
+/// memory.
 pub fn report_unless_among(
     rule: RuleCode,
     names: &[&str],

@@ -1,8 +1,10 @@
 //! Shells, permissions, environment variables, credentials and conditions.
 
-ghost use Rattle.al_rules_settings.specs.Settings.{condition_faults, credentials_faults, env_faults};
+ghost use Rattle.al_rules_settings.specs.Settings.{condition_faults, credentials_faults};
+ghost use Rattle.al_rules_settings.specs.Settings.{env_faults};
 ghost use Rattle.al_rules_settings.specs.Settings.{is_password as password, is_shell as shell};
-ghost use Rattle.al_rules_settings.specs.Settings.{permission_value_faults, permissions_faults, shell_faults};
+ghost use Rattle.al_rules_settings.specs.Settings.{permission_value_faults, permissions_faults};
+ghost use Rattle.al_rules_settings.specs.Settings.{shell_faults};
 ghost use Rattle.al_yaml_tree.specs.View.{view};
 ghost use Rattle.std.specs.Option.{option_copied};
 ghost use Rattle.std.specs.Prelude.{◌≡◌, ◌++◌, map, IfOk, OnOk};
@@ -16,7 +18,8 @@ use al_tree::{contains_chunk, is_null_scalar, key_of, members, text, value, valu
 use al_yaml_tree::Node;
 use std::alloc::{AllocError, Global};
 
-/// Whether a text is accepted as a shell: it has an expression or `{0}`, the place of the script, or is a known name.
+/// Whether a text is accepted as a shell: it has an expression or `{0}`, the place of the script,
+/// or is a known name.
 fn is_shell(text: &[u8]) -> bool
     ensures { result ≡ shell text.now }
 {
@@ -100,7 +103,8 @@ fn is_password(alloc: Global, node: &Node) -> Result<bool, AllocError>
     }
 }
 
-/// Adds the fault of the credentials of a container or a service: a password that isn't one expression.
+/// Adds the fault of the credentials of a container or a service: a password that isn't one
+/// expression.
 ///
 /// Fails with `AllocError` when out of memory.
 pub fn check_credentials(container: &Node, faults: &mut FaultSink) -> Result<(), AllocError>

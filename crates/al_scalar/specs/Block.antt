@@ -1,10 +1,12 @@
 -- Block scalars (8.1).
-use Rattle.std.specs.Prelude.{ℕ, ◌+◌, ◌-◌, List, [], ◌∷◌, ◌++◌, drop, Bool, true, not, ◌&&◌, ◌||◌, ◌==◌, nat_le, if◌then◌else◌}
+use Rattle.std.specs.Prelude.{ℕ, ◌+◌, ◌-◌, List, [], ◌∷◌, ◌++◌, drop, Bool, true, not, ◌&&◌, ◌||◌}
+use Rattle.std.specs.Prelude.{◌==◌, nat_le, if◌then◌else◌}
 use Rattle.std.specs.Prelude.{Option, Some, None, is_none, is_some, unwrap_or, Result, Ok}
 use Rattle.std.specs.Option.{option_map_or}
 use Rattle.al_base.specs.Ascii.{ascii, is_sign}
 use Rattle.al_base.specs.declared.codes.YamlCode.TheVariants as yaml
-use Rattle.al_scalar.specs.Line.{Cell, Line, place, after_blanks, indent, is_empty, is_all_blank, begins_blank, is_comment}
+use Rattle.al_scalar.specs.Line.{Cell, Line, place, after_blanks, indent, is_empty, is_all_blank}
+use Rattle.al_scalar.specs.Line.{begins_blank, is_comment}
 use Rattle.al_scalar.specs.Taken.{Taken, ◌>>=◌, fault, feeds, folded_break}
 use Rattle.al_scalar.specs.declared.faults.FaultAt.{FaultAt}
 use Rattle.al_scalar.specs.declared.header.Chomping.{Chomping}
@@ -23,16 +25,18 @@ header_end h cs =
     if is_empty (after_blanks cs) || (begins_blank cs && is_comment cs) then Ok h
     else fault yaml.WrongBlockHeader (place (after_blanks cs) 0)
 
--- The header after the indicators read so far, which end at this offset: a digit and a sign, each at most once and in either order.
+-- The header after the indicators read so far, which end at this offset: a digit and a sign, each
+-- at most once and in either order.
 abbrev pub header : Option ℕ → Option Chomping → ℕ → List Cell → Result Header FaultAt
-header digit sign at [] = header_end (record { digit = digit; chomping = unwrap_or sign Clip; end = at }) []
+header digit sign at [] =
+    header_end (record { digit = digit; chomping = unwrap_or sign Clip; end = at }) []
 header digit sign at (c ∷ cs) =
     if is_none digit && is_digit c.0 then header (Some (c.0 - 48)) sign (at + 1) cs
     else (if is_none sign && is_sign c.0 then header digit (Some (chomping_of c.0)) (at + 1) cs
     else header_end (record { digit = digit; chomping = unwrap_or sign Clip; end = at }) (c ∷ cs))
 
--- The content indent (8.1.1.1): what the digit says, or the indent of the first line that isn't all blanks, if it
--- is at least within; None if there is no content.
+-- The content indent (8.1.1.1): what the digit says, or the indent of the first line that isn't all
+-- blanks, if it is at least within; None if there is no content.
 abbrev pub found_indent : ℕ → List Line → Option ℕ
 found_indent within [] = None
 found_indent within (l ∷ ls) =
@@ -49,7 +53,8 @@ pub record BlockLine : Type 0 where
   pub text : List Cell
   pub break : List ℕ
 
--- The text of a line after the indent, or None if the line ends the scalar. found says that the digit or an earlier line set the indent.
+-- The text of a line after the indent, or None if the line ends the scalar. found says that the
+-- digit or an earlier line set the indent.
 abbrev pub row_of : Option ℕ → Bool → List Cell → Option (List Cell)
 row_of None found text = if is_all_blank text then Some [] else None
 row_of (Some m) found text =
@@ -78,7 +83,8 @@ rows_at m found (l ∷ ls) =
           else with_row (record { text = text; break = l.end ∷ [] }) below)
     ]
 
--- The breaks that are kept at the end (8.1.1.2): that of the last line with text, and those of the empty lines after it.
+-- The breaks that are kept at the end (8.1.1.2): that of the last line with text, and those of the
+-- empty lines after it.
 abbrev pub final_breaks : Chomping → List ℕ → List ℕ → List Cell
 final_breaks Strip own empties = []
 final_breaks Clip own empties = feeds own
@@ -92,15 +98,17 @@ abbrev pub between_rows : List ℕ → List ℕ → List Cell
 between_rows [] empties = feeds empties
 between_rows (at ∷ ats) empties = folded_break at empties
 
--- The text of the breaks between the last line with text, if there is one, and the next one: all of them are kept in literal
--- style (8.1.2), next to a line that begins with a blank, and before the first line with text.
+-- The text of the breaks between the last line with text, if there is one, and the next one: all of
+-- them are kept in literal style (8.1.2), next to a line that begins with a blank, and before the
+-- first line with text.
 abbrev pub joint : Bool → Option BlockLine → List ℕ → BlockLine → List Cell
 joint is_literal None empties next = feeds empties
 joint is_literal (Some r) empties next =
     if is_literal || begins_blank r.text || begins_blank next.text then feeds (r.break ++ empties)
     else between_rows r.break empties
 
--- The text of the rows after the last line with text; empties are the breaks of the empty lines since then.
+-- The text of the rows after the last line with text; empties are the breaks of the empty lines
+-- since then.
 abbrev pub text_after : Bool → Chomping → Option BlockLine → List ℕ → List BlockLine → List Cell
 text_after is_literal k last empties [] = final_breaks k (own_break last) empties
 text_after is_literal k last empties (r ∷ rs) =

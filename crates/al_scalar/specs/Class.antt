@@ -1,5 +1,6 @@
 -- Classes of plain scalars by their text: the core schema (10.3.2).
-use Rattle.std.specs.Prelude.{ℕ, List, [], ◌∷◌, Bool, true, false, drop, ◌&&◌, ◌||◌, ◌==◌, if◌then◌else◌, codes}
+use Rattle.std.specs.Prelude.{ℕ, List, [], ◌∷◌, Bool, true, false, drop, ◌&&◌, ◌||◌, ◌==◌}
+use Rattle.std.specs.Prelude.{if◌then◌else◌, codes}
 use Rattle.std.specs.Char.{is_ascii_digit, is_ascii_hexdigit}
 use Rattle.std.specs.Int.{is_in_range}
 use Rattle.std.specs.List.{list_all, prefix_len}
@@ -50,17 +51,20 @@ without_sign bs = if first_is is_sign bs then drop 1 bs else bs
 
 -- a zero, the letter of a base and digits
 abbrev pub is_prefixed : ℕ → Base → List ℕ → Bool
-is_prefixed letter base bs = begins_with (ascii "0") bs && begins_with letter (drop 1 bs) && are_digits base (drop 2 bs)
+is_prefixed letter base bs =
+    begins_with (ascii "0") bs && begins_with letter (drop 1 bs) && are_digits base (drop 2 bs)
 
 -- [-+]?[0-9]+, 0o[0-7]+ or 0x[0-9a-fA-F]+
 abbrev pub is_integer : List ℕ → Bool
 is_integer bs =
-    are_digits base.Decimal (without_sign bs) || is_prefixed (ascii "o") base.Octal bs || is_prefixed (ascii "x") base.Hexadecimal bs
+    are_digits base.Decimal (without_sign bs) || is_prefixed (ascii "o") base.Octal bs
+    || is_prefixed (ascii "x") base.Hexadecimal bs
 
 -- ([eE][-+]?[0-9]+)?
 abbrev pub is_exponent : List ℕ → Bool
 is_exponent [] = true
-is_exponent (b ∷ bs) = (b == ascii "e" || b == ascii "E") && are_digits base.Decimal (without_sign bs)
+is_exponent (b ∷ bs) =
+    (b == ascii "e" || b == ascii "E") && are_digits base.Decimal (without_sign bs)
 
 -- (\.[0-9]*)? and the exponent
 abbrev pub is_fraction : List ℕ → Bool
@@ -68,14 +72,16 @@ is_fraction bs = is_exponent (if begins_with (ascii ".") bs then after_digits (d
 
 -- \.[0-9]+ and the exponent
 abbrev pub is_pure_fraction : List ℕ → Bool
-is_pure_fraction bs = begins_with (ascii ".") bs && first_is is_ascii_digit (drop 1 bs) && is_exponent (after_digits (drop 1 bs))
+is_pure_fraction bs = begins_with (ascii ".") bs && first_is is_ascii_digit (drop 1 bs)
+    && is_exponent (after_digits (drop 1 bs))
 
 -- (\.[0-9]+|[0-9]+(\.[0-9]*)?)([eE][-+]?[0-9]+)?
 abbrev pub is_decimal : List ℕ → Bool
 is_decimal bs = is_pure_fraction bs || (first_is is_ascii_digit bs && is_fraction (after_digits bs))
 
 abbrev pub is_float : List ℕ → Bool
-is_float bs = is_decimal (without_sign bs) || among infinities (without_sign bs) || among not_numbers bs
+is_float bs = is_decimal (without_sign bs) || among infinities (without_sign bs)
+    || among not_numbers bs
 
 -- the class of a plain scalar
 abbrev pub class_of : List ℕ → Class

@@ -1,5 +1,6 @@
 -- The lines from an offset, and where they end.
-use Rattle.std.specs.Prelude.{◌≡◌, ◌⊎◌, ℕ, zero, suc, ◌-◌, ◌<◌, ◌≤◌, List, [], ◌∷◌, ◌++◌, length, slice_index, Option, Some}
+use Rattle.std.specs.Prelude.{◌≡◌, ◌⊎◌, ℕ, zero, suc, ◌-◌, ◌<◌, ◌≤◌, List, [], ◌∷◌, ◌++◌, length}
+use Rattle.std.specs.Prelude.{slice_index, Option, Some}
 use Rattle.std.specs.Prelude.{None, ◌+◌, Bool, true, false}
 use Rattle.al_base.specs.Ascii.{ascii}
 use Rattle.al_scalar.specs.Line.{Cell, Line, cut, is_all_blank}
@@ -68,9 +69,11 @@ IsBreakAt bytes at = (at < length bytes) × IsBreakByte (slice_index bytes at)
 -- the end of a line, if only blanks are left of it
 abbrev pub BlankTo : List ℕ → ℕ → Option ℕ → Type 0
 BlankTo bytes at None = is_all_blank (text_at bytes at) ≡ false
-BlankTo bytes at (Some end) = (is_all_blank (text_at bytes at) ≡ true) × IsLineEnd bytes end × OnLine bytes at end
+BlankTo bytes at (Some end) =
+    (is_all_blank (text_at bytes at) ≡ true) × IsLineEnd bytes end × OnLine bytes at end
 
 -- the first byte of the rest of a line
 abbrev pub FirstByte : List ℕ → ℕ → Option ℕ → Type 0
 FirstByte bytes at None = text_at bytes at ≡ []
-FirstByte bytes at (Some b) = (text_at bytes at ≡ (b, at) ∷ text_at bytes (at + 1)) × OnLine bytes at (at + 1)
+FirstByte bytes at (Some b) =
+    (text_at bytes at ≡ (b, at) ∷ text_at bytes (at + 1)) × OnLine bytes at (at + 1)

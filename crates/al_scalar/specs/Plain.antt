@@ -1,5 +1,6 @@
 -- Plain scalars (7.3.3).
-use Rattle.std.specs.Prelude.{ℕ, List, [], ◌∷◌, ◌++◌, Bool, true, false, not, ◌&&◌, ◌||◌, ◌==◌, nat_le, if◌then◌else◌, Result, Ok}
+use Rattle.std.specs.Prelude.{ℕ, List, [], ◌∷◌, ◌++◌, Bool, true, false, not, ◌&&◌, ◌||◌, ◌==◌}
+use Rattle.std.specs.Prelude.{nat_le, if◌then◌else◌, Result, Ok}
 use Rattle.al_base.specs.Ascii.{ascii}
 use Rattle.al_base.specs.declared.codes.YamlCode.TheVariants as yaml
 use Rattle.al_scalar.specs.Line.{Cell, Line, place, cut, is_blank, after_blanks, indent, is_empty}
@@ -7,8 +8,8 @@ use Rattle.al_scalar.specs.Line.{begins, is_blank_or_end, is_comment, is_documen
 use Rattle.al_scalar.specs.Taken.{Taken, before, fault, folded_break}
 use Rattle.al_scalar.specs.declared.faults.FaultAt.{FaultAt}
 
--- The context of a scalar (6.1, 7.3.3): in a flow collection, or in block context, where its continuation lines have at least
--- this indent, one more than that of the enclosing collection.
+-- The context of a scalar (6.1, 7.3.3): in a flow collection, or in block context, where its
+-- continuation lines have at least this indent, one more than that of the enclosing collection.
 pub data Context : Type 0 where
   flow : Context
   block : ℕ → Context
@@ -35,9 +36,11 @@ abbrev pub is_value_colon : Context → List Cell → Bool
 is_value_colon p [] = false
 is_value_colon p (c ∷ cs) = (c.0 == ascii ":") && ends_key p cs
 
--- Whether the scalar ends before these cells; after_blank says whether a blank or a break is before them.
+-- Whether the scalar ends before these cells; after_blank says whether a blank or a break is before
+-- them.
 abbrev pub ends_plain : Context → Bool → List Cell → Bool
-ends_plain p after_blank cs = is_empty cs || is_value_colon p cs || (begins (ascii "#") cs && after_blank)
+ends_plain p after_blank cs =
+    is_empty cs || is_value_colon p cs || (begins (ascii "#") cs && after_blank)
     || (is_flow p && begins_flow_indicator cs)
 
 -- A part of a line: the cells of the scalar without trailing blanks, and the cells after them.
@@ -51,14 +54,16 @@ plain_part p after_blank (c ∷ cs) =
 -- whether a line that isn't all blanks continues the scalar
 abbrev pub continues : Context → List Cell → Bool
 continues flow text = not (ends_plain flow true (after_blanks text))
-continues (block within) text = nat_le within (indent text) && not (is_comment text) && not (is_document_marker text)
+continues (block within) text =
+    nat_le within (indent text) && not (is_comment text) && not (is_document_marker text)
 
 -- a scalar that ends before the rest of a line, without its text
 abbrev pub ended_before : List Cell → Line → List Line → Taken
 ended_before rest l ls = record { text = []; end = place rest l.end; left = cut rest l ls }
 
--- The lines after a part of the scalar that ends with a break: their text, folded, and where the scalar ends. Empty lines
--- belong to it only if a line that continues it follows; empties are the breaks of the empty lines since then.
+-- The lines after a part of the scalar that ends with a break: their text, folded, and where the
+-- scalar ends. Empty lines belong to it only if a line that continues it follows; empties are the
+-- breaks of the empty lines since then.
 abbrev pub plain_lines : Context → Taken → ℕ → List ℕ → List Line → Result Taken FaultAt
 plain_lines p here break empties [] = Ok here
 plain_lines p here break empties (l ∷ ls) =

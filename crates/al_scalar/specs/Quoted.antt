@@ -1,7 +1,10 @@
--- Quoted scalars (7.3.1 double-quoted, 7.3.2 single-quoted, 5.7 escaped characters, 6.5 line folding).
+-- Quoted scalars (7.3.1 double-quoted, 7.3.2 single-quoted, 5.7 escaped characters, 6.5 line
+-- folding).
 use Rattle.std.specs.Bool.{then_some}
-use Rattle.std.specs.Prelude.{ℕ, zero, suc, ◌+◌, ◌*◌, ◌-◌, List, [], ◌∷◌, ◌++◌, map, Bool, true, false, not, ◌&&◌, ◌||◌}
-use Rattle.std.specs.Prelude.{◌==◌, nat_le, nat_lt, if◌then◌else◌, Option, Some, None, Result, Ok, encode_utf8}
+use Rattle.std.specs.Prelude.{ℕ, zero, suc, ◌+◌, ◌*◌, ◌-◌, List, [], ◌∷◌, ◌++◌, map, Bool, true}
+use Rattle.std.specs.Prelude.{false, not, ◌&&◌, ◌||◌}
+use Rattle.std.specs.Prelude.{◌==◌, nat_le, nat_lt, if◌then◌else◌, Option, Some, None, Result, Ok}
+use Rattle.std.specs.Prelude.{encode_utf8}
 use Rattle.std.specs.Char.{digit_value}
 use Rattle.std.specs.Map.{lookup}
 use Rattle.al_base.specs.Ascii.{ascii}
@@ -10,8 +13,8 @@ use Rattle.al_scalar.specs.Line.{Cell, Line, cut, is_blank, after_blanks, is_emp
 use Rattle.al_scalar.specs.Taken.{Taken, ◌>>=◌, before, fault, folding_space}
 use Rattle.al_scalar.specs.declared.faults.FaultAt.{FaultAt}
 
--- How a line of a quoted scalar ends: at the closing quote, with the offset and the cells after it; at a break;
--- at an escaped break; or within the escape at an offset.
+-- How a line of a quoted scalar ends: at the closing quote, with the offset and the cells after it;
+-- at a break; at an escaped break; or within the escape at an offset.
 pub data QuotedEnd : Type 0 where
   closed : ℕ → List Cell → QuotedEnd
   broken escaped : QuotedEnd
@@ -31,7 +34,8 @@ with_cells cs p = record { text = cs ++ p.text; stop = p.stop }
 
 -- A cell that isn't escaped. A blank before a break is dropped.
 abbrev pub with_own : Cell → QuotedLine → QuotedLine
-with_own c p = if is_blank c && is_empty p.text && is_broken p.stop then p else with_cells (c ∷ []) p
+with_own c p = if is_blank c && is_empty p.text && is_broken p.stop then p
+    else with_cells (c ∷ []) p
 
 -- the closing quote, and the cells after it
 abbrev pub closed_by : Cell → List Cell → QuotedLine
@@ -48,8 +52,10 @@ single_part (c ∷ d ∷ cs) =
 
 -- The one-letter escapes of 5.7.
 abbrev pub escape_table : List (ℕ × ℕ)
-escape_table = (48, 0) ∷ (97, 7) ∷ (98, 8) ∷ (116, 9) ∷ (9, 9) ∷ (110, 10) ∷ (118, 11) ∷ (102, 12) ∷ (114, 13) ∷ (101, 27)
-    ∷ (32, 32) ∷ (34, 34) ∷ (47, 47) ∷ (92, 92) ∷ (78, 0x85) ∷ (95, 0xa0) ∷ (76, 0x2028) ∷ (80, 0x2029) ∷ []
+escape_table = (48, 0) ∷ (97, 7) ∷ (98, 8) ∷ (116, 9) ∷ (9, 9) ∷ (110, 10) ∷ (118, 11) ∷ (102, 12)
+    ∷ (114, 13) ∷ (101, 27)
+    ∷ (32, 32) ∷ (34, 34) ∷ (47, 47) ∷ (92, 92) ∷ (78, 0x85) ∷ (95, 0xa0) ∷ (76, 0x2028)
+    ∷ (80, 0x2029) ∷ []
 
 -- how many hexadecimal digits follow: x 2, u 4, U 8
 abbrev pub digits_table : List (ℕ × ℕ)
@@ -73,7 +79,8 @@ own_before c part = part >>= (λ p. Ok (with_own c p))
 
 -- the character with the code point of an escape, and what follows the escape
 abbrev pub escape_character : ℕ → ℕ → Result QuotedLine FaultAt → Result QuotedLine FaultAt
-escape_character at code after = if is_scalar_value code then part_before (character_cells at code) after else fault yaml.WrongEscape at
+escape_character at code after = if is_scalar_value code
+    then part_before (character_cells at code) after else fault yaml.WrongEscape at
 
 abbrev mutual
   -- A line in double quotes.
@@ -107,8 +114,10 @@ abbrev mutual
   escape_digits at (suc n) value (c ∷ cs) =
       elim (hex_digit c.0) [ None ↦ fault yaml.WrongEscape at | Some d ↦ escape_digits at n (16 * value + d) cs ]
 
--- The result at a line, by how it ends; its break is folded unless it is escaped. quote is the offset of the opening quote.
-abbrev pub line_given : ℕ → List Cell → QuotedLine → Line → List Line → (Option ℕ → Result Taken FaultAt) → Result Taken FaultAt
+-- The result at a line, by how it ends; its break is folded unless it is escaped. quote is the
+-- offset of the opening quote.
+abbrev pub line_given : ℕ → List Cell → QuotedLine → Line → List Line
+    → (Option ℕ → Result Taken FaultAt) → Result Taken FaultAt
 line_given quote space p l ls below =
     elim p.stop [
       | closed end rest ↦ Ok (record { text = space ++ p.text; end = end; left = cut rest l ls })
@@ -120,8 +129,10 @@ line_given quote space p l ls below =
 abbrev pub is_empty_line : QuotedLine → Line → Bool
 is_empty_line p l = is_empty p.text && is_broken p.stop && not l.last
 
--- The lines after the first: leading blanks are dropped, an empty line is folded to an LF, and no space is left before it.
-abbrev pub quoted_lines : (List Cell → Result QuotedLine FaultAt) → ℕ → Option ℕ → List Line → Result Taken FaultAt
+-- The lines after the first: leading blanks are dropped, an empty line is folded to an LF, and no
+-- space is left before it.
+abbrev pub quoted_lines : (List Cell → Result QuotedLine FaultAt) → ℕ → Option ℕ → List Line
+    → Result Taken FaultAt
 quoted_lines part quote break [] = fault yaml.UnclosedQuote quote
 quoted_lines part quote break (l ∷ ls) =
     let below = (λ (b : Option ℕ). quoted_lines part quote b ls) in
@@ -130,9 +141,11 @@ quoted_lines part quote break (l ∷ ls) =
     else line_given quote (folding_space break) p l ls below)
 
 -- a quoted scalar, from after its opening quote
-abbrev pub quoted_scalar : (List Cell → Result QuotedLine FaultAt) → ℕ → List Line → Result Taken FaultAt
+abbrev pub quoted_scalar : (List Cell → Result QuotedLine FaultAt) → ℕ → List Line
+    → Result Taken FaultAt
 quoted_scalar part quote [] = fault yaml.UnclosedQuote quote
-quoted_scalar part quote (l ∷ ls) = part l.text >>= (λ p. line_given quote [] p l ls (λ b. quoted_lines part quote b ls))
+quoted_scalar part quote (l ∷ ls) =
+    part l.text >>= (λ p. line_given quote [] p l ls (λ b. quoted_lines part quote b ls))
 
 abbrev pub single_quoted : ℕ → List Line → Result Taken FaultAt
 single_quoted quote ls = quoted_scalar (λ text. Ok (single_part text)) quote ls

@@ -27,9 +27,12 @@ placed_fault f = record { code = f.code; at = f.span.start }
 abbrev pub GivesScalar : List ℕ → ℕ → ScalarContext → Result ScalarRead YamlFault → Type 0
 GivesScalar bytes at place (Ok r) = reading_at place (lines_at bytes at) ≡ Ok (read_of bytes r)
 GivesScalar bytes at place (Err f) =
-    (reading_at place (lines_at bytes at) ≡ Err (placed_fault f)) × (f.span ≡ character_at bytes f.span.start)
+    (reading_at place (lines_at bytes at) ≡ Err (placed_fault f))
+    × (f.span ≡ character_at bytes f.span.start)
 
--- the scalar begins at the offset and ends no later than the next one to read, which is in the file; a fault isn't before the offset
+-- the scalar begins at the offset and ends no later than the next one to read, which is in the
+-- file; a fault isn't before the offset
 abbrev pub LiesAfter : List ℕ → ℕ → Result ScalarRead YamlFault → Type 0
-LiesAfter bytes at (Ok r) = (r.scalar.span.start ≡ at) × (at ≤ r.scalar.span.end) × (r.scalar.span.end ≤ r.next) × (r.next ≤ length bytes)
+LiesAfter bytes at (Ok r) = (r.scalar.span.start ≡ at) × (at ≤ r.scalar.span.end)
+    × (r.scalar.span.end ≤ r.next) × (r.next ≤ length bytes)
 LiesAfter bytes at (Err f) = (at ≤ f.span.start) × (f.span.start ≤ length bytes)

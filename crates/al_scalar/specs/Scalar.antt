@@ -1,5 +1,7 @@
--- One scalar: its style, its class and its decoded bytes with their offsets (7.3, 8.1, 7.2 for the empty node).
-use Rattle.std.specs.Prelude.{ℕ, List, [], ◌∷◌, map, drop, true, false, if◌then◌else◌, Result, Ok, slice_index_or}
+-- One scalar: its style, its class and its decoded bytes with their offsets (7.3, 8.1, 7.2 for the
+-- empty node).
+use Rattle.std.specs.Prelude.{ℕ, List, [], ◌∷◌, map, drop, true, false, if◌then◌else◌, Result, Ok}
+use Rattle.std.specs.Prelude.{slice_index_or}
 use Rattle.al_base.specs.Ascii.{ascii}
 use Rattle.al_base.specs.declared.codes.YamlCode.TheVariants as yaml
 use Rattle.al_scalar.specs.Line.{Cell, Line, start, begins, cut}
@@ -39,7 +41,8 @@ read_as style at taken = taken >>= (λ t. Ok (record {
   left = t.left;
 }))
 
--- The first character determines the style (7.3.1, 7.3.2, 8.1); there are no block scalars in flow collections.
+-- The first character determines the style (7.3.1, 7.3.2, 8.1); there are no block scalars in flow
+-- collections.
 abbrev pub style_at : Context → List Cell → Style
 style_at p text =
     if begins (ascii "'") text then style.SingleQuoted

@@ -6,7 +6,8 @@ use Rattle.al_scalar.specs.Line.{Cell, Line}
 use Rattle.al_base.specs.declared.codes.YamlCode.{YamlCode}
 use Rattle.al_scalar.specs.declared.faults.FaultAt.{FaultAt}
 
--- The decoded bytes, each with the offset that it comes from, the end of the written form, and the lines left.
+-- The decoded bytes, each with the offset that it comes from, the end of the written form, and the
+-- lines left.
 pub record Taken : Type 0 where
   pub text : List Cell
   pub end : ℕ
@@ -28,7 +29,8 @@ before cs (Err e) = Err e
 abbrev pub fault : {A : Type 0} → YamlCode → ℕ → Result A FaultAt
 fault code at = Err (record { code = code; at = at })
 
--- A break is folded to a space; if empty lines follow it, it is discarded and each of them is folded to an LF (6.5).
+-- A break is folded to a space; if empty lines follow it, it is discarded and each of them is
+-- folded to an LF (6.5).
 abbrev pub folding_space : Option ℕ → List Cell
 folding_space at = option_to_list (option_map (λ offset. (ascii " ", offset)) at)
 

@@ -1,9 +1,11 @@
 //! Literal and folded block scalars (YAML 1.2.2, 8.1).
 
-ghost use Rattle.std.specs.Prelude.{◌≡◌, ◌+◌, ◌<◌, ◌≤◌, ◌^◌, ◌++◌, ◌∷◌, [], ◌||◌, true, Some, None, length, IfOk};
+ghost use Rattle.std.specs.Prelude.{◌≡◌, ◌+◌, ◌<◌, ◌≤◌, ◌^◌, ◌++◌, ◌∷◌, [], ◌||◌, true, Some, None};
+ghost use Rattle.std.specs.Prelude.{length, IfOk};
 ghost use Rattle.al_scalar.specs.Block.{block_scalar, found_indent, content_indent, row_of};
 ghost use Rattle.al_scalar.specs.Block.{own_break, final_breaks, joint, text_after, rows_end};
-ghost use Rattle.al_scalar.specs.Private.BlockRead.{RowStarts, ReadsRows, last_row, row_like, RowTo};
+ghost use Rattle.al_scalar.specs.Private.BlockRead.{RowStarts, ReadsRows, last_row, row_like};
+ghost use Rattle.al_scalar.specs.Private.BlockRead.{RowTo};
 ghost use Rattle.al_scalar.specs.Private.BlockRead.{AddsRow, EndsRow, last_line};
 ghost use Rattle.al_scalar.specs.Places.{lines_at, text_at};
 ghost use Rattle.al_scalar.specs.LineEnds.{cells_between, IsLineEnd, BlankTo};
@@ -41,7 +43,8 @@ struct BlockStyle {
     explicit: bool,
 }
 
-/// The state after some rows: the last row with text, the breaks of the empty lines since, and the end of the text.
+/// The state after some rows: the last row with text, the breaks of the empty lines since, and the
+/// end of the text.
 #[derive(Drop)]
 struct RowState {
     last: Option<LastLine>,
@@ -56,8 +59,8 @@ struct RowsRead {
     next: usize,
 }
 
-/// The row of the line at an offset, given the indent of the content and, if the line is all blanks, its end; `None` if
-/// the line ends the scalar.
+/// The row of the line at an offset, given the indent of the content and, if the line is all
+/// blanks, its end; `None` if the line ends the scalar.
 fn indented_row(bytes: &[u8], at: usize, indent: usize, blank: Option<usize>) -> Option<RowStart>
     requires inside { at ≤ length bytes.now }
     requires blank { BlankTo bytes.now at blank }
@@ -77,8 +80,8 @@ fn indented_row(bytes: &[u8], at: usize, indent: usize, blank: Option<usize>) ->
     })
 }
 
-/// Where the row of the line at an offset begins; `None` if the line ends the scalar. `found` says whether the line
-/// that gives the indent has been read.
+/// Where the row of the line at an offset begins; `None` if the line ends the scalar. `found` says
+/// whether the line that gives the indent has been read.
 fn row_start(bytes: &[u8], at: usize, indent: Option<usize>, found: bool) -> Option<RowStart>
     requires { at ≤ length bytes.now }
     ensures { RowStarts bytes.now at indent found result }
@@ -152,8 +155,8 @@ fn chomp(
     }
 }
 
-/// Adds the text for the breaks between the last line with text and the next one; `spaced` says whether the next line
-/// begins with a blank.
+/// Adds the text for the breaks between the last line with text and the next one; `spaced` says
+/// whether the next line begins with a blank.
 fn push_joint(
     text: &mut Text,
     literal: bool,
@@ -283,8 +286,8 @@ fn read_rows(
     }
 }
 
-/// The indent of the content: by the digit of the header, or else by the lines after it, the first of which begins at an
-/// offset.
+/// The indent of the content: by the digit of the header, or else by the lines after it, the first
+/// of which begins at an offset.
 fn content_indent(bytes: &[u8], first: usize, digit: Option<u8>, within: u32) -> Option<usize>
     requires { first ≤ length bytes.now }
     ensures { result ≡ content_indent digit within (lines_at bytes.now first) }
@@ -295,7 +298,8 @@ fn content_indent(bytes: &[u8], first: usize, digit: Option<u8>, within: u32) ->
     }
 }
 
-/// Reads a block scalar, starting at its indicator. `within` is one more than the indent of the enclosing collection.
+/// Reads a block scalar, starting at its indicator. `within` is one more than the indent of the
+/// enclosing collection.
 pub fn read_block(
     alloc: Global,
     bytes: &[u8],

@@ -1,9 +1,12 @@
-//! The class of a plain scalar: null, a boolean, an integer, a float or a string (YAML 1.2.2, 10.3.2).
+//! The class of a plain scalar: null, a boolean, an integer, a float or a string (YAML 1.2.2,
+//! 10.3.2).
 
 ghost use Rattle.std.specs.Prelude.{◌≡◌, IsTrue};
 ghost use Rattle.std.specs.Char.{is_ascii_digit};
-ghost use Rattle.al_scalar.specs.Class.{is_integer, is_float, is_decimal, is_fraction, is_pure_fraction};
-ghost use Rattle.al_scalar.specs.Class.{is_exponent, after_digits, is_prefixed, without_sign, are_digits, is_digit_in};
+ghost use Rattle.al_scalar.specs.Class.{is_integer, is_float, is_decimal, is_fraction};
+ghost use Rattle.al_scalar.specs.Class.{is_pure_fraction};
+ghost use Rattle.al_scalar.specs.Class.{is_exponent, after_digits, is_prefixed, without_sign};
+ghost use Rattle.al_scalar.specs.Class.{are_digits, is_digit_in};
 ghost use Rattle.al_scalar.specs.Class.{class_of};
 ghost use Rattle.al_base.specs.FirstBytes.{first_is};
 

@@ -102,9 +102,9 @@ const HEADER_DIGITS: &[u8] = b"a: |12";
 
 const HEADER_ZERO: &[u8] = b"a: |0";
 
-/// Worked rows of the definitions. Each clause computes one file: the style, class and text of the scalar at an offset,
-/// the offset of each byte of the text followed by the end of the span, and where the rest of the file begins; or the
-/// fault. Does nothing at run time.
+/// Worked rows of the definitions. Each clause computes one file: the style, class and text of the
+/// scalar at an offset, the offset of each byte of the text followed by the end of the span, and
+/// where the rest of the file begins; or the fault. Does nothing at run time.
 pub fn rows()
     // single quotes: two stand for one, breaks are folded
     ensures single { in_block 1 SINGLE.now 3 ≡ reads Style.SingleQuoted Class.Str (codes "it's") (4 ∷ 5 ∷ 6 ∷ 8 ∷ 10 ∷ []) 10 }

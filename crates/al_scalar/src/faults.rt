@@ -6,7 +6,8 @@ ghost use Rattle.al_scalar.specs.Characters.{character_at, character_length};
 use al_base::{Span, YamlCode, is_char_start};
 use thiserror::Error;
 
-/// A YAML fault of a file, with the span of the character where it is, which is empty at the end of the file.
+/// A YAML fault of a file, with the span of the character where it is, which is empty at the end of
+/// the file.
 #[derive(Clone, Copy, PartialEq, Eq, Debug, Error)]
 #[error("wrong YAML at byte {}: {code:?}", .span.start)]
 pub struct YamlFault {

@@ -10,8 +10,8 @@ use crate::lines::{after_break, blanks_end, is_break_at};
 use crate::texts::Text;
 use std::alloc::AllocError;
 
-/// Folds the break at an offset and the empty lines after it, and returns where the next text begins. An escaped break
-/// adds nothing itself (YAML 1.2.2, 6.5 and 7.3.1).
+/// Folds the break at an offset and the empty lines after it, and returns where the next text
+/// begins. An escaped break adds nothing itself (YAML 1.2.2, 6.5 and 7.3.1).
 ///
 /// Fails with `AllocError` when out of memory.
 pub fn fold_break(

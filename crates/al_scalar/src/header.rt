@@ -23,7 +23,8 @@ pub struct Header {
     pub end: usize,
 }
 
-/// `None` if the header of a block scalar may end at an offset; otherwise the place of the wrong character.
+/// `None` if the header of a block scalar may end at an offset; otherwise the place of the wrong
+/// character.
 pub fn header_fault(bytes: &[u8], at: usize) -> Option<usize>
     requires { at ≤ length bytes.now }
     ensures ends { EndsHeader bytes.now at result }

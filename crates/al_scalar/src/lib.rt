@@ -1,4 +1,5 @@
-//! One YAML scalar: its style, its class, and its decoded text, each byte of which has the file offset it came from.
+//! One YAML scalar: its style, its class, and its decoded text, each byte of which has the file
+//! offset it came from.
 #![tactic(auto)]
 
 mod block;

@@ -5,7 +5,8 @@ ghost use Rattle.al_scalar.specs.Line as line;
 ghost use Rattle.al_scalar.specs.Plain as plain;
 ghost use Rattle.al_scalar.specs.Places.{first_end, lines_at, text_at};
 ghost use Rattle.al_scalar.specs.LineEnds.{cells_between, with_cells_before, broken_line, AreBlank};
-ghost use Rattle.al_scalar.specs.LineEnds.{AreSpaces, IsBlankByte, IsLineEnd, IsBreakAt, OnLine, BlankTo, FirstByte};
+ghost use Rattle.al_scalar.specs.LineEnds.{AreSpaces, IsBlankByte, IsLineEnd, IsBreakAt, OnLine};
+ghost use Rattle.al_scalar.specs.LineEnds.{BlankTo, FirstByte};
 
 use memchr::memchr2;
 

@@ -1,11 +1,13 @@
 //! Plain scalars (YAML 1.2.2, 7.3.3).
 
-ghost use Rattle.std.specs.Prelude.{◌≡◌, ◌<◌, ◌≤◌, ◌^◌, false, not, ◌&&◌, ◌||◌, length, IfOk, IsTrue};
+ghost use Rattle.std.specs.Prelude.{◌≡◌, ◌<◌, ◌≤◌, ◌^◌, false, not, ◌&&◌, ◌||◌, length, IfOk};
+ghost use Rattle.std.specs.Prelude.{IsTrue};
 ghost use Rattle.al_scalar.specs.Line as line;
 ghost use Rattle.al_scalar.specs.Places.{lines_at, text_at};
 ghost use Rattle.al_scalar.specs.LineEnds.{SameLine};
 ghost use Rattle.al_scalar.specs.Plain as plain;
-ghost use Rattle.al_scalar.specs.Private.PlainLines.{context_of, begins_blank_line, text_lines, IsWordByte, PartTo};
+ghost use Rattle.al_scalar.specs.Private.PlainLines.{context_of, begins_blank_line, text_lines};
+ghost use Rattle.al_scalar.specs.Private.PlainLines.{IsWordByte, PartTo};
 ghost use Rattle.al_scalar.specs.Private.Reads.{Gives, StaysWithin};
 
 use crate::faults::FaultAt;
@@ -19,7 +21,8 @@ use crate::texts::Text;
 use al_base::YamlCode;
 use std::alloc::{AllocError, Global};
 
-/// The context of a plain scalar: a flow collection, or block context with the minimum indent of further lines.
+/// The context of a plain scalar: a flow collection, or block context with the minimum indent of
+/// further lines.
 #[derive(Clone, Copy)]
 pub enum PlainContext {
     Flow,
@@ -94,7 +97,8 @@ fn plain_end(bytes: &[u8], at: usize, context: PlainContext, after_blank: bool) 
     }
 }
 
-/// The start of the first line, from an offset on, that isn't blank; otherwise that of the last line.
+/// The start of the first line, from an offset on, that isn't blank; otherwise that of the last
+/// line.
 fn text_line(bytes: &[u8], from: usize) -> usize
     requires { from ≤ length bytes.now }
     ensures from { from ≤ result }

@@ -1,12 +1,14 @@
 //! Quoted scalars and their escapes (YAML 1.2.2, 5.7, 7.3.1 and 7.3.2).
 
-ghost use Rattle.std.specs.Prelude.{◌≡◌, ◌==◌, ◌+◌, ◌<◌, ◌≤◌, ◌^◌, suc, length, IfOk, IfSome, slice_index, IsTrue, ◌↔◌, Some, None};
+ghost use Rattle.std.specs.Prelude.{◌≡◌, ◌==◌, ◌+◌, ◌<◌, ◌≤◌, ◌^◌, suc, length, IfOk, IfSome};
+ghost use Rattle.std.specs.Prelude.{slice_index, IsTrue, ◌↔◌, Some, None};
 ghost use Rattle.al_scalar.specs.Places.{lines_at};
 ghost use Rattle.al_scalar.specs.LineEnds.{cells_between};
 ghost use Rattle.al_scalar.specs.Quoted.{escape_table, digits_table};
 ghost use Rattle.std.specs.Map.{lookup};
 ghost use Rattle.al_scalar.specs.Private.Reads.{Gives, StaysWithin};
-ghost use Rattle.al_scalar.specs.Private.QuotedRead.{IsMarkByte, ReadsOn, EndsRun, GivesMark, GivesDigits, quoted_in};
+ghost use Rattle.al_scalar.specs.Private.QuotedRead.{IsMarkByte, ReadsOn, EndsRun, GivesMark};
+ghost use Rattle.al_scalar.specs.Private.QuotedRead.{GivesDigits, quoted_in};
 ghost use Rattle.al_scalar.specs.declared.quoted.Quotes.TheVariants.{Single, Double};
 
 use crate::faults::FaultAt;
@@ -34,8 +36,9 @@ fn is_mark(byte: u8, quotes: Quotes) -> bool
     }
 }
 
-/// A run of characters that stand for themselves: the offset after its last character, and that of the quote,
-/// backslash, break or end of file that follows. Only blanks before the end of a line lie between the two.
+/// A run of characters that stand for themselves: the offset after its last character, and that of
+/// the quote, backslash, break or end of file that follows. Only blanks before the end of a line
+/// lie between the two.
 #[derive(Clone, Copy)]
 struct Run {
     end: usize,
@@ -150,7 +153,8 @@ fn read_digits(bytes: &[u8], from: usize, count: usize) -> Digits
     Digits::Code(value)
 }
 
-/// Reads the escape of a character by its number: a backslash, a letter and a given number of hexadecimal digits.
+/// Reads the escape of a character by its number: a backslash, a letter and a given number of
+/// hexadecimal digits.
 fn numeric_escape(bytes: &[u8], backslash: usize, count: usize) -> Mark
     requires inside { backslash + 1 < length bytes.now }
     requires size { length bytes.now < 2 ^ 32 }
@@ -236,8 +240,9 @@ fn mark_at(bytes: &[u8], at: usize, quotes: Quotes) -> Mark
 
 /// Reads a quoted scalar, starting at its opening quote (YAML 1.2.2, 7.3.1 and 7.3.2).
 ///
-/// The fault is `UnclosedQuote` at the opening quote if the file ends before the closing one, even within an escape,
-/// and `WrongEscape` at the backslash of an escape that YAML doesn't have or whose number isn't that of a character.
+/// The fault is `UnclosedQuote` at the opening quote if the file ends before the closing one, even
+/// within an escape, and `WrongEscape` at the backslash of an escape that YAML doesn't have or
+/// whose number isn't that of a character.
 pub fn read_quoted(
     alloc: Global,
     bytes: &[u8],

@@ -14,8 +14,9 @@ use std::marker::Model;
 /// The context in which a scalar is read.
 #[derive(Clone, Copy, PartialEq, Eq, Debug)]
 pub enum ScalarContext {
-    /// Block context. Further lines of a plain scalar, and the content of a block scalar, are indented by at least this
-    /// many columns: one more than the enclosing collection, or 0 at the root.
+    /// Block context. Further lines of a plain scalar, and the content of a block scalar, are
+    /// indented by at least this many columns: one more than the enclosing collection, or 0 at the
+    /// root.
     BlockFromIndent(u32),
     /// In a flow collection.
     Flow,
@@ -23,17 +24,19 @@ pub enum ScalarContext {
     Empty,
 }
 
-/// A scalar: its style, its class, and its decoded text, each byte of which has the file offset it came from.
+/// A scalar: its style, its class, and its decoded text, each byte of which has the file offset it
+/// came from.
 ///
-/// A byte that stands for itself has its own offset, a byte from an escape that of the backslash, a quote written as
-/// `''` that of the first quote, and a space or line feed from a line break that of the first byte of the break.
+/// A byte that stands for itself has its own offset, a byte from an escape that of the backslash, a
+/// quote written as `''` that of the first quote, and a space or line feed from a line break that
+/// of the first byte of the break.
 #[derive(Drop)]
 pub struct Scalar {
     form: ScalarForm,
 }
 
-/// How a scalar is stored. Most have a short text, which is all of the written form but its quotes, so that the span
-/// follows from the text.
+/// How a scalar is stored. Most have a short text, which is all of the written form but its quotes,
+/// so that the span follows from the text.
 #[derive(Drop)]
 enum ScalarForm {
     Short {
@@ -81,8 +84,8 @@ impl Scalar {
         }
     }
 
-    /// The span of the written form, including quotes; that of a block scalar extends from its indicator to the end of
-    /// the text of its last line.
+    /// The span of the written form, including quotes; that of a block scalar extends from its
+    /// indicator to the end of the text of its last line.
     pub fn span(&self) -> Span
         ensures { result ≡ (self.now).span }
     {
@@ -112,8 +115,8 @@ impl Scalar {
         }
     }
 
-    /// The decoded bytes as text, without a check: the caller guarantees that they are UTF-8, as they are if the file
-    /// is.
+    /// The decoded bytes as text, without a check: the caller guarantees that they are UTF-8, as
+    /// they are if the file is.
     pub fn as_str(&self) -> &str
         requires { IsUtf8 (text_of self.now) }
         ensures { result.now ≡ text_of self.now }
@@ -122,8 +125,8 @@ impl Scalar {
         unsafe { str::from_utf8_unchecked(self.text()) }
     }
 
-    /// The file offset, in bytes, from which the byte at an index of the text came. For the length of the text, the end
-    /// of the scalar's span.
+    /// The file offset, in bytes, from which the byte at an index of the text came. For the length
+    /// of the text, the end of the scalar's span.
     pub fn locate(&self, i: usize) -> u32
         requires { i ≤ length (text_of self.now) }
         ensures { result ≡ offset_of self.now i }
@@ -142,8 +145,8 @@ impl Scalar {
 #[derive(Drop)]
 pub struct ScalarRead {
     pub scalar: Scalar,
-    /// The byte offset at which the rest of the file begins: for a block scalar, the start of the line that ends it or
-    /// the end of the file; otherwise the end of the span.
+    /// The byte offset at which the rest of the file begins: for a block scalar, the start of the
+    /// line that ends it or the end of the file; otherwise the end of the span.
     pub next: usize,
 }
 

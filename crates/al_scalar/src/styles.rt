@@ -10,7 +10,8 @@ pub enum Style {
     Folded,
 }
 
-/// The class of a plain scalar by the core schema (YAML 1.2.2, 10.3.2). A scalar in any other style is `Str`.
+/// The class of a plain scalar by the core schema (YAML 1.2.2, 10.3.2). A scalar in any other style
+/// is `Str`.
 #[derive(Clone, Copy, PartialEq, Eq, Debug)]
 pub enum Class {
     Null,

@@ -1,10 +1,12 @@
 //! Decoded texts, each byte with the file offset it came from.
 
-ghost use Rattle.std.specs.Prelude.{◌≡◌, ℕ, ◌+◌, ◌<◌, ◌≤◌, ◌^◌, List, [], ◌∷◌, ◌++◌, length, map, slice_index_or, true, IsTrue, IfOk};
+ghost use Rattle.std.specs.Prelude.{◌≡◌, ℕ, ◌+◌, ◌<◌, ◌≤◌, ◌^◌, List, [], ◌∷◌, ◌++◌, length, map};
+ghost use Rattle.std.specs.Prelude.{slice_index_or, true, IsTrue, IfOk};
 ghost use Rattle.al_scalar.specs.Line.{Cell};
 ghost use Rattle.al_scalar.specs.LineEnds.{cells_between};
 ghost use Rattle.al_scalar.specs.Scalar.{offset_or};
-ghost use Rattle.al_scalar.specs.Private.Segments.{first_run, offset_in, offset_at, cells_from, AreUpTo, AreInRange, IsRising};
+ghost use Rattle.al_scalar.specs.Private.Segments.{first_run, offset_in, offset_at, cells_from};
+ghost use Rattle.al_scalar.specs.Private.Segments.{AreUpTo, AreInRange, IsRising};
 ghost use Rattle.al_scalar.specs.Private.Segments.{IsOrdered, GoesOn, run_cells};
 ghost use Rattle.al_scalar.specs.Private.Forms.{cells_of, short_cells, short_span, IsSound};
 ghost use Rattle.al_scalar.specs.declared.texts.Form.TheVariants.{Short};
@@ -13,8 +15,8 @@ use al_base::Span;
 use std::alloc::{AllocError, Global};
 use std::marker::Model;
 
-/// A run of decoded bytes, from an index up to the start of the next run. Their offsets either increase with the index
-/// or, if one escape gave all of them, are all the same.
+/// A run of decoded bytes, from an index up to the start of the next run. Their offsets either
+/// increase with the index or, if one escape gave all of them, are all the same.
 #[derive(Clone, Copy)]
 pub struct Segment {
     index: usize,
@@ -48,7 +50,8 @@ impl Segment {
     }
 }
 
-/// The runs of a text. The first run moves, begins at index 0 and needs no allocation; usually it is the only one.
+/// The runs of a text. The first run moves, begins at index 0 and needs no allocation; usually it
+/// is the only one.
 #[derive(Drop)]
 struct Runs {
     first: u32,
@@ -86,7 +89,8 @@ impl Runs {
         last.moves && last.offset <= at && (at - last.offset) as usize == index - last.index
     }
 
-    /// Sets the offset of the next byte, at an index; those of the bytes after it increase from there or are the same.
+    /// Sets the offset of the next byte, at an index; those of the bytes after it increase from
+    /// there or are the same.
     fn begin(&mut self, index: usize, at: u32, moves: bool) -> Result<(), AllocError>
         requires { IsOrdered index self.old }
         ensures order { IsOrdered index self.new }
@@ -139,7 +143,8 @@ impl Model for LongText {
 }
 
 impl LongText {
-    /// Adds bytes, of which the first came from an offset, and each further one from the next or, in an escape, the same.
+    /// Adds bytes, of which the first came from an offset, and each further one from the next or,
+    /// in an escape, the same.
     fn push(&mut self, bytes: &[u8], at: u32, moves: bool) -> Result<(), AllocError>
         requires { AreInRange (run_cells at moves 0 bytes.now) }
         ensures { IfOk result (λ _. self.new ≡ self.old ++ run_cells at moves 0 bytes.now) }
@@ -216,7 +221,8 @@ impl ShortText {
             && span.end as usize == self.first as usize + self.count as usize + around as usize
     }
 
-    /// The same text, in the form that can hold any bytes. Fails with `AllocError` if memory runs out.
+    /// The same text, in the form that can hold any bytes. Fails with `AllocError` if memory runs
+    /// out.
     pub fn to_long(&self, alloc: Global) -> Result<LongText, AllocError>
         requires { IsSound (Short self.now) }
         ensures { IfOk result (λ text. text ≡ short_cells self.now) }
@@ -274,7 +280,8 @@ impl Text {
         }
     }
 
-    /// Adds bytes, of which the first came from an offset, and each further one from the next or, in an escape, the same.
+    /// Adds bytes, of which the first came from an offset, and each further one from the next or,
+    /// in an escape, the same.
     fn extend(&mut self, bytes: &[u8], at: u32, moves: bool) -> Result<(), AllocError>
         requires { AreInRange (run_cells at moves 0 bytes.now) }
         ensures { IfOk result (λ _. self.new ≡ self.old ++ run_cells at moves 0 bytes.now) }

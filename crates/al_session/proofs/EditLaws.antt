@@ -14,7 +14,7 @@ use Rattle.std.proofs.Common.{arith}
 use Rattle.std.proofs.lemmas.Bool.{false_from_ne_true}
 use Rattle.std.proofs.lemmas.Bool.Decides.{nat_tests}
 use Rattle.std.proofs.lemmas.Cmp.{nat_list_cmp_total}
-use Rattle.al_session_folder.specs.Meaning.{Meaning}
+use Rattle.al_lint.specs.Meaning.{Meaning}
 use Rattle.al_session_folder.specs.Affected.{affected_paths}
 use Rattle.al_session_folder.specs.Folder.{Folder, bytes_at, faults_in, paths_of, with_file}
 use Rattle.al_session_folder.proofs.Affecting.{affected_member}

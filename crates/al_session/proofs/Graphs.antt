@@ -1,7 +1,7 @@
 -- The graph of calls that a session keeps, after a put.
 use Rattle.std.proofs.Common.{◌≡◌, ℕ, List, Option, Some, None}
 use Rattle.std.specs.Option.{option_map}
-use Rattle.al_session_folder.specs.Meaning.{Meaning}
+use Rattle.al_lint.specs.Meaning.{Meaning}
 use Rattle.al_session_folder.specs.Folder.{Folder, with_file}
 use Rattle.al_session_folder.specs.Kept.{AreKept, Files, IsKept, file_at, folder_of}
 use Rattle.al_session_folder.specs.CallGraphs.{HasSameCalls}

@@ -1,6 +1,6 @@
 -- The files of a builder.
 use Rattle.std.specs.Prelude.{ℕ, List}
-use Rattle.al_session_folder.specs.Meaning.{Meaning}
+use Rattle.al_lint.specs.Meaning.{Meaning}
 use Rattle.al_session_folder.specs.Kept.{AreKept, Callers, Files, IsCallerIndex, folder_of}
 use Rattle.al_session.specs.declared.indexed.IndexedFiles.{IndexedFiles}
 

@@ -3,7 +3,7 @@ use Rattle.std.specs.Prelude.{◌≡◌, ◌≢◌, ℕ, Bool, false, List, [], 
 use Rattle.std.specs.List.Sorted.{IsStrictlySortedBy}
 use Rattle.std.specs.Ordering.{nat_cmp}
 use Rattle.std.specs.Cmp.Lexicographic.{slice_cmp}
-use Rattle.al_session_folder.specs.Meaning.{Meaning}
+use Rattle.al_lint.specs.Meaning.{Meaning}
 use Rattle.al_session_folder.specs.Affected.{affected_paths, is_among}
 use Rattle.al_session_folder.specs.Folder.{Folder, bytes_at, faults_at, paths_of, with_file}
 

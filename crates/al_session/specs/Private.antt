@@ -2,3 +2,4 @@
 pub mod Lists
 pub mod Edits
 pub mod Graphs
+pub mod Printing

@@ -1,7 +1,7 @@
 -- What a session is, the invariant of what it keeps, and what a put reads.
 use Rattle.std.specs.Prelude.{◌≡◌, ◌≢◌, ℕ, List, None, Some}
 use Rattle.al_base.specs.Counted.{count_after}
-use Rattle.al_session_folder.specs.Meaning.{IsUpTo, Meaning}
+use Rattle.al_lint.specs.Meaning.{IsUpTo, Meaning}
 use Rattle.al_session_folder.specs.Folder.{Folder, bytes_at, put_refusal}
 use Rattle.al_session_folder.specs.Kept.{Files, folder_of, Callers, IsCallerIndex, AreKept}
 use Rattle.al_session_folder.specs.Checked.{AllChecked}

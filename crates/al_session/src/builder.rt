@@ -5,7 +5,7 @@ ghost use Rattle.std.specs.Option.{option_copied, option_map};
 ghost use Rattle.al_base.specs.Counted.{count_after};
 ghost use Rattle.al_session_folder.specs.Folder.{bytes_at, put_refusal, refusal_or_memory, with_file};
 ghost use Rattle.al_session_folder.specs.Kept.{folder_of};
-ghost use Rattle.al_session_folder.specs.Meaning.{IsUpTo};
+ghost use Rattle.al_lint.specs.Meaning.{IsUpTo};
 ghost use Rattle.al_session.specs.Builder.{IsLoaded};
 ghost use Rattle.al_session.specs.Private.Edits.{IsAllowed};
 ghost use Rattle.al_session.specs.Session.{IsLinted, folder_in};
@@ -14,7 +14,7 @@ use crate::edit::{file_of, keep_file, set_faults};
 use crate::indexed::IndexedFiles;
 use crate::refused::put_refused;
 use crate::session::Session;
-use al_session_folder::{FolderView, Lint, Refused, Target, file_number, owned_path};
+use al_session_folder::{FolderView, Lint, Refused, Seed, Target, file_number, owned_path};
 use std::alloc::{AllocError, Global};
 use std::marker::Model;
 
@@ -42,15 +42,25 @@ impl<L: Lint> Model for SessionBuilder<L> {
 }
 
 impl<L: Lint> SessionBuilder<L> {
-    /// A builder without files. Doesn't allocate; later calls allocate from `alloc`.
+    /// A builder without files. Doesn't allocate; later calls allocate from `alloc`. Paths whose hashes are equal can be found by who
+    /// knows this program: see `seeded`.
     pub fn new(alloc: Global, lint: L) -> SessionBuilder<L>
+        ensures folder { result.folder ≡ [] }
+        ensures checks { result.checks ≡ L.checks_of lint }
+        ensures reads { result.reads ≡ L.reads_of lint }
+    {
+        SessionBuilder::seeded(alloc, lint, Seed::fixed())
+    }
+
+    /// A builder without files whose hashes of paths start with this seed: a random one if a stranger names the files.
+    pub fn seeded(alloc: Global, lint: L, seed: Seed) -> SessionBuilder<L>
         ensures folder { result.folder ≡ [] }
         ensures checks { result.checks ≡ L.checks_of lint }
         ensures reads { result.reads ≡ L.reads_of lint }
     {
         SessionBuilder {
             lint,
-            kept: IndexedFiles::new(alloc),
+            kept: IndexedFiles::new(alloc, seed),
         }
     }
 
@@ -137,7 +147,7 @@ fn load_file<L: Lint>(
     ensures reads { L.reads_of lint.new ≡ count_after (L.reads_of lint.old) 1 }
 {
     let unit = lint.read(kept.alloc(), path, &bytes)?;
-    let file = file_of(lint, path, bytes, unit)?;
+    let file = file_of(lint, path, bytes, unit, kept.seed())?;
     keep_file::<L>(kept, path, file)?;
     Ok(())
 }

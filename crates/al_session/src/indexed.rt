@@ -5,7 +5,7 @@ ghost use Rattle.std.specs.Option.{option_copied};
 ghost use Rattle.al_session_folder.specs.Folder.{bytes_at};
 ghost use Rattle.al_session_folder.specs.Kept.{folder_of};
 
-use al_session_folder::{Callers, Files};
+use al_session_folder::{Callers, Files, Seed};
 use indexmap::IndexMap;
 use std::alloc::Global;
 
@@ -18,19 +18,24 @@ pub struct IndexedFiles<U, I> {
 
 impl<U, I> IndexedFiles<U, I> {
     /// No files. Doesn't allocate.
-    pub(crate) fn new(alloc: Global) -> IndexedFiles<U, I>
+    pub(crate) fn new(alloc: Global, seed: Seed) -> IndexedFiles<U, I>
         ensures files { result.files.entries ≡ [] }
         ensures callers { result.callers.entries ≡ [] }
     {
         IndexedFiles {
-            files: IndexMap::new(alloc),
-            callers: IndexMap::new(alloc),
+            files: IndexMap::with_hasher(alloc, seed),
+            callers: IndexMap::with_hasher(alloc, seed),
         }
     }
 
     /// The allocator of the files.
     pub(crate) fn alloc(&self) -> Global {
         *self.files.allocator()
+    }
+
+    /// The seed of the hashes of paths.
+    pub(crate) fn seed(&self) -> Seed {
+        *self.files.hasher()
     }
 
     /// The bytes of a file; `None` if no file has this path. Doesn't allocate.

@@ -1,6 +1,6 @@
 //! A folder of files, kept linted.
 
-ghost use Rattle.std.specs.Prelude.{◌≡◌, ◌≢◌, ℕ, List, [], Err, None, Some, length, IfOk, OnOk, OnErr, IfErr, IfSome};
+ghost use Rattle.std.specs.Prelude.{◌≡◌, ◌≢◌, ℕ, List, [], Err, None, Some, length, slice_get, IfOk, OnOk, OnErr, IfErr, IfSome};
 ghost use Rattle.std.specs.List.{AllByRecursion};
 ghost use Rattle.std.specs.List.Sorted.{IsStrictlySortedBy};
 ghost use Rattle.std.specs.Ordering.{nat_cmp};
@@ -15,10 +15,11 @@ ghost use Rattle.al_session_folder.specs.Folder.{bytes_at, faults_at, put_refusa
 ghost use Rattle.al_session_folder.specs.Folder.{without_file, paths_of, refusal_or_memory};
 ghost use Rattle.std.specs.Bool.{Decides};
 ghost use Rattle.al_session_folder.specs.Affected.{affected_paths, is_among};
-ghost use Rattle.al_session_folder.specs.Meaning.{IsUpTo};
+ghost use Rattle.al_lint.specs.Meaning.{IsUpTo};
 ghost use Rattle.al_base.specs.Counted.{count_after};
 ghost use Rattle.al_session_folder.specs.Missing.{is_missing, missing_in};
-ghost use Rattle.al_session_folder.specs.Report.{status_of, report_of};
+ghost use Rattle.al_session.specs.Report.{status_of, report_of};
+ghost use Rattle.al_session_folder.specs.Printing.{AreCycleFaults};
 ghost use Rattle.al_session.specs.EditLaws.{OthersKeepFaults, PutsInAnyOrder, SamePutChangesNothing};
 ghost use Rattle.al_session.specs.Session.{IsLinted, ReadsForPut, folder_in};
 
@@ -26,10 +27,11 @@ use crate::calls::{find_graph, linked_files};
 use crate::edit::{put_file, remove_file};
 use crate::indexed::IndexedFiles;
 use crate::refused::{delete_refused, put_refused};
+use crate::report::{has_faults, write_files};
 use al_base::{Fault, Output, Path, Stop};
 use al_session_folder::{
-    CallGraph, Lint, Paths, Refused, find_call_cycle_faults, has_call_cycles, has_faults,
-    join_files, missing_paths, write_files,
+    CallGraph, Lint, Paths, Refused, Seed, find_call_cycle_faults, has_call_cycles, join_files,
+    missing_paths,
 };
 use std::alloc::{AllocError, Global};
 use std::io::Write;
@@ -71,13 +73,23 @@ impl<L: Lint> Model for Session<L> {
 }
 
 impl<L: Lint> Session<L> {
-    /// A session over the empty folder. Doesn't allocate; later calls allocate from `alloc`.
+    /// A session over the empty folder. Doesn't allocate; later calls allocate from `alloc`. Paths whose hashes are equal can be found by
+    /// who knows this program: see `open_seeded`.
     pub fn open(alloc: Global, lint: L) -> Session<L>
         ensures folder { result.folder ≡ [] }
         ensures checks { result.checks ≡ L.checks_of lint }
         ensures reads { result.reads ≡ L.reads_of lint }
     {
-        Session::of(lint, IndexedFiles::new(alloc))
+        Session::open_seeded(alloc, lint, Seed::fixed())
+    }
+
+    /// A session over the empty folder whose hashes of paths start with this seed: a random one if a stranger names the files.
+    pub fn open_seeded(alloc: Global, lint: L, seed: Seed) -> Session<L>
+        ensures folder { result.folder ≡ [] }
+        ensures checks { result.checks ≡ L.checks_of lint }
+        ensures reads { result.reads ≡ L.reads_of lint }
+    {
+        Session::of(lint, IndexedFiles::new(alloc, seed))
     }
 
     /// A session of files that were read and checked. Doesn't allocate.
@@ -262,6 +274,31 @@ impl<L: Lint> Session<L> {
         let call_cycle_faults = find_call_cycle_faults(&self.lint, &linked)?;
         let joined = join_files::<L>(&self.kept.files, &call_cycle_faults)?;
         write_files::<L, W>(writer, &self.kept.files, &joined, oneline)
+    }
+
+    /// The path of the file with this number, from 0, in order of path; `None` if there are fewer files. Doesn't allocate.
+    pub fn path_at(&self, number: usize) -> Option<&str>
+        ensures { option_copied result ≡ slice_get (paths_of self.now.folder) number }
+    {
+        match self.kept.files.get_index(number) {
+            Some((path, _)) => Some(path.as_str()),
+            None => None,
+        }
+    }
+
+    /// For each file, in order of path, the faults of its calls on a call cycle. The graph of calls is computed if it isn't known, and
+    /// kept for the next report. The folder and both counts are unchanged.
+    ///
+    /// # Errors
+    ///
+    /// [`AllocError`] if memory runs out.
+    pub fn call_cycle_faults(&mut self) -> Result<Vec<Vec<Fault>>, AllocError>
+        ensures faults { IfOk result (λ all. AreCycleFaults L.meaning self.old.folder all.items) }
+        ensures unchanged { self.new ≡ self.old }
+    {
+        find_graph::<L>(&self.kept.files, &mut self.calls)?;
+        let linked = linked_files::<L>(&self.kept.files, &self.calls);
+        find_call_cycle_faults(&self.lint, &linked)
     }
 
     /// The paths of all candidates of calls that aren't in the folder, in order of path, each once.

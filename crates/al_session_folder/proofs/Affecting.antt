@@ -21,7 +21,7 @@ use Rattle.std.specs.BTreeMap.{is_at}
 use Rattle.std.proofs.lemmas.Bool.{both_ways, cond-true, cond-false, cond_both, false_from_ne_true, or_left, or_right}
 use Rattle.std.proofs.lemmas.Map.Text.{is_eq-slice_cmp}
 use Rattle.std.proofs.lemmas.Cmp.{nat_list_cmp_total, nat_list_eq_equiv}
-use Rattle.al_session_folder.specs.Meaning.{Meaning, candidates, is_candidate}
+use Rattle.al_lint.specs.Meaning.{Meaning, candidates, is_candidate}
 use Rattle.std.proofs.lemmas.List.Folds.{list_any-append}
 use Rattle.al_session_folder.specs.Folder.{Folder, without_file, bytes_at, paths_of, interface_in, find_map, answer}
 use Rattle.al_session_folder.specs.Affected.{is_untouched, affected_paths, is_affected, is_among}
@@ -29,7 +29,7 @@ use Rattle.al_session_folder.specs.FolderViews.{FolderChange, IsChange, affected
 use Rattle.al_session_folder.specs.Kept.{Callers, Files, IsCallerIndex, file_at, folder_of, is_caller, with_bytes_at}
 use Rattle.al_base.specs.InOrder.{in_order}
 use Rattle.al_base.proofs.InOrder.{Contains-from_in_order, Contains-in_order, IsStrictlySortedBy-in_order}
-use Rattle.al_session_folder.specs.declared.lint.Target.{Target}
+use Rattle.al_lint.specs.declared.lint.Target.{Target}
 use Rattle.al_session_folder.proofs.Places.{sorted_put}
 use Rattle.al_session_folder.proofs.Views.{bytes_changed, bytes_kept, bytes_same, bytes_self, kept_at, none_after}
 
@@ -74,6 +74,13 @@ module _ {I : Type 0} (m : Meaning I) (p : List ℕ) (f : Folder) (now : Option 
     same_answers [] still = refl
     same_answers (t ∷ ts) still =
         rw (among_still (candidates t) (λ a. still (or_left _ _ a)), same_as_itself eq itself (find_map (interface_in m f) (candidates t))) (same_answers ts (λ a. still (or_right _ _ a)))
+
+    -- a call that doesn't have the candidate `p` keeps its answer
+    pub same_elsewhere : (t : Target) → is_candidate (t ∷ []) p ≡ false → option_eq eq (answer m f t) (answer m (with_bytes_at f p now) t) ≡ true
+    unfolding answer
+    same_elsewhere t far =
+        let not_there = λ (a : list_any (bytes_eq p) (candidates t) ≡ true). both_ways (is_candidate (t ∷ []) p) far (or_left (list_any (bytes_eq p) (candidates t)) false a) in
+        rw (among_still (candidates t) (λ a. absurd (not_there a)), same_as_itself eq itself (find_map (interface_in m f) (candidates t))) refl
 
     -- a file at another path is affected if and only if it is there and one of its calls has another answer
     elsewhere : (q : List ℕ) → bytes_eq q p ≡ false → is_affected eq m f After q ≡ option_map_or (λ b. not (AllSame (m.calls q b))) (bytes_at f q) false
@@ -235,6 +242,10 @@ module _ {U I : Type 0} (m : Meaning I) (is_unit : U → List ℕ → List ℕ �
       let kept = kept_at m is_unit files q file is.view.kept.kept (sym found) in
       let same = rw (← view, kept.calls.targets) at told in
       rw (← view, far, elsewhere m p (folder_of files) Bytes is.view.kept.ordered eq itself q far, bytes_kept files q, ← found, same)
+
+  -- whether a call that doesn't have the changed path as a candidate keeps its answer
+  pub elsewhere_is : (t : Target) → is_candidate (t ∷ []) change.path ≡ false → true ≡ option_eq eq (answer m change.before t) (answer m (changed_by change) t)
+  elsewhere_is t far = rw (← view) (sym (same_elsewhere m p (folder_of files) Bytes is.view.kept.ordered eq itself t (rw (← view) at far)))
 
   pub absent_is : (q : List ℕ) → None ≡ file_at files q → not (bytes_eq q change.path) && is_affected eq m change.before (changed_by change) q ≡ false
   absent_is q none =

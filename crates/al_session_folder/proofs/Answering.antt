@@ -2,12 +2,12 @@
 use Rattle.std.proofs.Common.{◌≡◌, ℕ, ◌+◌, ◌<◌, List, [], ◌∷◌, ◌++◌, Option, Some, None, refl, sym, ◌∙◌, ap, map, take, length, get_or, arith}
 use Rattle.std.proofs.lemmas.List.{map_push, map_more}
 use Rattle.al_base.specs.declared.faults.Fault.{Fault}
-use Rattle.al_session_folder.specs.Meaning.{Meaning}
+use Rattle.al_lint.specs.Meaning.{Meaning}
 use Rattle.al_base.specs.Counted.{count_after}
 use Rattle.al_session_folder.specs.Folder.{Folder, answer, faults_in, bytes_at}
 use Rattle.al_session_folder.specs.Kept.{faults_of}
 use Rattle.std.specs.Option.{option_map_or, option_or}
-use Rattle.al_session_folder.specs.declared.lint.Target.{Target}
+use Rattle.al_lint.specs.declared.lint.Target.{Target}
 
 pub or_none : {T : Type 0} (o : Option T) → option_or o None ≡ o
 or_none None = refl

@@ -23,13 +23,13 @@ use Rattle.al_graph.proofs.FilterMaps.{all_in_filter_map, in_filter_map}
 use Rattle.al_graph.proofs.Labels.{labels_same}
 use Rattle.al_graph.proofs.Edges.{edges_at}
 use Rattle.al_graph.proofs.Lists.{none_in}
-use Rattle.al_session_folder.specs.Meaning.{Meaning, candidates}
+use Rattle.al_lint.specs.Meaning.{Meaning, candidates}
 use Rattle.al_session_folder.specs.Folder.{Folder, find_map, paths_of}
 use Rattle.al_session_folder.specs.Kept.{Files, folder_of, entry_of, AllKept, IsKept}
 use Rattle.al_session_folder.specs.Cycles.{callee, calls_graph, is_on_cycle, call_cycle_faults, number_of_path}
 use Rattle.al_session_folder.specs.CallGraphs.{IsCallGraph, IsCalledBy, TellCycles}
 use Rattle.al_session_folder.specs.declared.kept.KeptFile.{KeptFile}
-use Rattle.al_session_folder.specs.declared.lint.Target.{Target}
+use Rattle.al_lint.specs.declared.lint.Target.{Target}
 
 -- the fault of a call, if it is on a call cycle
 abbrev pub fault_if : Bool → Fault → List Fault

@@ -1,12 +1,12 @@
 -- The faults that a report lists: each file's own, and those of its calls on a call cycle.
 use Rattle.al_session_folder.proofs.Places.{by_ordering, each_at}
-use Rattle.std.proofs.Common.{◌≤◌, ◌≡◌, ◌<◌, ℕ, ◌+◌, Bool, true, false, cond, not, List, [], ◌∷◌, ◌++◌, length}
+use Rattle.std.proofs.Common.{◌≤◌, ◌≡◌, ◌<◌, ℕ, ◌+◌, Bool, true, false, not, List, [], ◌∷◌, ◌++◌, length}
 use Rattle.std.proofs.Common.{get_or, Option, Some, String, slice_get, refl, sym, ◌∙◌, ap, subst, ◌||◌, arith, length-append, ⊎_elim}
 use Rattle.std.specs.Prelude.{string_bytes}
 use Rattle.std.specs.Bool.{◌==◌}
 use Rattle.std.specs.Borrow.{Bor}
 use Rattle.std.specs.Global.{Global}
-use Rattle.std.specs.List.{AllByRecursion, dedup, enumerate_from, flat_map, list_any}
+use Rattle.std.specs.List.{AllByRecursion, dedup}
 use Rattle.std.specs.List.Sorted.{IsPermutation, IsSorted, IsStrictlySortedBy}
 use Rattle.std.specs.declared.cmp.Ordering.{Ordering}
 use Rattle.std.proofs.lemmas.Bool.Decides.{nat_tests}
@@ -22,19 +22,17 @@ use Rattle.al_base.specs.contracts.faults.FaultOrd.TheImpl as derived
 use Rattle.al_base.specs.contracts.faults.FaultPartialEq.TheImpl as derived_eq
 use Rattle.al_base.specs.FaultLists.{fault_cmp, fault_list}
 use Rattle.al_base.specs.InOrder.{in_order, with_one}
-use Rattle.al_text.specs.Snippets.{fault_text}
 use Rattle.al_base.specs.Spans.{LiesIn}
 use Rattle.al_base.specs.declared.faults.Fault.{Fault}
-use Rattle.al_session_folder.specs.Meaning.{Meaning}
+use Rattle.al_lint.specs.Meaning.{Meaning}
 use Rattle.al_session_folder.specs.Folder.{Folder, answers, faults_in}
 use Rattle.al_session_folder.specs.Kept.{Files, folder_of, referents, AllKept}
 use Rattle.al_session_folder.specs.Cycles.{calls_graph, callee, is_on_cycle, call_cycle_faults, report_faults}
 use Rattle.al_session_folder.specs.declared.kept.KeptFile.{KeptFile}
-use Rattle.al_session_folder.specs.declared.lint.Target.{Target}
+use Rattle.al_lint.specs.declared.lint.Target.{Target}
 use Rattle.al_session_folder.proofs.CallCycles.{fault_if, kept_number, faults_on_cycles}
-use Rattle.al_session_folder.specs.Report.{status_of, report_of}
 use Rattle.al_session_folder.specs.Checked.{AllChecked}
-use Rattle.al_session_folder.specs.Printing.{AreNumbered, ArePrintable, joined_faults, joined_or_own, numbered_lines}
+use Rattle.al_session_folder.specs.Printing.{AreNumbered, ArePrintable, joined_faults, joined_or_own}
 
 -- ---- joining faults
 
@@ -75,20 +73,7 @@ module _ {I : Type 0} (m : Meaning I)
       let one = kept_number m is_unit files i e kept at in
       record { small = one.small; lines = one.lines; inside = reported_inside (folder_of files) i (string_bytes e.0) e.1.bytes.items one.small }
 
--- ---- the report
-
-lines_from : {U I : Type 0} (m : Meaning I) (f : Folder) (oneline : Bool) (n : ℕ) (es : Files U I) →
-    flat_map (numbered_lines oneline m f) (enumerate_from n es)
-    ≡ flat_map (λ x. flat_map (fault_text oneline x.1.0 x.1.1) (report_faults m f x.0 x.1.0 x.1.1)) (enumerate_from n (folder_of es))
-lines_from m f oneline n [] = refl
-lines_from m f oneline n (e ∷ es) = rw (lines_from m f oneline (n + 1) es)
-
-pub report_is : {U I : Type 0} (m : Meaning I) (files : Files U I) (oneline : Bool) →
-    flat_map (numbered_lines oneline m (folder_of files)) (enumerate_from 0 files) ≡ report_of oneline m (folder_of files)
-unfolding report_of
-report_is m files oneline = lines_from m (folder_of files) oneline 0 files
-
--- ---- the status
+-- ---- some fault or none
 
 some_list : (x : Fault) (xs : List Fault) → not (length (x ∷ xs) == 0) ≡ true
 some_list x xs = grind (arith, nat_tests)
@@ -96,7 +81,7 @@ some_list x xs = grind (arith, nat_tests)
 none_of : {X : Type 0} (xs : List X) → (length xs == 0) ≡ true → xs ≡ []
 none_of xs e = nil_from_length xs (grind (arith, nat_tests))
 
-some_in_order : (xs : List Fault) → not (length (in_order fault_cmp xs) == 0) ≡ not (length xs == 0)
+pub some_in_order : (xs : List Fault) → not (length (in_order fault_cmp xs) == 0) ≡ not (length xs == 0)
 some_in_order [] = refl
 some_in_order (x ∷ xs) = by (in_order fault_cmp xs) ∙ sym (some_list x xs)
   where
@@ -104,34 +89,8 @@ some_in_order (x ∷ xs) = by (in_order fault_cmp xs) ∙ sym (some_list x xs)
     by [] = some_list x []
     by (y ∷ ys) = by_ordering (fault_cmp x y) (λ a. rw a (some_list x (y ∷ ys))) (λ a. rw a (some_list y ys)) (λ a. rw a (some_list y (with_one fault_cmp x ys)))
 
-some_of_both : (a b : List Fault) → not (length (a ++ b) == 0) ≡ (not (length a == 0) || not (length b == 0))
+pub some_of_both : (a b : List Fault) → not (length (a ++ b) == 0) ≡ (not (length a == 0) || not (length b == 0))
 some_of_both a b = let all = length-append a b in grind (arith, nat_tests, all)
-
-module _ {I : Type 0} (m : Meaning I) (f : Folder) where
-  abbrev IsOnCycleAt : ℕ × (List ℕ × List ℕ) → Bool
-  IsOnCycleAt x = not (length (call_cycle_faults m f x.0 x.1.0 x.1.1) == 0)
-
-  -- A file has faults to report if and only if one of its calls is on a call cycle or it has faults of its own.
-  any_reported : {U : Type 0} (n : ℕ) (es : Files U I) → AllChecked m f es
-      → list_any (λ (x : ℕ × (List ℕ × List ℕ)). not (length (report_faults m f x.0 x.1.0 x.1.1) == 0)) (enumerate_from n (folder_of es))
-      ≡ (list_any IsOnCycleAt (enumerate_from n (folder_of es)) || list_any (λ (e : String Global × KeptFile U I). not (length e.1.faults.items == 0)) es)
-  unfolding report_faults
-  any_reported n [] checked = refl
-  any_reported n (e ∷ es) checked =
-      let on_cycles = call_cycle_faults m f n (string_bytes e.0) e.1.bytes.items in
-      let own = faults_in m f (string_bytes e.0) e.1.bytes.items in
-      let rest = any_reported (n + 1) es checked.1 in
-      rw (checked.0, some_in_order (on_cycles ++ own), some_of_both on_cycles own, rest) (grind (arith, nat_tests))
-
-module _ {U I : Type 0} (m : Meaning I) (files : Files U I) (checked : AllChecked m (folder_of files) files) where
-  pub status_faults : list_any (λ (e : String Global × KeptFile U I). not (length e.1.faults.items == 0)) files ≡ true → 1 ≡ status_of m (folder_of files)
-  unfolding status_of
-  status_faults h = rw (any_reported m (folder_of files) 0 files checked, h) (grind (arith, nat_tests))
-
-  pub status_cycles : (some : Bool) → list_any (λ (e : String Global × KeptFile U I). not (length e.1.faults.items == 0)) files ≡ false
-      → some ≡ list_any (IsOnCycleAt m (folder_of files)) (enumerate_from 0 (folder_of files)) → cond some 1 0 ≡ status_of m (folder_of files)
-  unfolding status_of
-  status_cycles some h s = rw (any_reported m (folder_of files) 0 files checked, h, s) (grind (arith, nat_tests))
 
 -- ---- sorting references to faults
 

@@ -7,9 +7,9 @@ use Rattle.std.proofs.lemmas.List.Folds.{list_any-append}
 use Rattle.std.proofs.lemmas.Map.Views.{any-filter_same}
 use Rattle.al_session_folder.specs.Affected.{is_among}
 use Rattle.al_session_folder.specs.Folder.{Folder}
-use Rattle.al_session_folder.specs.Meaning.{Meaning, candidates, is_candidate}
+use Rattle.al_lint.specs.Meaning.{Meaning, candidates, is_candidate}
 use Rattle.al_session_folder.specs.Missing.{absent_candidates, is_absent, is_missing, missing_in}
-use Rattle.al_session_folder.specs.declared.lint.Target.{Target}
+use Rattle.al_lint.specs.declared.lint.Target.{Target}
 use Rattle.al_session_folder.proofs.Affecting.{among_ordered}
 use Rattle.al_session_folder.proofs.Views.{bytes_same}
 

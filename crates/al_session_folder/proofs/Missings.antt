@@ -20,14 +20,14 @@ use Rattle.std.proofs.lemmas.List.Elements.{filter-append}
 use Rattle.std.proofs.lemmas.List.MinMax.{ranks_by}
 use Rattle.std.proofs.lemmas.Fn.{always_returns_same}
 use Rattle.std.proofs.lemmas.Map.Text.{is_eq-slice_cmp}
-use Rattle.al_session_folder.specs.Meaning.{Meaning, candidates}
+use Rattle.al_lint.specs.Meaning.{Meaning, candidates}
 use Rattle.al_session_folder.specs.Kept.{Files, folder_of, AllKept}
 use Rattle.al_session_folder.specs.declared.kept.KeptFile.{KeptFile}
 use Rattle.al_session_folder.specs.Folder.{Folder}
 use Rattle.al_session_folder.specs.Missing.{is_absent, absent_candidates, missing_in}
 use Rattle.al_base.specs.InOrder.{in_order}
 use Rattle.al_base.proofs.InOrder.{IsStrictlySortedBy-in_order}
-use Rattle.al_session_folder.specs.declared.lint.Target.{Target}
+use Rattle.al_lint.specs.declared.lint.Target.{Target}
 use Rattle.al_session_folder.proofs.Referring.{ordered_mapped}
 
 -- one more call

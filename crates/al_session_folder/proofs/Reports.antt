@@ -11,7 +11,7 @@ use Rattle.std.specs.List.Sorted.{IsStrictlySortedBy}
 use Rattle.al_base.specs.FaultLists.{fault_cmp}
 use Rattle.al_base.specs.declared.faults.Fault.{Fault}
 use Rattle.al_base.specs.Spans.{LiesIn}
-use Rattle.al_session_folder.specs.Meaning.{Meaning}
+use Rattle.al_lint.specs.Meaning.{Meaning}
 use Rattle.al_session_folder.specs.Folder.{Folder, faults_in, answers, bytes_at}
 use Rattle.al_session_folder.specs.Kept.{Files, folder_of, file_at, AllKept}
 use Rattle.al_session_folder.specs.Checked.{AllChecked}

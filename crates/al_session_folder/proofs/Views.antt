@@ -20,7 +20,7 @@ use Rattle.std.proofs.lemmas.Map.{lookup-none, lookup-remove_entry}
 use Rattle.std.proofs.lemmas.Bool.{cond-true, cond-false}
 use Rattle.std.proofs.lemmas.Map.Text.{is_eq-slice_cmp}
 use Rattle.std.proofs.lemmas.Slice.Eq.{bytes_eq-Decides}
-use Rattle.al_session_folder.specs.Meaning.{Meaning}
+use Rattle.al_lint.specs.Meaning.{Meaning}
 use Rattle.al_session_folder.specs.Folder.{Folder, bytes_at, with_file, without_file, paths_of}
 use Rattle.al_session_folder.specs.Kept.{Files, folder_of, file_at, file_after, next_folder, with_bytes_at, IsKept, AllKept, IsKeptIf, IsView}
 use Rattle.al_session_folder.specs.declared.kept.KeptFile.{KeptFile}

@@ -1,13 +1,11 @@
 -- The graph of calls, labels that decide which calls are on a cycle, and what the graph depends on.
-use Rattle.std.specs.Prelude.{ℕ, ◌≡◌, ◌↔◌, ◌&&◌, Bool, false, List, Option, Some, None, Vec, bytes_eq, length, map, slice_index_or}
+use Rattle.std.specs.Prelude.{ℕ, ◌≡◌, ◌↔◌, List, Option, Some, None, Vec, length, map, slice_index_or}
 use Rattle.std.specs.Global.{Global}
 use Rattle.al_graph.specs.Graphs.{Edge, Walk, edges_of}
-use Rattle.al_session_folder.specs.Meaning.{Meaning}
+use Rattle.al_lint.specs.Meaning.{Meaning}
 use Rattle.al_session_folder.specs.Folder.{Folder, paths_of}
 use Rattle.al_session_folder.specs.Kept.{AreKept, Files, folder_of}
 use Rattle.al_session_folder.specs.Cycles.{calls_graph}
-use Rattle.al_session_folder.specs.declared.lint.Target.{Target}
-use Rattle.al_session_folder.specs.declared.lint.Target.TheVariants.{FirstOf, Only}
 
 -- the graph has an edge from the file with this number to the callee of a call, if there is one
 abbrev pub IsCalledBy : List (List ℕ) → ℕ → Option ℕ → Type 0
@@ -28,13 +26,6 @@ pub record IsCallGraph {I : Type 0} (m : Meaning I) (f : Folder) (graph : List (
 pub record HasSameCalls {I : Type 0} (m : Meaning I) (f g : Folder) : Type 0 where
   pub paths : paths_of g ≡ paths_of f
   pub calls : map (λ e. m.calls e.0 e.1) g ≡ map (λ e. m.calls e.0 e.1) f
-
--- whether two calls have the same candidates, in the same order
-abbrev pub is_same_target : Target → Target → Bool
-is_same_target (Only p) (Only q) = bytes_eq p q
-is_same_target (Only p) (FirstOf q r) = false
-is_same_target (FirstOf p q) (Only r) = false
-is_same_target (FirstOf p q) (FirstOf r s) = bytes_eq p r && bytes_eq q s
 
 -- Kept files with the graph of their calls.
 pub record AreLinked {U I : Type 0} (m : Meaning I) (is_unit : U → List ℕ → List ℕ → Type 0) (files : Files U I)

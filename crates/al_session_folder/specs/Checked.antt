@@ -1,7 +1,7 @@
 -- Kept files that were checked.
 use Rattle.std.specs.Prelude.{◌≡◌, string_bytes}
 use Rattle.std.specs.List.{AllByRecursion}
-use Rattle.al_session_folder.specs.Meaning.{Meaning}
+use Rattle.al_lint.specs.Meaning.{Meaning}
 use Rattle.al_session_folder.specs.Folder.{Folder, faults_in}
 use Rattle.al_session_folder.specs.Kept.{Files}
 

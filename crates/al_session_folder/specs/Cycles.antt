@@ -5,9 +5,9 @@ use Rattle.std.specs.List.{filter_map, flat_map, position, zip}
 use Rattle.al_base.specs.FaultLists.{fault_list}
 use Rattle.al_base.specs.declared.faults.Fault.{Fault}
 use Rattle.al_graph.specs.Within.{leads}
-use Rattle.al_session_folder.specs.Meaning.{Meaning, candidates}
+use Rattle.al_lint.specs.Meaning.{Meaning, candidates}
 use Rattle.al_session_folder.specs.Folder.{Folder, faults_in, find_map, paths_of}
-use Rattle.al_session_folder.specs.declared.lint.Target.{Target}
+use Rattle.al_lint.specs.declared.lint.Target.{Target}
 
 -- the number of the file at a path, in order of path, if there is one
 abbrev pub number_of_path : Folder → List ℕ → Option ℕ

@@ -9,10 +9,10 @@ use Rattle.std.specs.Map.{lookup, remove_entry}
 use Rattle.al_base.specs.declared.faults.Fault.{Fault}
 use Rattle.al_base.specs.Limits.{largest_file, most_files}
 use Rattle.al_base.specs.Paths.{path_fault_of}
-use Rattle.al_session_folder.specs.Meaning.{Meaning, candidates}
-use Rattle.al_session_folder.specs.declared.lint.Target.{Target}
-use Rattle.al_session_folder.specs.declared.lint.Refused.{Refused}
-use Rattle.al_session_folder.specs.declared.lint.Refused.TheVariants.{BadPath, NotAccepted, TooLarge, Full, NoSuchFile, Memory}
+use Rattle.al_lint.specs.Meaning.{Meaning, candidates}
+use Rattle.al_lint.specs.declared.lint.Target.{Target}
+use Rattle.al_lint.specs.declared.lint.Refused.{Refused}
+use Rattle.al_lint.specs.declared.lint.Refused.TheVariants.{BadPath, NotAccepted, TooLarge, Full, NoSuchFile, Memory}
 
 -- The bytes of files by path, in order of path.
 abbrev pub Folder : Type 0

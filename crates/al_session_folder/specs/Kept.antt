@@ -15,11 +15,11 @@ use Rattle.al_base.specs.declared.faults.Fault.{Fault}
 use Rattle.al_base.specs.Limits.{largest_file, most_files}
 use Rattle.al_base.specs.LineStarts.{line_starts}
 use Rattle.al_base.specs.Paths.{path_fault_of}
-use Rattle.al_session_folder.specs.Meaning.{Meaning, is_candidate}
+use Rattle.al_lint.specs.Meaning.{Meaning, is_candidate}
 use Rattle.al_session_folder.specs.Folder.{Folder, bytes_at, faults_in, paths_of, with_file, without_file}
 use Rattle.al_session_folder.specs.declared.kept.Calls.{Calls}
 use Rattle.al_session_folder.specs.declared.kept.KeptFile.{KeptFile}
-use Rattle.al_session_folder.specs.declared.lint.Target.{Target}
+use Rattle.al_lint.specs.declared.lint.Target.{Target}
 
 -- what these references refer to
 abbrev pub referents : {T : Type 0} → List (Bor T) → List T

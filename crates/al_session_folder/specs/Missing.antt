@@ -4,9 +4,9 @@ use Rattle.std.specs.List.{flat_map, list_any}
 use Rattle.std.specs.Ordering.{nat_cmp}
 use Rattle.std.specs.Cmp.Lexicographic.{slice_cmp}
 use Rattle.al_base.specs.InOrder.{in_order}
-use Rattle.al_session_folder.specs.Meaning.{Meaning, candidates, is_candidate}
+use Rattle.al_lint.specs.Meaning.{Meaning, candidates, is_candidate}
 use Rattle.al_session_folder.specs.Folder.{Folder, bytes_at}
-use Rattle.al_session_folder.specs.declared.lint.Target.{Target}
+use Rattle.al_lint.specs.declared.lint.Target.{Target}
 
 abbrev pub is_absent : Folder → List ℕ → Bool
 is_absent f p = not (is_some (bytes_at f p))

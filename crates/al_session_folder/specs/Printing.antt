@@ -1,16 +1,15 @@
--- Joining and printing faults for a report.
-use Rattle.std.specs.Prelude.{◌≡◌, ℕ, ◌≤◌, ◌<◌, ◌==◌, Bool, cond, List, [], ◌++◌, length, slice_get, slice_index_or}
+-- The faults that a report lists of each file, and that they can be printed.
+use Rattle.std.specs.Prelude.{◌≡◌, ℕ, ◌≤◌, ◌<◌, ◌==◌, cond, List, [], ◌++◌, length, slice_get, slice_index_or}
 use Rattle.std.specs.Prelude.{Some, String, Vec, string_bytes}
 use Rattle.std.specs.Borrow.{Bor}
 use Rattle.std.specs.Global.{Global}
-use Rattle.std.specs.List.{AllByRecursion, flat_map}
+use Rattle.std.specs.List.{AllByRecursion}
 use Rattle.al_base.specs.FaultLists.{fault_list}
 use Rattle.al_base.specs.declared.faults.Fault.{Fault}
 use Rattle.al_base.specs.LineStarts.{line_starts}
-use Rattle.al_text.specs.Snippets.{fault_text}
 use Rattle.al_base.specs.Spans.{LiesIn}
 use Rattle.al_base.specs.Limits.{largest_file}
-use Rattle.al_session_folder.specs.Meaning.{Meaning}
+use Rattle.al_lint.specs.Meaning.{Meaning}
 use Rattle.al_session_folder.specs.Folder.{Folder}
 use Rattle.al_session_folder.specs.Cycles.{call_cycle_faults, report_faults}
 use Rattle.al_session_folder.specs.declared.kept.KeptFile.{KeptFile}
@@ -24,14 +23,6 @@ joined_faults own on_cycles = cond (length on_cycles == 0) [] (fault_list (own +
 -- the listed faults of a kept file: the joined ones, or its own if there are none
 abbrev pub joined_or_own : {U I : Type 0} → KeptFile U I → List (Bor Fault) → List Fault
 joined_or_own file joined = cond (length joined == 0) file.faults.items (referents joined)
-
--- what a report prints of these faults of a kept file
-abbrev pub lines_of : {U I : Type 0} → Bool → List ℕ → KeptFile U I → List Fault → List ℕ
-lines_of oneline path file faults = flat_map (fault_text oneline path file.bytes.items) faults
-
--- what it prints of the file with this number
-abbrev pub numbered_lines : {U I : Type 0} → Bool → Meaning I → Folder → ℕ × (String Global × KeptFile U I) → List ℕ
-numbered_lines oneline m f x = lines_of oneline (string_bytes x.1.0) x.1.1 (report_faults m f x.0 (string_bytes x.1.0) x.1.1.bytes.items)
 
 -- These faults of a kept file can be printed: they lie in it.
 pub record IsPrintable {U I : Type 0} (file : KeptFile U I) (faults : List Fault) : Type 0 where

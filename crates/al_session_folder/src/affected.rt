@@ -9,15 +9,16 @@ ghost use Rattle.std.specs.Cmp.Lexicographic.{slice_cmp};
 ghost use Rattle.std.specs.Option.{option_copied, option_eq};
 ghost use Rattle.al_base.specs.Paths.{path_fault_of};
 ghost use Rattle.al_session_folder.specs.Affected.{is_affected, is_among};
+ghost use Rattle.al_lint.specs.Meaning.{is_candidate};
 ghost use Rattle.al_session_folder.specs.Folder.{answer, bytes_at, interface_in, paths_of};
 ghost use Rattle.al_session_folder.specs.Kept.{IsCallerIndex, IsView};
 ghost use Rattle.al_session_folder.specs.FolderViews.{affected_by, change_of, changed_by};
 
 use crate::kept::{Callers, Files, KeptFile};
-use crate::lint::{Lint, Target};
-use crate::paths::{owned_path, put_paths_in_order};
+use crate::paths::put_paths_in_order;
 use crate::view::FolderView;
 use al_base::Path;
+use al_lint::{Lint, Target, owned_path};
 use std::alloc::{AllocError, Global};
 use std::marker::Model;
 
@@ -46,6 +47,16 @@ fn is_same<I: Eq>(one: Option<&I>, other: Option<&I>) -> bool
     ensures { result ≡ option_eq I.eq (option_copied one.entry) (option_copied other.entry) }
 {
     one == other
+}
+
+// Whether a call has this path as a candidate.
+fn has_candidate(target: &Target, path: &str) -> bool
+    ensures { result ≡ is_candidate (target.now ∷ []) path.now }
+{
+    match target {
+        Target::Only(only) => path == only.as_str(),
+        Target::FirstOf(first, second) => path == first.as_str() || path == second.as_str(),
+    }
 }
 
 impl<'a, L: Lint> PlannedChange<'a, L> {
@@ -88,11 +99,14 @@ impl<'a, L: Lint> PlannedChange<'a, L> {
         is_same(before, self.after().interface(self.path))
     }
 
-    // Whether a call keeps its answer.
+    // Whether a call keeps its answer. One that doesn't have the path of the change as a candidate does.
     fn has_same_answer(&self, target: &Target) -> bool
         ensures { result ≡ option_eq L.Iface.eq (answer L.meaning self.now.before target.now)
             (answer L.meaning (changed_by self.now) target.now) }
     {
+        if !has_candidate(target, self.path) {
+            return true;
+        }
         let before = self.as_is().answer(target);
         is_same(before, self.after().answer(target))
     }

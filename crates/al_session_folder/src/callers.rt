@@ -2,11 +2,12 @@
 
 ghost use Rattle.std.specs.Prelude.{◌≡◌, ℕ, List, [], ◌∷◌, Bool, true, not, ◌&&◌, ◌||◌, bytes_eq, cond, IfOk, OnOk, OnErr};
 ghost use Rattle.indexmap.specs.IndexSet.{contains_text};
-ghost use Rattle.al_session_folder.specs.Meaning.{is_candidate};
+ghost use Rattle.al_lint.specs.Meaning.{is_candidate};
 ghost use Rattle.al_session_folder.specs.Kept.{is_caller};
 
-use crate::kept::Callers;
-use crate::lint::Target;
+use crate::kept::{Callers, Names};
+use crate::seed::Seed;
+use al_lint::Target;
 use indexmap::IndexSet;
 use std::alloc::{AllocError, Global};
 
@@ -14,11 +15,12 @@ use std::alloc::{AllocError, Global};
 pub(crate) fn candidates_of(
     alloc: Global,
     targets: &[Target],
-) -> Result<IndexSet<String>, AllocError>
+    seed: Seed,
+) -> Result<Names, AllocError>
     ensures { IfOk result
         (λ names. (c : List ℕ) → contains_text names c ≡ is_candidate targets.now c) }
 {
-    let mut names = IndexSet::new(alloc);
+    let mut names = IndexSet::with_hasher(alloc, seed);
     for target in targets {
         add_names_of(&mut names, target)?;
     }
@@ -26,7 +28,7 @@ pub(crate) fn candidates_of(
 }
 
 // Adds the candidates of one call.
-fn add_names_of(names: &mut IndexSet<String>, target: &Target) -> Result<(), AllocError>
+fn add_names_of(names: &mut Names, target: &Target) -> Result<(), AllocError>
     ensures { OnOk result ((c : List ℕ)
         → contains_text names.new c
         ≡ (is_candidate (target.now ∷ []) c || contains_text names.old c)) }
@@ -41,7 +43,7 @@ fn add_names_of(names: &mut IndexSet<String>, target: &Target) -> Result<(), All
 }
 
 // Inserts a text unless it is there already. On failure the texts are unchanged.
-fn add_name(names: &mut IndexSet<String>, name: &str) -> Result<(), AllocError>
+fn add_name(names: &mut Names, name: &str) -> Result<(), AllocError>
     ensures added { OnOk result ((c : List ℕ)
         → contains_text names.new c ≡ (bytes_eq c name.now || contains_text names.old c)) }
     ensures as_before { OnErr result
@@ -68,7 +70,7 @@ pub(crate) fn add_caller(
         Some(known) => add_name(known, path),
         None => {
             let alloc = *callers.allocator();
-            let mut known = IndexSet::new(alloc);
+            let mut known = IndexSet::with_hasher(alloc, *callers.hasher());
             add_name(&mut known, path)?;
             callers.insert(String::from_str(alloc, candidate)?, known)?;
             Ok(())
@@ -91,11 +93,7 @@ pub(crate) fn drop_caller(callers: &mut Callers, candidate: &str, path: &str)
 }
 
 /// Makes a file a caller of all these candidates. On failure it may have become a caller of some of them.
-fn add_callers(
-    callers: &mut Callers,
-    names: &IndexSet<String>,
-    path: &str,
-) -> Result<(), AllocError>
+fn add_callers(callers: &mut Callers, names: &Names, path: &str) -> Result<(), AllocError>
     ensures added { OnOk result ((c q : List ℕ) → is_caller callers.new c q
         ≡ ((bytes_eq q path.now && contains_text names.now c) || is_caller callers.old c q)) }
     ensures some { OnErr result
@@ -111,12 +109,7 @@ fn add_callers(
 }
 
 /// Removes a file from the callers of those candidates that aren't among the others. Doesn't allocate.
-pub fn drop_callers(
-    callers: &mut Callers,
-    names: &IndexSet<String>,
-    others: &IndexSet<String>,
-    path: &str,
-)
+pub fn drop_callers(callers: &mut Callers, names: &Names, others: &Names, path: &str)
     ensures { (c q : List ℕ) → is_caller callers.new c q
         ≡ (not (bytes_eq q path.now
         && (contains_text names.now c && not (contains_text others.now c)))
@@ -137,8 +130,8 @@ pub fn drop_callers(
 pub fn reindex(
     callers: &mut Callers,
     path: &str,
-    before: &IndexSet<String>,
-    after: &IndexSet<String>,
+    before: &Names,
+    after: &Names,
 ) -> Result<(), AllocError>
     requires { (c : List ℕ) → is_caller callers.old c path.now ≡ contains_text before.now c }
     ensures moved { OnOk result ((c q : List ℕ) → is_caller callers.new c q

@@ -9,13 +9,13 @@ ghost use Rattle.al_graph.specs.Graphs.{edges_of};
 ghost use Rattle.al_session_folder.specs.Kept.{AreKept, folder_of};
 ghost use Rattle.al_session_folder.specs.Cycles as cycles;
 ghost use Rattle.al_session_folder.specs.CallGraphs.{AreLinked, IsCallGraph, IsCalledBy, TellCycles};
-ghost use Rattle.al_session_folder.specs.Sites.{site_fault};
+ghost use Rattle.al_lint.specs.Sites.{site_fault};
 
 use crate::kept::Files;
-use crate::lint::{Lint, Site, Target};
 use crate::place::file_number;
 use al_base::{Args, Fault, FaultSink, Path};
 use al_graph::strongly_connected_components;
+use al_lint::{Lint, Site, Target};
 use std::alloc::{AllocError, Global};
 use std::marker::Model;
 

@@ -7,14 +7,13 @@ ghost use Rattle.std.specs.Cmp.Lexicographic.{slice_cmp};
 ghost use Rattle.al_base.specs.InOrder.{in_order};
 ghost use Rattle.al_session_folder.specs.Affected.{is_among};
 ghost use Rattle.al_session_folder.specs.Kept.{AreKept, folder_of, referents};
-ghost use Rattle.al_session_folder.specs.Meaning.{candidates};
+ghost use Rattle.al_lint.specs.Meaning.{candidates};
 ghost use Rattle.al_session_folder.specs.Missing.{is_absent, is_missing, absent_candidates, missing_in};
 
 use crate::kept::Files;
-use crate::lint::{Lint, Target};
-use crate::paths::owned_path;
 use crate::place::file_number;
 use al_base::Path;
+use al_lint::{Lint, Target, owned_path};
 use std::alloc::AllocError;
 
 /// The candidates of the files' calls that aren't in the folder, in order of path, each once.

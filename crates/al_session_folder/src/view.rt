@@ -3,14 +3,14 @@
 ghost use Rattle.std.specs.Prelude.{◌≡◌, IsSome, length, map, IfOk, IfSome, OnOk, OnErr};
 ghost use Rattle.std.specs.List.{AllByRecursion};
 ghost use Rattle.std.specs.Option.{option_copied, option_map};
-ghost use Rattle.al_session_folder.specs.Meaning.{IsUpTo};
+ghost use Rattle.al_lint.specs.Meaning.{IsUpTo};
 ghost use Rattle.al_base.specs.Counted.{count_after};
 ghost use Rattle.al_session_folder.specs.Folder.{answer, bytes_at, interface_in};
 ghost use Rattle.al_session_folder.specs.Kept.{next_folder, faults_of, folder_of, AreKept, IsKept, IsView};
 
 use crate::kept::{Files, KeptFile};
-use crate::lint::{Lint, Target};
 use al_base::{Fault, Path};
+use al_lint::{Lint, Target};
 use std::alloc::AllocError;
 use std::marker::Model;
 

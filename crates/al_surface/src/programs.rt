@@ -9,6 +9,7 @@ use al_session::{Refused, Session};
 use al_text::{Input, Output, Path, Stop};
 use std::alloc::Global;
 use std::fs;
+use std::random::RandomSource;
 use std::rt::Files;
 use std::test::Fail;
 
@@ -158,7 +159,7 @@ fn is_reported(alloc: Global, files: &[(Path, Vec<u8>)], wanted: &[u8]) -> bool 
 }
 
 /// Whether the files of the folder are its only workflow and the action that this calls, and their report is this one.
-fn gathers<R: Files + AllocGlobal + Clone + Drop>(rt: &R, wanted: &[u8]) -> bool {
+fn gathers<R: Files + RandomSource + AllocGlobal + Clone + Drop>(rt: &R, wanted: &[u8]) -> bool {
     let words = Words {
         oneline: true,
         session: false,
@@ -172,7 +173,7 @@ fn gathers<R: Files + AllocGlobal + Clone + Drop>(rt: &R, wanted: &[u8]) -> bool
 }
 
 /// Whether listing a missing folder fails.
-fn is_unread<R: Files + AllocGlobal + Clone + Drop>(rt: &R) -> bool {
+fn is_unread<R: Files + RandomSource + AllocGlobal + Clone + Drop>(rt: &R) -> bool {
     let words = Words {
         oneline: true,
         session: false,

@@ -10,6 +10,7 @@ use al_session::Refused;
 use std::alloc::{AllocError, Global};
 use std::collections::BTreeSet;
 use std::fs;
+use std::random::RandomSource;
 use std::rt::Files as DiskFiles;
 use std::test::Fail;
 
@@ -262,7 +263,7 @@ fn answer_without(unread: &Unread) -> Answer {
     }
 }
 
-fn answer_to_large<R: DiskFiles + AllocGlobal + Clone + Drop>(
+fn answer_to_large<R: DiskFiles + RandomSource + AllocGlobal + Clone + Drop>(
     rt: &R,
 ) -> Result<Answer, AllocError> {
     let words = named(rt.alloc(), &[LARGE])?;

@@ -7,8 +7,8 @@ ghost use Rattle.al_base.specs.declared.codes.Code.TheVariants as code;
 ghost use Rattle.al_base.specs.declared.codes.KeyCode.TheVariants.{EmptyFile};
 ghost use Rattle.al_base.specs.declared.codes.ExpressionCode.TheVariants.{UndefinedProperty};
 
-/// Some snippets, as the definition gives them, with the `^` under the column that the fault's line prints. Does
-/// nothing at run time.
+/// Some snippets, as the definition gives them, with the `^` under the column that the fault's line
+/// prints. Does nothing at run time.
 pub fn snippet_rows()
     // an empty file: its line is empty
     ensures empty { fault_text false (codes "a.yml") [] (at 0 0 (code.Key EmptyFile) [])

@@ -1,5 +1,5 @@
-//! Faults as a report prints them. Re-exports all of `al_base`, so that users of faults, paths, positions and messages
-//! need only this crate.
+//! Faults as a report prints them. Re-exports all of `al_base`, so that users of faults, paths,
+//! positions and messages need only this crate.
 //!
 //! - `wordings`: the message and the kind of each fault code
 //! - `printing` and `snippets`: the line of a fault, and the source line with marks below it

@@ -1,12 +1,13 @@
 //! The table of fault codes: what a report prints for each.
 ghost use Rattle.std.specs.Prelude.{◌≡◌, codes};
-ghost use Rattle.al_base.specs.Codes.{code_row, call_kind};
+ghost use Rattle.al_text.specs.Wordings.{code_row, call_kind};
 ghost use Rattle.al_base.specs.declared.codes.Code.TheVariants as code;
 ghost use Rattle.al_text.specs.Private.Wordings.{IsRowOf};
 
 use al_base::{CallCode, Caller, Code, ExpressionCode, KeyCode, RuleCode, YamlCode};
 
-/// The kind that a report prints, and the words of a message before, between and after its arguments.
+/// The kind that a report prints, and the words of a message before, between and after its
+/// arguments.
 #[derive(Clone, Copy)]
 pub(crate) struct CodeRow {
     pub(crate) kind: &'static str,

@@ -1,5 +1,6 @@
 -- The faults of a node, by the shape that it should have.
-use Rattle.std.specs.Prelude.{ℕ, List, [], ◌∷◌, ◌++◌, ◌==◌, Bool, true, false, codes, map, Option, Some, None, ◌||◌, ◌&&◌, not}
+use Rattle.std.specs.Prelude.{ℕ, List, [], ◌∷◌, ◌++◌, ◌==◌, Bool, true, false, codes, map, Option}
+use Rattle.std.specs.Prelude.{Some, None, ◌||◌, ◌&&◌, not}
 use Rattle.std.specs.Prelude.{if◌then◌else◌, find, nat_eq, length, option_map, option_and_then}
 use Rattle.std.specs.Bool.{then_some}
 use Rattle.std.specs.List.{flat_map, starts_with}
@@ -14,24 +15,31 @@ use Rattle.al_scalar.specs.declared.styles.Style.TheVariants as style
 use Rattle.al_scalar.specs.contracts.styles.StylePartialEq.TheImpl as styles
 use Rattle.al_base.specs.declared.codes.Code.TheVariants as code
 use Rattle.al_base.specs.declared.codes.KeyCode as codes_key
-use Rattle.al_base.specs.declared.codes.KeyCode.TheVariants.{Unexpected, Missing, Repeated, WrongKind, WrongType, NotBeside, EmptyFile}
+use Rattle.al_base.specs.declared.codes.KeyCode.TheVariants.{Unexpected, Missing, Repeated}
+use Rattle.al_base.specs.declared.codes.KeyCode.TheVariants.{WrongKind, WrongType, NotBeside}
+use Rattle.al_base.specs.declared.codes.KeyCode.TheVariants.{EmptyFile}
 use Rattle.al_base.specs.declared.faults.Fault.{Fault}
 use Rattle.al_base.specs.declared.faults.Span.{Span}
 use Rattle.al_yaml_tree.specs.Access.{entries, scalar_in}
-use Rattle.al_yaml_tree.specs.Node.{Node, Nodes, Entries, scalar, sequence, mapping, no_nodes, item, no_entries, entry}
+use Rattle.al_yaml_tree.specs.Node.{Node, Nodes, Entries, scalar, sequence, mapping, no_nodes, item}
+use Rattle.al_yaml_tree.specs.Node.{no_entries, entry}
 use Rattle.al_tree.specs.Keys.{key_of, keys_in}
 use Rattle.al_tree.specs.Names.{is_event}
 use Rattle.al_base.specs.Names.{among}
-use Rattle.al_tree.specs.Table.{Field, Keys, no_keys, free, keys, rule, Need, optional, required, unless, Clash, never, after}
+use Rattle.al_tree.specs.Table.{Field, Keys, no_keys, free, keys, rule, Need, optional, required}
+use Rattle.al_tree.specs.Table.{unless, Clash, never, after}
 use Rattle.al_tree.specs.Table.{beside, Others, wrong, wrong_beside, unchecked, events}
 use Rattle.al_tree.specs.declared.standings.Standing as rust
 use Rattle.al_tree.specs.declared.table.Shape.{Shape}
-use Rattle.al_tree.specs.declared.table.Shape.TheVariants.{On, Jobs, Job, Any, Runs, NodeRuns, CompositeRuns, DockerRuns}
+use Rattle.al_tree.specs.declared.table.Shape.TheVariants.{On, Jobs, Job, Any, Runs, NodeRuns}
+use Rattle.al_tree.specs.declared.table.Shape.TheVariants.{CompositeRuns, DockerRuns}
 use Rattle.al_tree.specs.declared.table.Trigger.TheVariants.{Events, Event}
 use Rattle.al_tree.specs.declared.table.ScalarSet.{ScalarSet}
-use Rattle.al_tree.specs.declared.table.ScalarSet.TheVariants.{NoScalar, AnyScalar, NotNull, Bools, Numbers, Chunks}
+use Rattle.al_tree.specs.declared.table.ScalarSet.TheVariants.{NoScalar, AnyScalar, NotNull, Bools}
+use Rattle.al_tree.specs.declared.table.ScalarSet.TheVariants.{Numbers, Chunks}
 
--- A fault with these texts as arguments, which are UTF-8: bytes that aren't become U+FFFD, but no file that was read has any.
+-- A fault with these texts as arguments, which are UTF-8: bytes that aren't become U+FFFD, but no
+-- file that was read has any.
 abbrev pub key_fault : codes_key.KeyCode → Span → List (List ℕ) → Fault
 key_fault key at texts = record { span = at; code = code.Key key; args = map utf8_lossy texts }
 
@@ -56,7 +64,8 @@ is_key k e = bytes_eq (key_of e) k
 abbrev pub value_in : List ℕ → List (Scalar × Node) → Option Node
 value_in k es = option_map (λ e. e.1) (find (is_key k) es)
 
--- A scalar that isn't accepted: of the wrong type if some scalars are accepted, otherwise of the wrong kind.
+-- A scalar that isn't accepted: of the wrong type if some scalars are accepted, otherwise of the
+-- wrong kind.
 abbrev pub scalar_fault : ScalarSet → Scalar → Option codes_key.KeyCode
 scalar_fault AnyScalar s = None
 scalar_fault NoScalar s = Some WrongKind
@@ -93,7 +102,8 @@ is_needed (unless k) all = not (all k)
 -- a required key that is missing in the mapping with this span
 abbrev pub missing_fault : Span → (List ℕ → Bool) → Field → List Fault
 missing_fault at all f =
-    if is_needed f.need all && not (all f.key) then one_fault Missing (record { start = at.start; end = at.start }) f.key else []
+    if is_needed f.need all && not (all f.key)
+    then one_fault Missing (record { start = at.start; end = at.start }) f.key else []
 
 -- the key that a key isn't allowed beside, if it is among those seen so far, or among all
 abbrev pub clash_with : Clash → (List ℕ → Bool) → (List ℕ → Bool) → Option (List ℕ)
@@ -101,8 +111,9 @@ clash_with never seen all = None
 clash_with (after k) seen all = then_some (seen k) k
 clash_with (beside k) seen all = then_some (all k) k
 
--- The standing of an entry in its mapping: its key repeats an earlier one; is unexpected; isn't checked; or its value
--- should have a shape. A text is a key that is present and that the entry isn't allowed beside.
+-- The standing of an entry in its mapping: its key repeats an earlier one; is unexpected; isn't
+-- checked; or its value should have a shape. A text is a key that is present and that the entry
+-- isn't allowed beside.
 pub data Standing : Type 0 where
   repeated : Standing
   unexpected : Option (List ℕ) → Standing
@@ -112,11 +123,14 @@ pub data Standing : Type 0 where
 -- the standing of a key without a field
 abbrev pub other_standing : Others → (List ℕ → Bool) → (List ℕ → Bool) → List ℕ → Standing
 other_standing wrong seen all k = if seen k then repeated else unexpected None
-other_standing (wrong_beside u) seen all k = if seen k then repeated else unexpected (then_some (all u) u)
+other_standing (wrong_beside u) seen all k = if seen k then repeated
+    else unexpected (then_some (all u) u)
 other_standing unchecked seen all k = ignored
-other_standing events seen all k = if seen k then repeated else expected (if is_event k then On Event else Any) None
+other_standing events seen all k = if seen k then repeated
+    else expected (if is_event k then On Event else Any) None
 
--- the standing of an entry with a key after the keys seen so far, in a mapping with all these: the first of equal keys counts
+-- the standing of an entry with a key after the keys seen so far, in a mapping with all these: the
+-- first of equal keys counts
 abbrev pub standing : Keys → (List ℕ → Bool) → (List ℕ → Bool) → List ℕ → Standing
 standing no_keys seen all k = ignored
 standing (free s) seen all k = if seen k then repeated else expected s None
@@ -125,12 +139,14 @@ standing (keys others fs) seen all k =
     (other_standing others seen all k)
 
 abbrev pub beside_faults : Option (List ℕ) → Scalar → List Fault
-beside_faults other key = option_map_or (λ k. key_fault NotBeside key.span (text_of key ∷ k ∷ []) ∷ []) other []
+beside_faults other key =
+    option_map_or (λ k. key_fault NotBeside key.span (text_of key ∷ k ∷ []) ∷ []) other []
 
 -- the faults of an entry, given those of its value as a node of a shape
 abbrev pub entry_faults : Standing → Scalar → (Shape → List Fault) → List Fault
 entry_faults repeated key value = one_fault Repeated key.span (text_of key)
-entry_faults (unexpected other) key value = one_fault Unexpected key.span (text_of key) ++ beside_faults other key
+entry_faults (unexpected other) key value =
+    one_fault Unexpected key.span (text_of key) ++ beside_faults other key
 entry_faults ignored key value = []
 entry_faults (expected s other) key value = beside_faults other key ++ value s
 
@@ -138,7 +154,8 @@ entry_faults (expected s other) key value = beside_faults other key ++ value s
 abbrev pub keyed_faults : Keys → List ℕ → (List ℕ → Bool) → Span → (Keys → List Fault) → List Fault
 keyed_faults no_keys above all at inside = one_fault WrongKind at above
 keyed_faults (free s) above all at inside = inside (free s)
-keyed_faults (keys others fs) above all at inside = flat_map (missing_fault at all) fs ++ inside (keys others fs)
+keyed_faults (keys others fs) above all at inside =
+    flat_map (missing_fault at all) fs ++ inside (keys others fs)
 
 abbrev mutual
   -- the faults of a node below a key, which should have a shape and may be null or not
@@ -171,7 +188,9 @@ is_empty_node n = option_map_or (λ s. styles.ghosts.eq s.style style.Plain && (
 
 -- the faults of a file's root
 abbrev pub root_faults : Shape → Node → List Fault
-root_faults s n = if is_empty_node n then key_fault EmptyFile (record { start = 0; end = 0 }) [] ∷ [] else faults s false (codes "file") n
+root_faults s n = if is_empty_node n
+    then key_fault EmptyFile (record { start = 0; end = 0 }) [] ∷ []
+    else faults s false (codes "file") n
 
 -- the meaning of the program's `Standing`
 abbrev pub standing_view : rust.Standing → Standing

@@ -1,5 +1,6 @@
 -- The keys of a mapping's entries, and of its first entries.
-use Rattle.std.specs.Prelude.{◌≡◌, ◌<◌, ℕ, List, [], length, map, slice_index_or, take, Bool, false, nat_lt, not, Option}
+use Rattle.std.specs.Prelude.{◌≡◌, ◌<◌, ℕ, List, [], length, map, slice_index_or, take, Bool, false}
+use Rattle.std.specs.Prelude.{nat_lt, not, Option}
 use Rattle.std.specs.Option.{option_map_or}
 use Rattle.al_base.specs.NamePlaces.{is_first_text, text_position}
 use Rattle.al_scalar.specs.Scalar.{Scalar, text_of}

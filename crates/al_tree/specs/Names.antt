@@ -1,8 +1,10 @@
--- The keys of a matrix that aren't rows, and the names of the events that trigger workflows (GitHub, "Events that trigger workflows").
+-- The keys of a matrix that aren't rows, and the names of the events that trigger workflows
+-- (GitHub, "Events that trigger workflows").
 use Rattle.std.specs.Prelude.{ℕ, List, [], ◌∷◌, Bool, codes}
 use Rattle.al_base.specs.Names.{among}
 
--- the keys of a matrix that aren't rows (GitHub, "Workflow syntax", `jobs.<job_id>.strategy.matrix`)
+-- the keys of a matrix that aren't rows (GitHub, "Workflow syntax",
+-- `jobs.<job_id>.strategy.matrix`)
 abbrev pub is_combination_key : List ℕ → Bool
 is_combination_key = among (codes "include" ∷ codes "exclude" ∷ [])
 

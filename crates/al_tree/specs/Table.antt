@@ -2,13 +2,20 @@
 use Prim.Native.String.{String}
 use Rattle.std.specs.Prelude.{ℕ, List, [], ◌∷◌, ◌++◌, codes, map, Option, Some, None}
 use Rattle.al_tree.specs.declared.table.Shape.{Shape}
-use Rattle.al_tree.specs.declared.table.Shape.TheVariants.{Any, Text, Flag, Number, Texts, TextList, TextMap, TextOrMap, AnyMap, Env}
-use Rattle.al_tree.specs.declared.table.Shape.TheVariants.{Workflow, On, Defaults, RunDefaults, Concurrency, Jobs, Job, RunsOn, Strategy}
-use Rattle.al_tree.specs.declared.table.Shape.TheVariants.{Container, Steps, Step, Action, Runs, NodeRuns, CompositeRuns, DockerRuns}
-use Rattle.al_tree.specs.declared.table.Trigger.TheVariants.{Events, Event, Schedule, Cron, Dispatch, DispatchInputs, DispatchInput, Call}
-use Rattle.al_tree.specs.declared.table.Trigger.TheVariants.{CallInputs, CallInput, CallSecrets, CallSecret, CallOutputs, CallOutput}
+use Rattle.al_tree.specs.declared.table.Shape.TheVariants.{Any, Text, Flag, Number, Texts, TextList}
+use Rattle.al_tree.specs.declared.table.Shape.TheVariants.{TextMap, TextOrMap, AnyMap, Env}
+use Rattle.al_tree.specs.declared.table.Shape.TheVariants.{Workflow, On, Defaults, RunDefaults}
+use Rattle.al_tree.specs.declared.table.Shape.TheVariants.{Concurrency, Jobs, Job, RunsOn, Strategy}
+use Rattle.al_tree.specs.declared.table.Shape.TheVariants.{Container, Steps, Step, Action, Runs}
+use Rattle.al_tree.specs.declared.table.Shape.TheVariants.{NodeRuns, CompositeRuns, DockerRuns}
+use Rattle.al_tree.specs.declared.table.Trigger.TheVariants.{Events, Event, Schedule, Cron}
+use Rattle.al_tree.specs.declared.table.Trigger.TheVariants.{Dispatch, DispatchInputs}
+use Rattle.al_tree.specs.declared.table.Trigger.TheVariants.{DispatchInput, Call}
+use Rattle.al_tree.specs.declared.table.Trigger.TheVariants.{CallInputs, CallInput, CallSecrets}
+use Rattle.al_tree.specs.declared.table.Trigger.TheVariants.{CallSecret, CallOutputs, CallOutput}
 use Rattle.al_tree.specs.declared.table.ScalarSet.{ScalarSet}
-use Rattle.al_tree.specs.declared.table.ScalarSet.TheVariants.{NoScalar, AnyScalar, NotNull, Bools, Numbers, Chunks}
+use Rattle.al_tree.specs.declared.table.ScalarSet.TheVariants.{NoScalar, AnyScalar, NotNull, Bools}
+use Rattle.al_tree.specs.declared.table.ScalarSet.TheVariants.{Numbers, Chunks}
 use Rattle.al_tree.specs.declared.table.Row.{Row}
 use Rattle.al_tree.specs.declared.table.Need as rust_need
 use Rattle.al_tree.specs.declared.table.Clash as rust_clash
@@ -33,13 +40,15 @@ pub record Field : Type 0 where
   pub need : Need
   pub clash : Clash
 
--- what a key without a field is: unexpected; unexpected, and not allowed beside another key; unchecked; or the name of an event
+-- what a key without a field is: unexpected; unexpected, and not allowed beside another key;
+-- unchecked; or the name of an event
 pub data Others : Type 0 where
   wrong : Others
   wrong_beside : List ℕ → Others
   unchecked events : Others
 
--- the mappings that are accepted: none, those with any keys and values of a shape, or those with these keys
+-- the mappings that are accepted: none, those with any keys and values of a shape, or those with
+-- these keys
 pub data Keys : Type 0 where
   no_keys : Keys
   free : Shape → Keys

@@ -1,5 +1,6 @@
 -- The value under a key of a node. A value of the wrong kind counts as missing.
-use Rattle.std.specs.Prelude.{ℕ, List, [], ◌∷◌, ◌++◌, Bool, not, Option, Some, find, option_and_then, option_map, if◌then◌else◌}
+use Rattle.std.specs.Prelude.{ℕ, List, [], ◌∷◌, ◌++◌, Bool, not, Option, Some, find}
+use Rattle.std.specs.Prelude.{option_and_then, option_map, if◌then◌else◌}
 use Rattle.std.specs.Bool.{then_some}
 use Rattle.std.specs.List.{filter_map}
 use Rattle.std.specs.Option.{option_map_or, option_to_list}
@@ -13,9 +14,11 @@ use Rattle.al_base.specs.Names.{among}
 use Rattle.al_tree.specs.declared.values.Member.{Member}
 
 -- the entries whose key no earlier entry has, after entries with the keys seen
-abbrev pub firsts_by : (List (List ℕ) → List ℕ → Bool) → List (List ℕ) → List (Scalar × Node) → List (Scalar × Node)
+abbrev pub firsts_by : (List (List ℕ) → List ℕ → Bool) → List (List ℕ) → List (Scalar × Node)
+    → List (Scalar × Node)
 firsts_by is_in seen [] = []
-firsts_by is_in seen (e ∷ es) = (if is_in seen (key_of e) then [] else e ∷ []) ++ firsts_by is_in (seen ++ key_of e ∷ []) es
+firsts_by is_in seen (e ∷ es) =
+    (if is_in seen (key_of e) then [] else e ∷ []) ++ firsts_by is_in (seen ++ key_of e ∷ []) es
 
 -- the entries of a mapping, the first of those with equal keys; otherwise none
 abbrev pub entries_in : Node → List (Scalar × Node)

@@ -7,7 +7,8 @@ ghost use Rattle.al_yaml_tree.specs.View.{view};
 use crate::values::{items_under, value};
 use al_yaml_tree::Node;
 
-/// The value below two keys, the second in the mapping under the first; of equal keys the first counts.
+/// The value below two keys, the second in the mapping under the first; of equal keys the first
+/// counts.
 pub fn value_below_two<'a>(node: &'a Node, first: &str, second: &str) -> Option<&'a Node>
     ensures { option_map (λ n. view n.now) result
         ≡ value_below (first.now ∷ second.now ∷ []) (view node.now) }

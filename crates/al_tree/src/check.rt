@@ -1,6 +1,7 @@
 //! Checking a node against the shape that its place requires.
 
-ghost use Rattle.al_tree.specs.Faults.{beside_faults, entries_faults, entry_faults, faults as faults_of};
+ghost use Rattle.al_tree.specs.Faults.{beside_faults, entries_faults, entry_faults};
+ghost use Rattle.al_tree.specs.Faults.{faults as faults_of};
 ghost use Rattle.al_tree.specs.Faults.{is_empty_node as empty, items_faults};
 ghost use Rattle.al_tree.specs.Faults.{missing_fault, root_faults, standing_view};
 ghost use Rattle.al_tree.specs.Faults.{takes_null as null_taken};
@@ -23,7 +24,8 @@ use al_scalar::{Scalar, Style};
 use al_yaml_tree::{Entry, Node};
 use std::alloc::{AllocError, Global};
 
-/// What the place of a node requires: a shape, and whether null is accepted, below a key, which faults name.
+/// What the place of a node requires: a shape, and whether null is accepted, below a key, which
+/// faults name.
 #[derive(Clone, Copy)]
 struct Demand<'a> {
     shape: Shape,
@@ -226,9 +228,11 @@ fn is_empty(node: &Node) -> bool
     node.scalar().is_some_and(|scalar| scalar.style() == Style::Plain && scalar.text().is_empty())
 }
 
-/// The faults of the root of a file against the shape it should have, in the order of the file's entries.
+/// The faults of the root of a file against the shape it should have, in the order of the file's
+/// entries.
 ///
-/// Takes time proportional to the size of the tree, times the logarithm of the number of entries in its mappings.
+/// Takes time proportional to the size of the tree, times the logarithm of the number of entries in
+/// its mappings.
 ///
 /// # Errors
 ///

@@ -11,7 +11,8 @@ use al_base::is_same_name;
 use al_yaml_tree::Node;
 use std::alloc::{AllocError, Global};
 
-/// What a mapping declares: its entries in order, of equal names the first; of another node nothing.
+/// What a mapping declares: its entries in order, of equal names the first; of another node
+/// nothing.
 ///
 /// Fails with `AllocError` when out of memory.
 pub fn declared_in(alloc: Global, node: &Node) -> Result<Vec<Member<'_>>, AllocError>

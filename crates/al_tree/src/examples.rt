@@ -1,6 +1,7 @@
 //! Worked rows of shapes.
 
-ghost use Rattle.al_base.specs.declared.codes.KeyCode.TheVariants.{EmptyFile, Missing, NotBeside, Repeated, Unexpected, WrongKind};
+ghost use Rattle.al_base.specs.declared.codes.KeyCode.TheVariants.{EmptyFile, Missing, NotBeside};
+ghost use Rattle.al_base.specs.declared.codes.KeyCode.TheVariants.{Repeated, Unexpected, WrongKind};
 ghost use Rattle.al_base.specs.declared.codes.KeyCode.TheVariants.{WrongType};
 ghost use Rattle.al_tree.specs.Faults.{key_fault, root_faults};
 ghost use Rattle.al_tree.specs.Rows.Files as file;

@@ -2,7 +2,8 @@
 
 ghost use Rattle.al_tree.specs.Faults.{root_faults};
 ghost use Rattle.al_base.specs.Growth.{SameSet};
-ghost use Rattle.al_tree.specs.declared.table.Shape.TheVariants.{Action as ActionShape, Workflow as WorkflowShape};
+ghost use Rattle.al_tree.specs.declared.table.Shape.TheVariants.{Action as ActionShape};
+ghost use Rattle.al_tree.specs.declared.table.Shape.TheVariants.{Workflow as WorkflowShape};
 ghost use Rattle.al_tree.specs.Files.{key_faults, kind_in, root_of, shape_of};
 ghost use Rattle.al_yaml_tree.specs.View.{view};
 ghost use Rattle.std.specs.Prelude.{◌≡◌, IfOk};
@@ -60,8 +61,8 @@ impl Tree {
     }
 }
 
-/// Reads a document as a workflow, with the faults against the syntax of workflows, in the order of the document. These
-/// are exactly the faults that the table of the syntax gives.
+/// Reads a document as a workflow, with the faults against the syntax of workflows, in the order of
+/// the document. These are exactly the faults that the table of the syntax gives.
 ///
 /// # Errors
 ///
@@ -76,8 +77,8 @@ pub fn read_workflow(alloc: Global, doc: Doc) -> Result<(Workflow, Vec<Fault>), 
     Ok((Workflow { root: doc.root }, faults))
 }
 
-/// Reads a document as an action, with the faults against the syntax of actions, in the order of the document. These
-/// are exactly the faults that the table of the syntax gives.
+/// Reads a document as an action, with the faults against the syntax of actions, in the order of
+/// the document. These are exactly the faults that the table of the syntax gives.
 ///
 /// # Errors
 ///
@@ -102,8 +103,8 @@ pub fn root_shape(kind: FileKind) -> Shape
     }
 }
 
-/// The faults of a document against the syntax of workflows or of actions: those of its keys and values, in report
-/// order, each once.
+/// The faults of a document against the syntax of workflows or of actions: those of its keys and
+/// values, in report order, each once.
 ///
 /// # Errors
 ///

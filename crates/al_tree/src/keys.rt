@@ -1,10 +1,12 @@
 //! The keys of a mapping.
 
 ghost use Rattle.al_base.specs.NamePlaces.{TellsFirsts, is_first_text, text_place, text_position};
-ghost use Rattle.al_tree.specs.Keys.{IsIndexOf, has_first, holds, key_of as key_in, keys_in, repeats};
+ghost use Rattle.al_tree.specs.Keys.{IsIndexOf, has_first, holds, key_of as key_in, keys_in};
+ghost use Rattle.al_tree.specs.Keys.{repeats};
 ghost use Rattle.al_tree.specs.Faults.{is_key};
 ghost use Rattle.al_yaml_tree.specs.View.{entry_view};
-ghost use Rattle.std.specs.Prelude.{◌≡◌, ◌<◌, find, length, map, option_map, slice_index_or, take, IfOk, []};
+ghost use Rattle.std.specs.Prelude.{◌≡◌, ◌<◌, find, length, map, option_map, slice_index_or, take};
+ghost use Rattle.std.specs.Prelude.{IfOk, []};
 
 use al_base::TextPositions;
 use al_yaml_tree::Entry;
@@ -52,8 +54,8 @@ pub struct KeyIndex<'a> {
 }
 
 impl<'a> KeyIndex<'a> {
-    /// The keys of some entries. With few entries it takes no time and doesn't allocate. Fails with `AllocError` if
-    /// memory runs out.
+    /// The keys of some entries. With few entries it takes no time and doesn't allocate. Fails with
+    /// `AllocError` if memory runs out.
     #[tactic(auto, using(crate::proofs::KeyLemmas::few_keys, crate::proofs::KeyLemmas::many_keys))]
     #[inline(always)]
     pub fn of(alloc: Global, entries: &'a [Entry]) -> Result<KeyIndex<'a>, AllocError>

@@ -1,8 +1,9 @@
-//! Workflows and actions: which files they are, their trees, the faults of a tree against GitHub's syntax, and what a file declares by
-//! names.
+//! Workflows and actions: which files they are, their trees, the faults of a tree against GitHub's
+//! syntax, and what a file declares by names.
 //!
-//! The syntax is a table of sections (`rule_of`). `text_under(step, "shell")` gives the value under a key of any node. Inputs, secrets and
-//! outputs are declared by names, which are the same in any ASCII case; of equal ones the first counts.
+//! The syntax is a table of sections (`rule_of`). `text_under(step, "shell")` gives the value under
+//! a key of any node. Inputs, secrets and outputs are declared by names, which are the same in any
+//! ASCII case; of equal ones the first counts.
 #![tactic(auto)]
 
 mod below;
@@ -30,9 +31,9 @@ pub use files::{
 pub use inputs::{InputType, input_of};
 pub use keys::{EntryKey, FEW_KEYS, KeyIndex, KeySet, key_of};
 pub use kinds::{file_kind, is_action, is_workflow, is_workflow_name};
-pub use names::{is_combination_key, is_event};
+pub use names::{event_names, is_combination_key, is_event};
 pub use scalars::{contains_chunk, is_null_scalar, scalar_fault};
-pub use standings::{Standing, refine, runs_of, standing_of};
+pub use standings::{NODE_VERSIONS, Standing, refine, runs_of, standing_of};
 pub use table::{Clash, Keys, Need, Others, Row, Rule, ScalarSet, Shape, Trigger, rule_of};
 pub use values::{
     Member, items, items_under, key, key_texts, member_positions, members, members_under, text,

@@ -1,7 +1,7 @@
 //! The keys of a matrix that aren't rows, and the names of the events.
 
-ghost use Rattle.al_tree.specs.Names.{is_combination_key as combination_key, is_event as event};
-ghost use Rattle.std.specs.Prelude.{◌≡◌};
+ghost use Rattle.al_tree.specs.Names.{event_names as names, is_combination_key as combination_key, is_event as event};
+ghost use Rattle.std.specs.Prelude.{◌≡◌, map};
 
 use al_base::is_among;
 
@@ -52,6 +52,13 @@ pub fn is_combination_key(key: &[u8]) -> bool
     ensures { result ≡ combination_key key.now }
 {
     is_among(key, &["include", "exclude"])
+}
+
+/// The names of the events. Doesn't allocate.
+pub fn event_names() -> &'static [&'static str]
+    ensures { map (λ n. n.now) result.now ≡ names }
+{
+    &EVENTS
 }
 
 /// Whether a text is the name of an event.

@@ -1,5 +1,5 @@
-//! The keys of each section of GitHub's syntax for workflows and actions, one row per key. `specs/Table.antt` has the
-//! same rows.
+//! The keys of each section of GitHub's syntax for workflows and actions, one row per key.
+//! `specs/Table.antt` has the same rows.
 
 use crate::table::Clash::{After, Beside, Never};
 use crate::table::Need::{May, Must, Unless};

@@ -1,8 +1,10 @@
-//! The standing of a key in its mapping: known, unknown, repeated, or beside a key that excludes it.
+//! The standing of a key in its mapping: known, unknown, repeated, or beside a key that excludes
+//! it.
 
 ghost use Rattle.al_tree.specs.Faults.{clash_with};
 ghost use Rattle.al_tree.specs.Faults.{is_needed as needed, mapping_shape};
-ghost use Rattle.al_tree.specs.Faults.{runs_of as runs, standing as stands, standing_view, takes_null as null_taken};
+ghost use Rattle.al_tree.specs.Faults.{runs_of as runs, standing as stands, standing_view};
+ghost use Rattle.al_tree.specs.Faults.{takes_null as null_taken};
 ghost use Rattle.al_tree.specs.Keys.{holds};
 ghost use Rattle.al_tree.specs.Table.{clash_of, field_view, keys_view, need_of};
 ghost use Rattle.al_yaml_tree.specs.View.{entry_view};
@@ -16,11 +18,14 @@ use crate::table::{Clash, Keys, Need, Others, Row, Shape, Trigger};
 use al_base::is_among;
 use al_yaml_tree::Entry;
 
+/// The values of `using` of an action that Node runs.
+pub const NODE_VERSIONS: [&str; 4] = ["node12", "node16", "node20", "node24"];
+
 /// The section of `runs`, depending on `using`.
 pub fn runs_of(using_text: &[u8]) -> Shape
     ensures { result ≡ runs using_text.now }
 {
-    if is_among(using_text, &["node12", "node16", "node20", "node24"]) {
+    if is_among(using_text, &NODE_VERSIONS) {
         Shape::NodeRuns
     } else if using_text == "composite".as_bytes() {
         Shape::CompositeRuns
@@ -77,11 +82,13 @@ pub(crate) fn is_needed(need: Need, all: KeySet<'_>) -> bool
 pub enum Standing {
     /// An earlier entry has the same key.
     Repeated,
-    /// The mapping doesn't have this key. The text is a key that is present and that the entry can't stand beside.
+    /// The mapping doesn't have this key. The text is a key that is present and that the entry
+    /// can't stand beside.
     Unexpected(Option<&'static str>),
     /// The entry isn't checked.
     Ignored,
-    /// The value should have this shape. The text is a key that is present and that the entry can't stand beside.
+    /// The value should have this shape. The text is a key that is present and that the entry can't
+    /// stand beside.
     Expected(Shape, Option<&'static str>),
 }
 
@@ -104,7 +111,8 @@ fn clash(clash: Clash, seen: KeySet<'_>, all: KeySet<'_>) -> Option<&'static str
     }
 }
 
-/// The standing of an entry with a key, after the keys seen so far, in a mapping with all these keys.
+/// The standing of an entry with a key, after the keys seen so far, in a mapping with all these
+/// keys.
 #[inline(always)]
 pub fn standing_of(keys: Keys, key: EntryKey<'_>, all: KeySet<'_>) -> Standing
     ensures { standing_view result

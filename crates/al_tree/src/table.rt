@@ -100,7 +100,8 @@ pub enum Clash {
     Beside(&'static str),
 }
 
-/// A key of a section: the shape of its value, whether it is required, and the key it can't stand beside.
+/// A key of a section: the shape of its value, whether it is required, and the key it can't stand
+/// beside.
 #[derive(Clone, Copy)]
 pub struct Row {
     pub key: &'static str,
@@ -133,7 +134,8 @@ pub enum Keys {
     These(&'static [Row], Others),
 }
 
-/// What a shape accepts: scalars, sequences of items with a shape (none if there is no such shape), and mappings.
+/// What a shape accepts: scalars, sequences of items with a shape (none if there is no such shape),
+/// and mappings.
 #[derive(Clone, Copy)]
 pub struct Rule {
     pub scalars: ScalarSet,
@@ -141,8 +143,8 @@ pub struct Rule {
     pub keys: Keys,
 }
 
-// What a shape accepts: which scalars; the shape of the items of a sequence; and for a mapping, either any key with
-// values of a shape, or the keys of a section and the meaning of all others.
+// What a shape accepts: which scalars; the shape of the items of a sequence; and for a mapping,
+// either any key with values of a shape, or the keys of a section and the meaning of all others.
 macro_rules! rule {
     ($scalars:ident) => {
         rule!(@ $scalars, None, Keys::No)

@@ -2,7 +2,8 @@
 
 ghost use Rattle.al_base.specs.NamePlaces.{TellsFirsts, is_first_name, name_place, name_position};
 ghost use Rattle.al_tree.specs.Keys.{keys_in};
-ghost use Rattle.al_tree.specs.Values.{entries_at, entries_in, items_at, items_in, key_at, member_of, text_at_key, text_in};
+ghost use Rattle.al_tree.specs.Values.{entries_at, entries_in, items_at, items_in, key_at};
+ghost use Rattle.al_tree.specs.Values.{member_of, text_at_key, text_in};
 ghost use Rattle.al_tree.specs.Values.{texts_at, texts_in, value_at};
 ghost use Rattle.al_yaml_tree.specs.View.{view};
 ghost use Rattle.std.specs.Option.{option_copied};
@@ -23,7 +24,8 @@ pub fn items(node: &Node) -> &[Node]
     node.sequence().unwrap_or(&[])
 }
 
-/// The value of the first entry with a key, compared exactly; `None` if there is none or the node isn't a mapping.
+/// The value of the first entry with a key, compared exactly; `None` if there is none or the node
+/// isn't a mapping.
 #[tactic(auto, using(al_yaml_tree::proofs::ViewLemmas::entry_parts))]
 pub fn value<'a>(node: &'a Node, key: &str) -> Option<&'a Node>
     ensures { option_map (λ n. view n.now) result ≡ value_at key.now (view node.now) }
@@ -46,14 +48,16 @@ pub fn text(node: &Node) -> Option<&Scalar>
     node.scalar().filter(|scalar| !is_null_scalar(scalar))
 }
 
-/// The scalar under a key; `None` if it is null, if there is no such key, or if the value isn't a scalar.
+/// The scalar under a key; `None` if it is null, if there is no such key, or if the value isn't a
+/// scalar.
 pub fn text_under<'a>(node: &'a Node, key: &str) -> Option<&'a Scalar>
     ensures { option_copied result ≡ text_at_key key.now (view node.now) }
 {
     text(value(node, key)?)
 }
 
-/// The scalars of a node that is a scalar or a sequence of scalars, in order, without those that are null.
+/// The scalars of a node that is a scalar or a sequence of scalars, in order, without those that
+/// are null.
 ///
 /// # Errors
 ///
@@ -71,8 +75,8 @@ pub fn texts(alloc: Global, node: &Node) -> Result<Vec<&Scalar>, AllocError>
     Ok(found)
 }
 
-/// The scalars under a key whose value is a scalar or a sequence of scalars, without those that are null. Fails with
-/// `AllocError` if memory runs out.
+/// The scalars under a key whose value is a scalar or a sequence of scalars, without those that are
+/// null. Fails with `AllocError` if memory runs out.
 pub fn texts_under<'a>(
     alloc: Global,
     node: &'a Node,
@@ -100,7 +104,8 @@ pub struct Member<'a> {
     pub value: &'a Node,
 }
 
-/// The entries of a mapping in order, only the first of equal keys; no entries if the node isn't a mapping.
+/// The entries of a mapping in order, only the first of equal keys; no entries if the node isn't a
+/// mapping.
 ///
 /// # Errors
 ///
@@ -124,7 +129,8 @@ pub fn members(alloc: Global, node: &Node) -> Result<Vec<Member<'_>>, AllocError
     Ok(firsts)
 }
 
-/// The entries of the mapping under a key in order, only the first of equal keys; no entries if there is no mapping.
+/// The entries of the mapping under a key in order, only the first of equal keys; no entries if
+/// there is no mapping.
 ///
 /// # Errors
 ///
@@ -153,7 +159,8 @@ pub fn key_texts<'a>(alloc: Global, members: &[Member<'a>]) -> Result<Vec<&'a [u
     Ok(keys)
 }
 
-/// The first position of the key of each member, ignoring ASCII case. Fails with `AllocError` if memory runs out.
+/// The first position of the key of each member, ignoring ASCII case. Fails with `AllocError` if
+/// memory runs out.
 pub fn member_positions(alloc: Global, members: &[Member<'_>]) -> Result<NamePositions, AllocError>
     ensures position { IfOk result (λ p. name_position p ≡ name_place (keys_in (map member_of members.now))) }
     ensures first { let ks = keys_in (map member_of members.now) in

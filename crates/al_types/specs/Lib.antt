@@ -1,11 +1,8 @@
-pub mod Names
 pub mod Types
 pub mod Fused
 pub mod Presence
 pub mod FusedFields
 pub mod Puts
-pub mod Signatures
 pub mod Strings
-pub mod Scopes
 pub mod TypeParts
 pub mod Indexes

@@ -14,9 +14,11 @@ put_new (q ∷ qs) p = if same_name q.0 p.0 then q ∷ qs else q ∷ put_new qs 
 -- adds a name with a type: fused with that of an equal name, otherwise at the end
 abbrev pub put_or_fuse : List TypedName → TypedName → List TypedName
 put_or_fuse [] p = p ∷ []
-put_or_fuse (q ∷ qs) p = if same_name q.0 p.0 then (q.0, fuse_type q.1 p.1) ∷ qs else q ∷ put_or_fuse qs p
+put_or_fuse (q ∷ qs) p = if same_name q.0 p.0 then (q.0, fuse_type q.1 p.1) ∷ qs
+    else q ∷ put_or_fuse qs p
 
-abbrev pub put_all : (List TypedName → TypedName → List TypedName) → List TypedName → List TypedName → List TypedName
+abbrev pub put_all : (List TypedName → TypedName → List TypedName) → List TypedName → List TypedName
+    → List TypedName
 put_all put_one ts [] = ts
 put_all put_one ts (p ∷ ps) = put_all put_one (put_one ts p) ps
 

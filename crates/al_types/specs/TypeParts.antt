@@ -2,7 +2,8 @@
 use Rattle.std.specs.Prelude.{Bool, true, false, Option, Some, None}
 use Rattle.al_types.specs.declared.forms.Form.{Form}
 use Rattle.al_types.specs.declared.forms.Form.TheVariants as form
-use Rattle.al_types.specs.Types.{Type', Any, Null, Number, Bool', String, ArrayOf, ObjectOf, Optional, Absent, Present, fuse_type}
+use Rattle.al_types.specs.Types.{Type', Any, Null, Number, Bool', String, ArrayOf, ObjectOf}
+use Rattle.al_types.specs.Types.{Optional, Absent, Present, fuse_type}
 
 abbrev pub form_of : Type' → Form
 form_of Any = form.Any

@@ -1,12 +1,15 @@
--- The types of expressions: which can be used where another is expected, and what two have in common.
-use Rattle.std.specs.Prelude.{ℕ, List, [], ◌∷◌, Bool, true, false, ◌&&◌, ◌||◌, not, if◌then◌else◌, Option, Some, None}
+-- The types of expressions: which can be used where another is expected, and what two have in
+-- common.
+use Rattle.std.specs.Prelude.{ℕ, List, [], ◌∷◌, Bool, true, false, ◌&&◌, ◌||◌, not, if◌then◌else◌}
+use Rattle.std.specs.Prelude.{Option, Some, None}
 use Rattle.al_base.specs.Names.{same_name}
 
 mutual
   pub data Type' : Type 0 where
     Any Null Number Bool' String : Type'
     ArrayOf : Type' → Type'
-    -- by the type of the field with each name, that of all other fields, and what all of them have in common
+    -- by the type of the field with each name, that of all other fields, and what all of them have
+    -- in common
     ObjectOf : (List ℕ → Optional) → Optional → Optional → Type'
 
   -- a type, if there is one
@@ -52,8 +55,9 @@ assignable_type (ArrayOf a) (ArrayOf b) = assignable_type a b
 assignable_type (ObjectOf at rest all) (ObjectOf bt other both) = true
 assignable_type from to = false
 
--- What two types have in common: a type has itself in common with itself, two other plain types a string, arrays what their elements
--- have, objects all fields of both, those with one name fused; otherwise any.
+-- What two types have in common: a type has itself in common with itself, two other plain types a
+-- string, arrays what their elements have, objects all fields of both, those with one name fused;
+-- otherwise any.
 abbrev mutual
   pub fuse_type : Type' → Type' → Type'
   fuse_type Any b = Any
@@ -88,7 +92,8 @@ abbrev pub common_in : Fields → Optional
 common_in [] = Absent
 common_in (f ∷ fs) = fuse_optional (Present f.1) (common_in fs)
 
--- an object, by the type of the field with each name, that of all other fields, and what all of them have in common
+-- an object, by the type of the field with each name, that of all other fields, and what all of
+-- them have in common
 abbrev pub Parts : Type 0
 Parts = (List ℕ → Optional) × Optional × Optional
 
@@ -112,8 +117,8 @@ abbrev pub or_else : Optional → Optional → Optional
 or_else Absent o = o
 or_else (Present t) o = Present t
 
--- the type of an object's property: that of the field with its name, otherwise that of all other fields; other types
--- have none
+-- the type of an object's property: that of the field with its name, otherwise that of all other
+-- fields; other types have none
 abbrev pub property_in : List ℕ → Type' → Option Type'
 property_in n (ObjectOf at rest all) = option_of (or_else (at n) rest)
 property_in n _ = None

@@ -3,8 +3,6 @@
 #![tactic(auto)]
 
 #[cfg(test)]
-mod calls;
-#[cfg(test)]
 mod declared;
 #[cfg(test)]
 mod documents;
@@ -14,6 +12,8 @@ mod files;
 mod formats;
 #[cfg(test)]
 mod graphs;
+#[cfg(test)]
+mod interfaces;
 #[cfg(test)]
 mod longest_text;
 #[cfg(test)]

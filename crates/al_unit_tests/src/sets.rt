@@ -2,10 +2,10 @@
 
 use crate::files::{document, env_at, nothing_known};
 use al_check_contexts::File;
-use al_check_places::{available, placed_scalars, rows};
+use al_check_places::{available, placed_scalars};
+use al_expr_names::{Available, CONTEXTS, SPECIAL_FUNCTIONS};
 use al_expr_typing::Scope;
 use al_tree::FileKind;
-use al_types::{Available, CONTEXTS, SPECIAL_FUNCTIONS};
 use std::alloc::{AllocError, Global};
 
 const WORKFLOW: &[u8] = b"name: '${{ anything }}'
@@ -135,10 +135,8 @@ fn count_at(keys: &[&[u8]]) -> Option<usize> {
 }
 
 #[test]
-fn worked_rows(_rt: HostRuntime) {
-    rows();
+fn law_of_places(_rt: HostRuntime) {
     placed_scalars();
-    al_check_contexts::rows();
 }
 
 #[test]

@@ -6,9 +6,9 @@ use crate::files::{document, env_at, nothing_known};
 use crate::shown::shown;
 use al_check_contexts::{Answer, Answers, Env, File};
 use al_check_places::places;
+use al_expr_names::Context;
 use al_expr_types::{Name, NameList};
 use al_tree::FileKind;
-use al_types::Context;
 use std::alloc::{AllocError, Global};
 
 /// The text of a place, a context, and its type there.

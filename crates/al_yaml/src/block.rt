@@ -1,7 +1,10 @@
-//! Reading nodes in block context from front to back: the loop over the open block collections, and its steps.
+//! Reading nodes in block context from front to back: the loop over the open block collections, and
+//! its steps.
 
-ghost use Rattle.al_yaml.specs.Private.BlockFrames.{Enters, FindsBlock, IsEntered, IsFoundFrom, IsNextAt, IsNodeAt};
-ghost use Rattle.al_yaml.specs.Private.BlockFrames.{IsNextInside, IsOpenAt, IsReadBefore, IsRestAt, IsResumed, ResumesBlock};
+ghost use Rattle.al_yaml.specs.Private.BlockFrames.{Enters, FindsBlock, IsEntered, IsFoundFrom};
+ghost use Rattle.al_yaml.specs.Private.BlockFrames.{IsNextAt, IsNodeAt};
+ghost use Rattle.al_yaml.specs.Private.BlockFrames.{IsNextInside, IsOpenAt, IsReadBefore, IsRestAt};
+ghost use Rattle.al_yaml.specs.Private.BlockFrames.{IsResumed, ResumesBlock};
 ghost use Rattle.al_yaml.specs.Private.BlockFrames.{block_open_of, block_rest, block_waiting_of};
 ghost use Rattle.al_yaml_parts.specs.BlockReads.{next_found, slot_of};
 ghost use Rattle.al_yaml_tree.specs.Blocks as block;
@@ -9,7 +12,8 @@ ghost use Rattle.al_yaml_parts.specs.Files.{left_at, size};
 ghost use Rattle.al_yaml_parts.specs.Places.{Shows, next_of, option_lines};
 ghost use Rattle.al_yaml_parts.specs.Reads.{IsPartAfter, IsRead, IsStopInside, part_of, state_of};
 ghost use Rattle.al_yaml_parts.specs.Stacks.{HasRoom, depth_in};
-ghost use Rattle.std.specs.Prelude.{IfErr, IfOk, IfSome, Ok, [], length, suc, ℕ, ◌+◌, ◌<◌, ◌≡◌, ◌≤◌};
+ghost use Rattle.std.specs.Prelude.{IfErr, IfOk, IfSome, Ok, [], length, suc, ℕ, ◌+◌, ◌<◌, ◌≡◌};
+ghost use Rattle.std.specs.Prelude.{◌≤◌};
 
 use crate::block_nodes::read_node;
 use crate::entries::{entry_key, no_entry};
@@ -29,8 +33,9 @@ use al_yaml_parts::scalars::empty_part;
 use al_yaml_parts::slots::{Cursor, Slot, Spot, is_deeper, spot_after};
 use al_yaml_tree::{Entry, Node, entry_of};
 
-/// The part of an open block collection read so far: for a sequence, the items before a dash, and whether it is the
-/// value of a mapping entry; for a mapping, the entries before a key, and the key.
+/// The part of an open block collection read so far: for a sequence, the items before a dash, and
+/// whether it is the value of a mapping entry; for a mapping, the entries before a key, and the
+/// key.
 #[derive(Drop)]
 pub enum BlockOpen {
     Items(bool, Vec<Node>),
@@ -60,8 +65,8 @@ pub struct OpenBlock {
     pub at: usize,
 }
 
-/// What is read next: a node; the innermost collection; or what follows a node that was read, with or without the next
-/// content line.
+/// What is read next: a node; the innermost collection; or what follows a node that was read, with
+/// or without the next content line.
 #[derive(Drop)]
 pub enum BlockTask {
     Node(NodePlace),
@@ -70,7 +75,8 @@ pub enum BlockTask {
     Found(PartBefore),
 }
 
-/// Finds the node after a dash, a colon or an anchor, on its line or else below it; or reads the empty node.
+/// Finds the node after a dash, a colon or an anchor, on its line or else below it; or reads the
+/// empty node.
 #[inline(always)]
 pub fn find_rest(
     file: &File,
@@ -135,7 +141,8 @@ fn find_below(
     }
 }
 
-/// Continues the innermost collection at a dash or a key: gives the waiting collection, and the node it waits for.
+/// Continues the innermost collection at a dash or a key: gives the waiting collection, and the
+/// node it waits for.
 fn enter(
     file: &File,
     state: &mut State,
@@ -176,7 +183,8 @@ fn enter(
     }
 }
 
-/// The next entry of a collection at a column of the next content line, if the collection continues there.
+/// The next entry of a collection at a column of the next content line, if the collection continues
+/// there.
 fn entry_on(bytes: &[u8], column: usize, next: Next) -> Result<Option<usize>, FaultAt>
     requires { IsNextInside (length bytes.now) next }
     ensures fault { IfErr result (λ f. f.at ≤ length bytes.now) }

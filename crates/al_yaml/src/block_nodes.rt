@@ -11,7 +11,8 @@ ghost use Rattle.al_yaml_tree.specs.Flow as flow;
 ghost use Rattle.al_yaml_tree.specs.Keys as keys;
 ghost use Rattle.al_yaml_parts.specs.Reads.{IsPartAfter, IsRead, IsStopInside, part_of, state_of};
 ghost use Rattle.al_yaml_parts.specs.Stacks.{depth_in};
-ghost use Rattle.std.specs.Prelude.{IfErr, IfOk, [], length, not, suc, true, ℕ, ◌&&◌, ◌+◌, ◌<◌, ◌||◌, ◌≡◌, ◌≤◌};
+ghost use Rattle.std.specs.Prelude.{IfErr, IfOk, [], length, not, suc, true, ℕ, ◌&&◌, ◌+◌, ◌<◌};
+ghost use Rattle.std.specs.Prelude.{◌||◌, ◌≡◌, ◌≤◌};
 
 use crate::block::{BlockOpen, BlockTask, NodePlace, OpenBlock, find_rest};
 use crate::flow::read_flow_collection;
@@ -80,7 +81,8 @@ fn read_line_flow(
     Ok(Part { next, ..part })
 }
 
-/// Reads a node in block context, starting at its first character. If it is a block collection, begins that collection.
+/// Reads a node in block context, starting at its first character. If it is a block collection,
+/// begins that collection.
 pub fn read_node(
     file: &File,
     progress: &mut Progress,
@@ -123,7 +125,8 @@ pub fn read_node(
     Ok(BlockTask::Read(part))
 }
 
-/// Reads an alias, or finds the node after an anchor. An anchor can't be followed by another anchor or an alias.
+/// Reads an alias, or finds the node after an anchor. An anchor can't be followed by another anchor
+/// or an alias.
 fn read_property(
     file: &File,
     progress: &mut Progress,

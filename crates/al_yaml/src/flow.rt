@@ -5,14 +5,17 @@ ghost use Rattle.al_yaml_tree.specs.Content as content;
 ghost use Rattle.al_yaml_parts.specs.Files.{left_at, size};
 ghost use Rattle.al_yaml_tree.specs.Flow as flow;
 ghost use Rattle.al_yaml.specs.Private.FlowAnswers.{Answers, AfterNode, Inside, NodeAnswer};
-ghost use Rattle.al_yaml.specs.Private.FlowFrames.{AreOpen, IsFurther, IsPut, Opens, after_at, closed_of, frame_of, open_of};
+ghost use Rattle.al_yaml.specs.Private.FlowFrames.{AreOpen, IsFurther, IsPut, Opens, after_at};
+ghost use Rattle.al_yaml.specs.Private.FlowFrames.{closed_of, frame_of, open_of};
 ghost use Rattle.al_yaml_tree.specs.Limits.{broken_limit};
 ghost use Rattle.al_yaml_tree.specs.Reading.{start_of};
 ghost use Rattle.al_yaml_parts.specs.declared.frames.FlowFrame as frame_code;
 ghost use Rattle.al_yaml_parts.specs.Reads as reads;
-ghost use Rattle.al_yaml_parts.specs.Reads.{IsPartAfter, IsRead, IsStopInside, with_nodes, part_of, state_of};
+ghost use Rattle.al_yaml_parts.specs.Reads.{IsPartAfter, IsRead, IsStopInside, with_nodes, part_of};
+ghost use Rattle.al_yaml_parts.specs.Reads.{state_of};
 ghost use Rattle.al_yaml_tree.specs.View.{view};
-ghost use Rattle.std.specs.Prelude.{IfErr, IfOk, List, None, [], length, map, true, ℕ, ◌+◌, ◌<◌, ◌^◌, ◌∷◌, ◌≡◌, ◌≤◌};
+ghost use Rattle.std.specs.Prelude.{IfErr, IfOk, List, None, [], length, map, true, ℕ, ◌+◌, ◌<◌};
+ghost use Rattle.std.specs.Prelude.{◌^◌, ◌∷◌, ◌≡◌, ◌≤◌};
 
 use crate::flow_items::{After, FlowPlace, FlowStep, read_inside, resume};
 use al_scalar::lines::begins;
@@ -98,7 +101,8 @@ fn resume_outer(
     Ok(OpenFlow { opening, has, next })
 }
 
-/// Continues in an open collection: up to what follows its next node, or to what comes first in a nested collection.
+/// Continues in an open collection: up to what follows its next node, or to what comes first in a
+/// nested collection.
 #[inline(always)]
 fn read_on(
     file: &File,

@@ -29,15 +29,16 @@ use al_yaml_parts::lines::is_text_end;
 use al_yaml_parts::part::Part;
 use al_yaml_tree::{Entry, Node, entry_of};
 
-/// What follows an item: a comma, with the offset of what comes next, or the closing bracket, with the offset after it.
+/// What follows an item: a comma, with the offset of what comes next, or the closing bracket, with
+/// the offset after it.
 #[derive(Clone, Copy)]
 pub enum After {
     GoesOn(usize),
     Closes(usize),
 }
 
-/// The position in an open flow collection: where it begins, where reading continues, and the depth of a nested
-/// collection.
+/// The position in an open flow collection: where it begins, where reading continues, and the depth
+/// of a nested collection.
 #[derive(Clone, Copy)]
 pub struct FlowPlace {
     pub opening: usize,
@@ -45,7 +46,8 @@ pub struct FlowPlace {
     pub depth: u32,
 }
 
-/// How far one step reads: up to what follows a node, or to the opening bracket of a nested collection.
+/// How far one step reads: up to what follows a node, or to the opening bracket of a nested
+/// collection.
 #[derive(Clone, Copy)]
 pub enum FlowStep {
     AfterNode(After),
@@ -118,7 +120,8 @@ fn put_entry(
     Ok(after_item(file.bytes, opening, b'}', gap_end(file.bytes, part.next))?)
 }
 
-/// Reads an open mapping, not at its closing bracket, up to what follows its next entry or to an opening bracket in it.
+/// Reads an open mapping, not at its closing bracket, up to what follows its next entry or to an
+/// opening bracket in it.
 #[inline(never)]
 fn read_entry(
     file: &File,
@@ -167,7 +170,8 @@ fn closer(has: &Open) -> u8
     }
 }
 
-/// Reads an open collection up to what follows its next node, to its closing bracket, or to an opening bracket in it.
+/// Reads an open collection up to what follows its next node, to its closing bracket, or to an
+/// opening bracket in it.
 pub fn read_inside(
     file: &File,
     state: &mut State,

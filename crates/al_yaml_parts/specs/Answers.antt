@@ -37,7 +37,8 @@ mark_at bytes at = record { name = anchor_name (lines_at bytes at); at = at }
 abbrev pub mark_of : List ℕ → Option ℕ → Option Mark
 mark_of bytes anchor = option_map (mark_at bytes) anchor
 
--- reads a node, and then adds its anchor, if it has one; the offset is that of the anchor's indicator
+-- reads a node, and then adds its anchor, if it has one; the offset is that of the anchor's
+-- indicator
 abbrev pub completing : List ℕ → Option ℕ → Reading (Part Node) → Reading (Part Node)
 completing bytes None r = r
 completing bytes (Some at) r = r >>= (λ x. gives_with_anchor (anchor_at bytes at x.value) x)

@@ -1,5 +1,6 @@
 -- Terms of contracts for keys and slots of block collections.
-use Rattle.std.specs.Prelude.{ℕ, ◌<◌, ◌≤◌, List, length, ◌==◌, nat_lt, if◌then◌else◌, Option, Some, None, IfSome, Result, Ok}
+use Rattle.std.specs.Prelude.{ℕ, ◌<◌, ◌≤◌, List, length, ◌==◌, nat_lt, if◌then◌else◌, Option, Some}
+use Rattle.std.specs.Prelude.{None, IfSome, Result, Ok}
 use Rattle.al_base.specs.declared.codes.YamlCode.TheVariants as yaml
 use Rattle.al_scalar.specs.Line.{Line, start, blanks_dropped}
 use Rattle.al_scalar.specs.ReadScalar.{read_of}
@@ -33,13 +34,15 @@ IsOptionKey bytes at (Some key) = IsKeyAfter bytes at key
 
 -- the lines after the colon that follows a scalar
 abbrev pub after_colon_in_block : List Line → Option (List Line)
-after_colon_in_block ls = if keys.has_colon ls then Some (content.past 1 (blanks_dropped ls)) else None
+after_colon_in_block ls = if keys.has_colon ls
+    then Some (content.past 1 (blanks_dropped ls)) else None
 
 -- the next entry of a collection in a column, on the next content line, if there is one
 abbrev pub next_found : ℕ → content.Next → Result (Option (List Line)) FaultAt
 next_found column content.ended = Ok None
 next_found column (content.at_line i left) =
-    if i == column then Ok (Some left) else (if nat_lt i column then Ok None else fault yaml.WrongIndentation (start left))
+    if i == column then Ok (Some left)
+    else (if nat_lt i column then Ok None else fault yaml.WrongIndentation (start left))
 
 abbrev pub spot_of : Spot → block.Spot
 spot_of spot.OwnLine = block.own_line

@@ -1,5 +1,6 @@
 -- Terms of contracts for keys and nodes of flow collections that are read up to a bracket.
-use Rattle.std.specs.Prelude.{◌≡◌, ℕ, ◌<◌, ◌≤◌, List, length, true, Option, Some, None, Result, Ok, Err}
+use Rattle.std.specs.Prelude.{◌≡◌, ℕ, ◌<◌, ◌≤◌, List, length, true, Option, Some, None, Result, Ok}
+use Rattle.std.specs.Prelude.{Err}
 use Rattle.al_base.specs.declared.codes.YamlCode.TheVariants as yaml
 use Rattle.al_scalar.specs.ReadScalar.{read_of}
 use Rattle.al_scalar.specs.Places.{lines_at, text_at}
@@ -20,7 +21,8 @@ use Rattle.al_yaml_parts.specs.declared.flow_nodes.FoundKey.{FoundKey}
 use Rattle.al_yaml_parts.specs.declared.flow_nodes.FoundKey.TheVariants as found_key
 
 abbrev pub flow_key_of : List ℕ → FlowKey → flow.FlowKey
-flow_key_of bytes key = record { read = read_of bytes key.read; after = option_lines bytes key.colon }
+flow_key_of bytes key =
+    record { read = read_of bytes key.read; after = option_lines bytes key.colon }
 
 abbrev pub IsColonInside : ℕ → ℕ → Option ℕ → Type 0
 IsColonInside from size None = Unit {0}
@@ -33,20 +35,25 @@ pub record IsKeyInside (bytes : List ℕ) (at : ℕ) (key : FlowKey) : Type 0 wh
 -- ---- what is found at an offset, for any reader of collections
 
 -- a node that was read whole, or the bracket of a collection
-abbrev pub Finds : List ℕ → (CollectionReader → Reading (Part tree.Node)) → ℕ → State → Result FoundNode ReadError → State → Type 0
+abbrev pub Finds : List ℕ → (CollectionReader → Reading (Part tree.Node)) → ℕ → State
+    → Result FoundNode ReadError → State → Type 0
 Finds bytes reading depth before (Ok (found.Node p)) after =
     (c : CollectionReader) → run before (reading c) ≡ Ok (part_of bytes p, after)
 Finds bytes reading depth before (Ok (found.Opens b)) after =
-    (c : CollectionReader) → run before (reading c) ≡ noting (mark_of bytes b.anchor) (run after (c depth (lines_at bytes b.at)))
-Finds bytes reading depth before (Err e) after = (c : CollectionReader) → FailsWith (reading c) before e
+    (c : CollectionReader) → run before (reading c)
+    ≡ noting (mark_of bytes b.anchor) (run after (c depth (lines_at bytes b.at)))
+Finds bytes reading depth before (Err e) after =
+    (c : CollectionReader) → FailsWith (reading c) before e
 
-abbrev pub FindsKey : List ℕ → ℕ → (CollectionReader → Reading flow.FlowKey) → ℕ → State → Result FoundKey ReadError → State → Type 0
+abbrev pub FindsKey : List ℕ → ℕ → (CollectionReader → Reading flow.FlowKey) → ℕ → State
+    → Result FoundKey ReadError → State → Type 0
 FindsKey bytes at reading depth before (Ok (found_key.Key k)) after =
     (c : CollectionReader) → run before (reading c) ≡ Ok (flow_key_of bytes k, after)
 FindsKey bytes at reading depth before (Ok found_key.Opens) after =
     (c : CollectionReader) → run before (reading c)
     ≡ run after (c depth (lines_at bytes at) >>= (λ _. fails yaml.WrongKey at))
-FindsKey bytes at reading depth before (Err e) after = (c : CollectionReader) → FailsWith (reading c) before e
+FindsKey bytes at reading depth before (Err e) after =
+    (c : CollectionReader) → FailsWith (reading c) before e
 
 -- a bracket in the file, at or after low
 pub record IsBracket (bytes : List ℕ) (low at : ℕ) : Type 0 where

@@ -18,7 +18,8 @@ abbrev pub next_of : List ℕ → Next → content.Next
 next_of bytes next.Ended = content.ended
 next_of bytes (next.Line indent at) = content.at_line indent (lines_at bytes at)
 
--- a line's first character is in the file, after the line's indent, and not before the offset from which the search began
+-- a line's first character is in the file, after the line's indent, and not before the offset from
+-- which the search began
 abbrev pub IsLineFrom : ℕ → ℕ → Next → Type 0
 IsLineFrom from size next.Ended = Unit {0}
 IsLineFrom from size (next.Line indent at) = (from ≤ at) × (at ≤ size) × (indent ≤ at)
@@ -30,9 +31,11 @@ option_lines bytes (Some at) = Some (lines_at bytes at)
 -- the offset after a colon, if there is one
 abbrev pub IsColon : Option (List Line) → List ℕ → ℕ → Option ℕ → Type 0
 IsColon asked bytes at None = asked ≡ None
-IsColon asked bytes at (Some next) = (asked ≡ Some (lines_at bytes next)) × (at < next) × (next ≤ length bytes)
+IsColon asked bytes at (Some next) =
+    (asked ≡ Some (lines_at bytes next)) × (at < next) × (next ≤ length bytes)
 
--- a scalar begins at an offset and ends no later than the next one to read, which is in the file; its text is in it
+-- a scalar begins at an offset and ends no later than the next one to read, which is in the file;
+-- its text is in it
 pub record IsReadInside (bytes : List ℕ) (at : ℕ) (r : ScalarRead) : Type 0 where
   pub start : r.scalar.span.start ≡ at
   pub from : at ≤ r.scalar.span.end

@@ -1,5 +1,6 @@
 -- Reading with its limits, from one state to the next.
-use Rattle.std.specs.Prelude.{◌≡◌, ℕ, ◌+◌, ◌≤◌, List, length, Bool, false, nat_lt, Option, Some, None, option_map, Result, Ok, Err}
+use Rattle.std.specs.Prelude.{◌≡◌, ℕ, ◌+◌, ◌≤◌, List, length, Bool, false, nat_lt, Option, Some}
+use Rattle.std.specs.Prelude.{None, option_map, Result, Ok, Err}
 use Rattle.std.specs.BTreeMap.{get_by}
 use Rattle.std.specs.Cmp.Lexicographic.{slice_cmp}
 use Rattle.std.specs.Ordering.{nat_cmp}
@@ -8,7 +9,8 @@ use Rattle.al_scalar.specs.declared.faults.FaultAt.{FaultAt}
 use Rattle.al_yaml_tree.specs.Node as tree
 use Rattle.al_scalar.specs.Line.{Line, start}
 use Rattle.al_yaml_tree.specs.Content.{anchor_name, after_name}
-use Rattle.al_yaml_tree.specs.Reading.{Anchor, KnownAnchors, no_anchors, with_anchor, Outcome, Reading, Part}
+use Rattle.al_yaml_tree.specs.Reading.{Anchor, KnownAnchors, no_anchors, with_anchor, Outcome}
+use Rattle.al_yaml_tree.specs.Reading.{Reading, Part}
 use Rattle.al_yaml_tree.specs.Reading.{part, gives, alias, ◌>>=◌}
 use Rattle.al_yaml_tree.specs.Limits.{within_limits, nodes_listed, text_listed}
 use Rattle.al_yaml_tree.specs.View.{view}
@@ -19,7 +21,8 @@ use Rattle.al_yaml_parts.specs.declared.faults.ReadError.TheVariants as stop
 use Rattle.al_yaml_parts.specs.declared.limits.State as state
 use Rattle.al_yaml_parts.specs.declared.part.Part as code
 
--- What was read so far: the number of nodes, the number of bytes of text of aliases' nodes, and the anchors.
+-- What was read so far: the number of nodes, the number of bytes of text of aliases' nodes, and the
+-- anchors.
 pub record State : Type 0 where
   pub nodes : ℕ
   pub text : ℕ
@@ -35,7 +38,8 @@ state_after s o = record { nodes = s.nodes + nodes_listed o.starts; text = s.tex
 abbrev pub run_outcome : {A : Type 0} → State → Outcome A → Result (A × State) FaultAt
 run_outcome s o = with_state (state_after s o) (within_limits s.nodes s.text o)
 
--- What is read from a state on, with the state after it, or the fault or broken limit that is met first.
+-- What is read from a state on, with the state after it, or the fault or broken limit that is met
+-- first.
 unfoldable pub run : {A : Type 0} → State → Reading A → Result (A × State) FaultAt
 run s r = run_outcome s (r s.known)
 
@@ -83,7 +87,8 @@ FailsWith reading before (stop.Fault f) = run before reading ≡ Err f
 FailsWith reading before stop.Memory = Unit {0}
 
 -- what was read in the bytes, with the state before and after, is what the definition reads
-abbrev pub IsRead : {A B : Type 0} → (A → B) → Reading B → State → Result A ReadError → State → Type 0
+abbrev pub IsRead : {A B : Type 0} → (A → B) → Reading B → State → Result A ReadError
+    → State → Type 0
 IsRead seen reading before (Ok x) after = run before reading ≡ Ok (seen x, after)
 IsRead seen reading before (Err e) after = FailsWith reading before e
 

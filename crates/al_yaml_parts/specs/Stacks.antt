@@ -1,4 +1,5 @@
--- A stack of open collections as two lists, the innermost first: flow collections are inside block collections.
+-- A stack of open collections as two lists, the innermost first: flow collections are inside block
+-- collections.
 use Rattle.std.specs.Prelude.{◌≡◌, ℕ, ◌+◌, ◌<◌, List, [], length}
 use Rattle.al_yaml_parts.specs.declared.frames.BlockFrame.{BlockFrame}
 use Rattle.al_yaml_parts.specs.declared.frames.FlowFrame.{FlowFrame}

@@ -1,4 +1,5 @@
-//! Anchors (YAML 1.2.2, 6.9.2), the nodes that they name, and the aliases that stand for them (7.1).
+//! Anchors (YAML 1.2.2, 6.9.2), the nodes that they name, and the aliases that stand for them
+//! (7.1).
 
 ghost use Rattle.al_scalar.specs.Places.{lines_at, text_at};
 ghost use Rattle.al_scalar.specs.LineEnds.{cells_between, with_cells_before};
@@ -6,7 +7,8 @@ ghost use Rattle.al_yaml_tree.specs.Content as content;
 ghost use Rattle.al_yaml_parts.specs.Files.{left_at, size};
 ghost use Rattle.al_yaml_tree.specs.Reading as reading;
 ghost use Rattle.al_yaml_tree.specs.Reading.{with_anchor, no_anchors};
-ghost use Rattle.al_yaml_parts.specs.Reads.{IsRead, IsStopInside, anchor_at, anchors_view, state_of};
+ghost use Rattle.al_yaml_parts.specs.Reads.{IsRead, IsStopInside, anchor_at, anchors_view};
+ghost use Rattle.al_yaml_parts.specs.Reads.{state_of};
 ghost use Rattle.al_yaml_tree.specs.View.{view};
 ghost use Rattle.std.specs.Prelude.{IfErr, IfOk, length, true, ◌+◌, ◌<◌, ◌≡◌, ◌≤◌};
 
@@ -30,8 +32,8 @@ pub struct AnchoredNode {
     pub node: Rc<Node>,
 }
 
-/// The anchors whose nodes are complete; of several with one name, the last in the file. Adding and finding one takes
-/// time logarithmic in their number, and linear in the name's length.
+/// The anchors whose nodes are complete; of several with one name, the last in the file. Adding and
+/// finding one takes time logarithmic in their number, and linear in the name's length.
 #[derive(Drop)]
 pub struct Anchors {
     pub latest: BTreeMap<Vec<u8>, AnchoredNode>,
@@ -103,7 +105,8 @@ impl Anchors {
         }
     }
 
-    /// Adds the anchor whose indicator is at an offset, with its complete node, which is shared from here on.
+    /// Adds the anchor whose indicator is at an offset, with its complete node, which is shared
+    /// from here on.
     ///
     /// Fails with `AllocError` when out of memory.
     #[inline(never)]

@@ -29,7 +29,8 @@ pub fn is_skipped(bytes: &[u8], at: usize) -> bool
     is_text_end(bytes, solid) || begins(bytes, solid, b'#')
 }
 
-/// The first line, from the start of a line on, that isn't blank or a comment; otherwise the file's end.
+/// The first line, from the start of a line on, that isn't blank or a comment; otherwise the file's
+/// end.
 pub fn next_text_line(bytes: &[u8], at: usize) -> usize
     requires { at ≤ length bytes.now }
     ensures from { at ≤ result }
@@ -67,7 +68,8 @@ pub fn next_content(bytes: &[u8], at: usize) -> Result<Next, FaultAt>
     Ok(Next::Line { indent, at: solid })
 }
 
-/// Whether only blanks, which end at `solid`, and perhaps a comment after them are left on the line.
+/// Whether only blanks, which end at `solid`, and perhaps a comment after them are left on the
+/// line.
 fn ends_line(bytes: &[u8], at: usize, solid: usize) -> bool
     requires inside { at ≤ length bytes.now }
     requires solid { line.blanks_dropped (lines_at bytes.now at) ≡ lines_at bytes.now solid }

@@ -10,9 +10,9 @@ use al_base::YamlCode;
 use al_scalar::FaultAt;
 use al_scalar::lines::{begins, blanks_end, indent, is_marker};
 
-/// The start of the root's lines: the first content line from the start of a line on, or the line after a first
-/// `---`; the file's end if there is none (YAML 1.2.2, 9.1). Fails at a directive, and at a character after `---`
-/// that doesn't begin a comment.
+/// The start of the root's lines: the first content line from the start of a line on, or the line
+/// after a first `---`; the file's end if there is none (YAML 1.2.2, 9.1). Fails at a directive,
+/// and at a character after `---` that doesn't begin a comment.
 pub fn document_start(bytes: &[u8], at: usize) -> Result<usize, FaultAt>
     requires { at ≤ length bytes.now }
     ensures fault { IfErr result (λ f. f.at ≤ length bytes.now) }
@@ -31,8 +31,8 @@ pub fn document_start(bytes: &[u8], at: usize) -> Result<usize, FaultAt>
     Ok(line)
 }
 
-/// Checks what comes after the root: nothing, or a `...` with nothing after it. Otherwise fails at the second
-/// document, or at content that belongs to no open collection.
+/// Checks what comes after the root: nothing, or a `...` with nothing after it. Otherwise fails at
+/// the second document, or at content that belongs to no open collection.
 pub fn document_end(bytes: &[u8], at: usize) -> Result<(), FaultAt>
     requires { at ≤ length bytes.now }
     ensures fault { IfErr result (λ f. f.at ≤ length bytes.now) }

@@ -1,4 +1,5 @@
-//! Nodes and keys in flow collections that are read in one step, and brackets where one is expected.
+//! Nodes and keys in flow collections that are read in one step, and brackets where one is
+//! expected.
 
 ghost use Rattle.al_scalar.specs.ReadScalar.{read_of};
 ghost use Rattle.al_scalar.specs.Line as line;
@@ -6,12 +7,15 @@ ghost use Rattle.al_scalar.specs.Places.{lines_at, text_at};
 ghost use Rattle.al_yaml_parts.specs.Files.{left_at, size};
 ghost use Rattle.al_yaml_tree.specs.Flow as flow;
 ghost use Rattle.al_yaml_tree.specs.Content as content;
-ghost use Rattle.al_yaml_parts.specs.FlowReads.{Finds, FindsKey, IsBare, IsFound, IsFoundKey, flow_slot, IsColonInside, IsKeyInside};
-ghost use Rattle.al_yaml_parts.specs.Reads.{alias_part, IsPartAfter, IsRead, IsStopInside, state_with_anchor_at, part_of, state_of};
+ghost use Rattle.al_yaml_parts.specs.FlowReads.{Finds, FindsKey, IsBare, IsFound, IsFoundKey};
+ghost use Rattle.al_yaml_parts.specs.FlowReads.{flow_slot, IsColonInside, IsKeyInside};
+ghost use Rattle.al_yaml_parts.specs.Reads.{alias_part, IsPartAfter, IsRead, IsStopInside};
+ghost use Rattle.al_yaml_parts.specs.Reads.{state_with_anchor_at, part_of, state_of};
 ghost use Rattle.al_yaml_parts.specs.Places.{IsReadInside, Shows, option_lines};
 ghost use Rattle.al_yaml_parts.specs.FlowReads.{flow_key_of};
 ghost use Rattle.al_yaml_tree.specs.View.{view};
-ghost use Rattle.std.specs.Prelude.{IfErr, IfOk, IfSome, false, length, true, ℕ, ◌<◌, ◌||◌, ◌≡◌, ◌≤◌};
+ghost use Rattle.std.specs.Prelude.{IfErr, IfOk, IfSome, false, length, true, ℕ, ◌<◌, ◌||◌, ◌≡◌};
+ghost use Rattle.std.specs.Prelude.{◌≤◌};
 
 use crate::anchors::{has_no_name, property_end};
 use crate::content::gap_end;
@@ -42,24 +46,24 @@ pub struct Bracket {
     pub anchor: Option<usize>,
 }
 
-/// A place in a flow collection where a node is expected: where the collection opens, and where an empty node would
-/// be, if one is allowed.
+/// A place in a flow collection where a node is expected: where the collection opens, and where an
+/// empty node would be, if one is allowed.
 #[derive(Clone, Copy)]
 pub struct FlowSlot {
     pub opening: usize,
     pub empty: Option<usize>,
 }
 
-/// What was found where a node is expected in a flow collection: an alias, a scalar or an empty node, which was read, or the bracket of a
-/// collection.
+/// What was found where a node is expected in a flow collection: an alias, a scalar or an empty
+/// node, which was read, or the bracket of a collection.
 #[derive(Drop)]
 pub enum FoundNode {
     Node(Part),
     Opens(Bracket),
 }
 
-/// What was found where a key is expected in a flow mapping: a scalar, which was read, or the bracket of a
-/// collection.
+/// What was found where a key is expected in a flow mapping: a scalar, which was read, or the
+/// bracket of a collection.
 #[derive(Drop)]
 pub enum FoundKey {
     Key(FlowKey),

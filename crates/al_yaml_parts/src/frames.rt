@@ -5,7 +5,8 @@ use crate::slots::Cursor;
 use al_scalar::ScalarRead;
 use al_yaml_tree::{Entry, Node};
 
-/// The part of an open flow mapping read so far, and the key whose value is the collection being read.
+/// The part of an open flow mapping read so far, and the key whose value is the collection being
+/// read.
 #[derive(Drop)]
 pub struct OpenMapping {
     pub entries: Vec<Entry>,
@@ -19,8 +20,8 @@ pub enum Open {
     Entries(OpenMapping),
 }
 
-/// A flow collection that waits for a collection inside it, whose bracket was found: as an item, as the value of its
-/// key, or in place of a key.
+/// A flow collection that waits for a collection inside it, whose bracket was found: as an item, as
+/// the value of its key, or in place of a key.
 #[derive(Drop)]
 pub struct FlowFrame {
     pub opening: usize,
@@ -28,8 +29,8 @@ pub struct FlowFrame {
     pub inner: Bracket,
 }
 
-/// What a block collection keeps while a node in it is read: the items before it, or the entries before it and the
-/// key whose value it is.
+/// What a block collection keeps while a node in it is read: the items before it, or the entries
+/// before it and the key whose value it is.
 #[derive(Drop)]
 pub enum BlockWaiting {
     Item(bool, Vec<Node>),

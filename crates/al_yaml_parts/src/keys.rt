@@ -27,7 +27,8 @@ use al_scalar::lines::{begins, blanks_end, is_blank_or_end, line_end};
 use al_scalar::{ScalarContext, ScalarRead};
 use std::alloc::AllocError;
 
-/// Whether a scalar read from an offset on can be a key: it is on one line, with at most 1,024 characters.
+/// Whether a scalar read from an offset on can be a key: it is on one line, with at most 1,024
+/// characters.
 pub fn is_simple_key(bytes: &[u8], at: usize, read: &ScalarRead) -> bool
     requires { IsReadInside bytes.now at read.now }
     ensures { result ≡ content.is_simple_key (lines_at bytes.now at) (read_of bytes.now read.now) }
@@ -64,7 +65,8 @@ pub fn has_colon(bytes: &[u8], at: usize) -> bool
     after_colon(bytes, at).is_some()
 }
 
-/// The offset after the colon that separates a flow mapping's key from its value, if one follows on the line.
+/// The offset after the colon that separates a flow mapping's key from its value, if one follows on
+/// the line.
 pub fn after_flow_colon(bytes: &[u8], at: usize, after_quote: bool) -> Option<usize>
     requires { at ≤ length bytes.now }
     ensures { IsColon (flow.after_colon_in_flow after_quote (lines_at bytes.now at)) bytes.now at result }
@@ -95,7 +97,8 @@ pub struct Key {
     pub after: usize,
 }
 
-/// Reads a scalar as far as it tells whether a key begins here: a quoted one whole, a plain one on its line.
+/// Reads a scalar as far as it tells whether a key begins here: a quoted one whole, a plain one on
+/// its line.
 fn key_scalar(file: &File, at: usize) -> Result<ScalarRead, ReadError>
     requires inside { at ≤ size file.now }
     ensures fault { IfErr result (IsStopInside (size file.now)) }
@@ -137,8 +140,8 @@ fn is_key_start(bytes: &[u8], at: usize) -> bool
         || block_fault(bytes, at).is_some())
 }
 
-/// Whether the anchor or alias at an offset belongs to a key: the alias itself, or what follows the anchor on its
-/// line.
+/// Whether the anchor or alias at an offset belongs to a key: the alias itself, or what follows the
+/// anchor on its line.
 pub fn is_on_key(file: &File, at: usize) -> Result<bool, AllocError>
     requires inside { at ≤ size file.now }
     requires property { content.is_property (text_at file.now.bytes.now at) ≡ true }

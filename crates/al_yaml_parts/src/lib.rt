@@ -1,5 +1,6 @@
-//! The parts from which the collections of a YAML file are read: its bytes and lines, scalars, keys, anchors and aliases, and nodes up to
-//! a bracket; with the limits, and the stack of open collections.
+//! The parts from which the collections of a YAML file are read: its bytes and lines, scalars,
+//! keys, anchors and aliases, and nodes up to a bracket; with the limits, and the stack of open
+//! collections.
 #![tactic(auto)]
 
 pub mod anchors;

@@ -10,8 +10,8 @@ use al_base::YamlCode;
 use al_base::limits::{DEEPEST_COLLECTION, MOST_ALIAS_TEXT, MOST_NODES};
 use al_scalar::FaultAt;
 
-/// What was read so far: the number of nodes, including those behind aliases; the bytes of texts behind aliases; and
-/// the anchors.
+/// What was read so far: the number of nodes, including those behind aliases; the bytes of texts
+/// behind aliases; and the anchors.
 #[derive(Drop)]
 pub struct State {
     pub nodes: u32,
@@ -20,7 +20,8 @@ pub struct State {
 }
 
 impl State {
-    /// Counts nodes that start at an offset. The depth is that of a collection that starts there, and 0 for a scalar.
+    /// Counts nodes that start at an offset. The depth is that of a collection that starts there,
+    /// and 0 for a scalar.
     #[inline(always)]
     pub fn start(&mut self, at: usize, more: u32, depth: u32) -> Result<(), FaultAt>
         ensures fault { IfErr result (λ f. f.at ≡ at) }

@@ -16,8 +16,9 @@ pub struct Part {
     pub next: usize,
 }
 
-/// Moves the elements to a list without spare capacity, since most mappings have few entries. The room in which they were read is then
-/// free for the next collection. If memory runs out, they stay in their list.
+/// Moves the elements to a list without spare capacity, since most mappings have few entries. The
+/// room in which they were read is then free for the next collection. If memory runs out, they stay
+/// in their list.
 fn fit<T: Drop>(elements: Vec<T>) -> Vec<T>
     ensures { result.items ≡ elements.items }
 {

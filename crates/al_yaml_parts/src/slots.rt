@@ -7,8 +7,8 @@ ghost use Rattle.std.specs.Prelude.{length, ◌≡◌, ◌≤◌};
 
 use crate::content::{first_tab, is_dash};
 
-/// Where a node begins: on its own line; after a dash, with the first tab before it; or after a key on the key's
-/// line.
+/// Where a node begins: on its own line; after a dash, with the first tab before it; or after a key
+/// on the key's line.
 #[derive(Clone, Copy)]
 pub enum Spot {
     OwnLine,
@@ -16,15 +16,16 @@ pub enum Spot {
     AfterKey,
 }
 
-/// An offset of the file with its column: of the first character of a node or a collection, or after a dash or a colon.
+/// An offset of the file with its column: of the first character of a node or a collection, or
+/// after a dash or a colon.
 #[derive(Clone, Copy)]
 pub struct Cursor {
     pub at: usize,
     pub column: usize,
 }
 
-/// The surroundings of a node: its spot; the least indent of its further lines; whether it is the value of a
-/// mapping's entry; and the offset of an empty node in its place.
+/// The surroundings of a node: its spot; the least indent of its further lines; whether it is the
+/// value of a mapping's entry; and the offset of an empty node in its place.
 #[derive(Clone, Copy)]
 pub struct Slot {
     pub spot: Spot,
@@ -63,7 +64,8 @@ pub fn is_after_key(spot: Spot) -> bool
     matches!(spot, Spot::AfterKey)
 }
 
-/// Whether a content line holds the node: one deeper than what encloses it, or a sequence at the indent of its key.
+/// Whether a content line holds the node: one deeper than what encloses it, or a sequence at the
+/// indent of its key.
 pub fn is_deeper(bytes: &[u8], slot: Slot, indent: usize, at: usize) -> bool
     requires { at ≤ length bytes.now }
     ensures { result ≡ block.is_deeper (slot_of slot) indent (lines_at bytes.now at) }

@@ -1,14 +1,15 @@
 //! The stack of open collections.
 
 ghost use Rattle.al_yaml_parts.specs.Stacks.{OpenCollections, depth_in};
-ghost use Rattle.std.specs.Prelude.{◌≡◌, ◌+◌, ◌<◌, ◌≤◌, ◌∷◌, [], IfOk, IfSome, MatchOption, OnErr, length};
+ghost use Rattle.std.specs.Prelude.{◌≡◌, ◌+◌, ◌<◌, ◌≤◌, ◌∷◌, [], IfOk, IfSome, MatchOption, OnErr};
+ghost use Rattle.std.specs.Prelude.{length};
 
 use crate::frames::{BlockFrame, FlowFrame};
 use std::alloc::{AllocError, Global};
 use std::marker::Model;
 
-/// The open collections, at most 64: block collections, and flow collections inside them. The innermost is popped
-/// first.
+/// The open collections, at most 64: block collections, and flow collections inside them. The
+/// innermost is popped first.
 #[derive(Drop)]
 pub struct Stack {
     blocks: Vec<BlockFrame>,
@@ -53,7 +54,8 @@ impl Stack {
         self.flows.len() + self.blocks.len()
     }
 
-    /// The depth of a node inside the open collections, if these are block collections; the root's is 1.
+    /// The depth of a node inside the open collections, if these are block collections; the root's
+    /// is 1.
     pub fn depth(&self) -> u32
         requires { self.now.flows ≡ [] }
         ensures value { result ≡ depth_in self.now }
@@ -62,7 +64,8 @@ impl Stack {
         self.len() as u32 + 1
     }
 
-    /// Opens one more block collection. Fails with `AllocError` when out of memory; the stack is then unchanged.
+    /// Opens one more block collection. Fails with `AllocError` when out of memory; the stack is
+    /// then unchanged.
     pub fn push_block(&mut self, frame: BlockFrame) -> Result<(), AllocError>
         requires room { length self.old.blocks < 64 }
         requires outside { self.old.flows ≡ [] }
@@ -84,7 +87,8 @@ impl Stack {
         self.blocks.pop()
     }
 
-    /// Opens one more flow collection. Fails with `AllocError` when out of memory; the stack is then unchanged.
+    /// Opens one more flow collection. Fails with `AllocError` when out of memory; the stack is
+    /// then unchanged.
     pub fn push_flow(&mut self, frame: FlowFrame) -> Result<(), AllocError>
         requires { length self.old.flows + length self.old.blocks < 64 }
         ensures flows { IfOk result (λ _. self.new.flows ≡ frame ∷ self.old.flows) }

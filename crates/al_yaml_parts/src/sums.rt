@@ -1,9 +1,11 @@
-//! What an alias counts of its node (YAML 1.2.2, 7.1): a loop over the nodes in it, with its own stack.
+//! What an alias counts of its node (YAML 1.2.2, 7.1): a loop over the nodes in it, with its own
+//! stack.
 
 ghost use Rattle.al_yaml_tree.specs.Limits.{most_counted};
 ghost use Rattle.al_yaml_tree.specs.Node as tree;
 ghost use Rattle.al_yaml_tree.specs.Reading as reading;
-ghost use Rattle.al_yaml_parts.specs.Private.Sums.{IsOwn, IsSums, inside, members, node_view, uncounted_view, within};
+ghost use Rattle.al_yaml_parts.specs.Private.Sums.{IsOwn, IsSums, inside, members, node_view};
+ghost use Rattle.al_yaml_parts.specs.Private.Sums.{uncounted_view, within};
 ghost use Rattle.al_yaml_tree.specs.View.{entry_view, view};
 ghost use Rattle.std.specs.Prelude.{IfOk, map, ◌++◌, ◌+◌, ◌≡◌};
 
@@ -11,7 +13,8 @@ use al_scalar::Scalar;
 use al_yaml_tree::{Entry, Node};
 use std::alloc::{AllocError, Global};
 
-/// What an alias counts of its node: the nodes in it, the bytes of their texts, and the depth of collections in it. All counts saturate.
+/// What an alias counts of its node: the nodes in it, the bytes of their texts, and the depth of
+/// collections in it. All counts saturate.
 #[derive(Clone, Copy)]
 pub struct Sums {
     pub nodes: u32,
@@ -59,7 +62,8 @@ pub struct Uncounted<'a> {
     pub levels: u32,
 }
 
-/// What an alias counts of a node. Takes time linear in the nodes in it, and memory for those that are left.
+/// What an alias counts of a node. Takes time linear in the nodes in it, and memory for those that
+/// are left.
 ///
 /// Fails with `AllocError` when out of memory.
 pub fn sums_of(alloc: Global, node: &Node) -> Result<Sums, AllocError>
@@ -98,8 +102,9 @@ fn count<'a>(next: Uncounted<'a>, left: &mut Vec<Uncounted<'a>>) -> Result<Sums,
     }
 }
 
-/// Counts a node itself, which is inside this many collections, and leaves those in it to be counted. A node is
-/// shared at most once, as an alias has no anchor of its own (7.1), so this recurs at most once.
+/// Counts a node itself, which is inside this many collections, and leaves those in it to be
+/// counted. A node is shared at most once, as an alias has no anchor of its own (7.1), so this
+/// recurs at most once.
 fn count_node<'a>(
     node: &'a Node,
     levels: u32,
@@ -167,7 +172,8 @@ fn leave_entries<'a>(
     Ok(())
 }
 
-/// The depth of the deepest collection in a node with this depth and this many levels. The count saturates.
+/// The depth of the deepest collection in a node with this depth and this many levels. The count
+/// saturates.
 pub fn deepest(depth: u32, levels: u32) -> u32
     ensures { result ≡ most_counted (reading.deepest depth levels) }
 {

@@ -1,7 +1,8 @@
 -- The parts of a node's tree, as lists of the library.
 use Rattle.std.specs.Prelude.{List, [], ◌∷◌, Option, Some, None}
 use Rattle.al_scalar.specs.Scalar.{Scalar}
-use Rattle.al_yaml_tree.specs.Node.{Node, Nodes, Entries, scalar, sequence, mapping, no_nodes, item, no_entries, entry}
+use Rattle.al_yaml_tree.specs.Node.{Node, Nodes, Entries, scalar, sequence, mapping, no_nodes, item}
+use Rattle.al_yaml_tree.specs.Node.{no_entries, entry}
 
 abbrev pub nodes : Nodes → List Node
 nodes no_nodes = []

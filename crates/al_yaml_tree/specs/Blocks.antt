@@ -1,29 +1,35 @@
 -- Block nodes (YAML 1.2.2, 8.2).
-use Rattle.std.specs.Prelude.{ℕ, zero, suc, ◌+◌, List, Bool, true, false, not, ◌&&◌, ◌||◌, ◌==◌, nat_le}
+use Rattle.std.specs.Prelude.{ℕ, zero, suc, ◌+◌, List, Bool, true, false, not, ◌&&◌, ◌||◌, ◌==◌}
+use Rattle.std.specs.Prelude.{nat_le}
 use Rattle.std.specs.Prelude.{nat_lt, if◌then◌else◌, Option, Some, None}
 use Rattle.al_base.specs.declared.codes.YamlCode.TheVariants as yaml
 use Rattle.al_scalar.specs.Line.{Cell, Line, start, blanks_dropped}
 use Rattle.al_scalar.specs.Places.{first_text}
 use Rattle.al_scalar.specs.Plain.{block}
 use Rattle.al_scalar.specs.Scalar.{scalar_at}
-use Rattle.al_yaml_tree.specs.Node.{Node, Nodes, Entries, sequence, mapping, no_nodes, with_item, no_entries, with_entry, scalar_node}
-use Rattle.al_yaml_tree.specs.Reading.{Reading, Part, gives, fails, of_result, part, start_of, starting_scalar, with_span, with_start}
+use Rattle.al_yaml_tree.specs.Node.{Node, Nodes, Entries, sequence, mapping, no_nodes, with_item}
+use Rattle.al_yaml_tree.specs.Node.{no_entries, with_entry, scalar_node}
+use Rattle.al_yaml_tree.specs.Reading.{Reading, Part, gives, fails, of_result, part, start_of}
+use Rattle.al_yaml_tree.specs.Reading.{starting_scalar, with_span, with_start}
 use Rattle.al_yaml_tree.specs.Reading.{◌>>=◌}
-use Rattle.al_yaml_tree.specs.Content.{Next, ended, at_line, is_skipped, content, line_ended, whole_lines, past, is_dash, tab_among}
-use Rattle.al_yaml_tree.specs.Content.{block_fault, unless_code, is_flow_start, is_property, same_line, characters, is_short_key}
+use Rattle.al_yaml_tree.specs.Content.{Next, ended, at_line, is_skipped, content, line_ended}
+use Rattle.al_yaml_tree.specs.Content.{whole_lines, past, is_dash, tab_among}
+use Rattle.al_yaml_tree.specs.Content.{block_fault, unless_code, is_flow_start, is_property}
+use Rattle.al_yaml_tree.specs.Content.{same_line, characters, is_short_key}
 use Rattle.al_yaml_tree.specs.Flow.{CollectionReader, empty_node, property, flow_collection}
-use Rattle.al_yaml_tree.specs.Keys.{Key, key_here, has_colon, is_block_start, is_on_key, no_entry, entry_key}
+use Rattle.al_yaml_tree.specs.Keys.{Key, key_here, has_colon, is_block_start, is_on_key, no_entry}
+use Rattle.al_yaml_tree.specs.Keys.{entry_key}
 
--- Where a node begins: on a line of its own; after a dash, an anchor or both, with the offset of the first tab before it;
--- after a key on its line.
+-- Where a node begins: on a line of its own; after a dash, an anchor or both, with the offset of
+-- the first tab before it; after a key on its line.
 pub data Spot : Type 0 where
   own_line : Spot
   compact : Option ℕ → Spot
   after_key : Spot
 
--- What surrounds a node: its spot; the least indent of its further lines, one more than that of the enclosing
--- collection and 0 at the root; whether it is the value of a mapping's entry; the offset of the empty node that
--- takes its place if there is none.
+-- What surrounds a node: its spot; the least indent of its further lines, one more than that of the
+-- enclosing collection and 0 at the root; whether it is the value of a mapping's entry; the offset
+-- of the empty node that takes its place if there is none.
 pub record Slot : Type 0 where
   pub spot : Spot
   pub within : ℕ
@@ -53,14 +59,17 @@ spot_after text own_line = compact (tab_among text)
 spot_after text (compact None) = compact (tab_among text)
 spot_after text spot = spot
 
--- whether a content line holds the node: one deeper than what encloses it, or a sequence at the indent of its key
+-- whether a content line holds the node: one deeper than what encloses it, or a sequence at the
+-- indent of its key
 abbrev pub is_deeper : Slot → ℕ → List Line → Bool
-is_deeper slot i left = nat_le slot.within i || (slot.in_mapping && (i + 1 == slot.within) && is_dash (first_text left))
+is_deeper slot i left =
+    nat_le slot.within i || (slot.in_mapping && (i + 1 == slot.within) && is_dash (first_text left))
 
 -- the node on the next content line, if it holds it, or else the empty node
 abbrev pub node_found : BlockReader → Slot → ℕ → List Line → Next → Reading (Part Node)
 node_found node slot depth ls ended = empty_node slot.empty ls
-node_found node slot depth ls (at_line i left) = if is_deeper slot i left then node (record slot { spot = own_line }) depth i left
+node_found node slot depth ls (at_line i left) = if is_deeper slot i left
+    then node (record slot { spot = own_line }) depth i left
     else empty_node slot.empty ls
 
 abbrev pub node_below : BlockReader → Slot → ℕ → List Line → Reading (Part Node)
@@ -75,38 +84,46 @@ rest_node node slot depth column ls rest =
     if is_skipped (first_text rest) then node_below node slot depth (whole_lines rest)
     else node (record slot { spot = spot_after (first_text rest) slot.spot }) depth (column + characters (start left) (first_text ls)) left
 
--- The rest of a collection in the column, given what was read of it so far: more reads from its next line on, and a line with less
--- indent closes it.
-abbrev pub rest_found : {A : Type 0} → ℕ → Part A → (Part A → List Line → Reading (Part A)) → Next → Reading (Part A)
+-- The rest of a collection in the column, given what was read of it so far: more reads from its
+-- next line on, and a line with less indent closes it.
+abbrev pub rest_found : {A : Type 0} → ℕ → Part A → (Part A → List Line → Reading (Part A)) → Next
+    → Reading (Part A)
 rest_found column done more ended = gives done
 rest_found column done more (at_line i left) = if i == column then more done left
     else (if nat_lt i column then gives done else fails yaml.WrongIndentation (start left))
 
-abbrev pub rest_below : {A : Type 0} → ℕ → Part A → (Part A → List Line → Reading (Part A)) → Reading (Part A)
+abbrev pub rest_below : {A : Type 0} → ℕ → Part A → (Part A → List Line → Reading (Part A))
+    → Reading (Part A)
 rest_below column done more = do
   found ← of_result (content done.left)
   rest_found column done more found
 
 -- The slot of a sequence's entry (8.2.1), after its dash.
 abbrev pub entry_slot : ℕ → ℕ → Slot
-entry_slot column at = record { spot = compact None; within = column + 1; in_mapping = false; empty = at }
+entry_slot column at =
+    record { spot = compact None; within = column + 1; in_mapping = false; empty = at }
 
--- The entries of a sequence after those done, from a dash on. A line at its indent that has no dash closes it if it is the value of a
--- mapping's entry. turns bounds their number.
-unfoldable pub sequence_entries : BlockReader → CollectionReader → ℕ → Bool → ℕ → ℕ → Nodes → List Line → Reading (Part Nodes)
-sequence_entries node collection zero in_mapping column depth done ls = fails yaml.UnexpectedCharacter 0
+-- The entries of a sequence after those done, from a dash on. A line at its indent that has no dash
+-- closes it if it is the value of a mapping's entry. turns bounds their number.
+unfoldable pub sequence_entries : BlockReader → CollectionReader → ℕ → Bool → ℕ → ℕ → Nodes
+    → List Line → Reading (Part Nodes)
+sequence_entries node collection zero in_mapping column depth done ls =
+    fails yaml.UnexpectedCharacter 0
 sequence_entries node collection (suc turns) in_mapping column depth done ls = do
   x ← rest_node node (entry_slot column (start (past 1 ls))) depth column ls (past 1 ls)
   rest_below column (part (with_item done x.value) x.end x.left) (λ now left.
-      if is_dash (first_text left) then sequence_entries node collection turns in_mapping column depth now.value left
+      if is_dash (first_text left)
+      then sequence_entries node collection turns in_mapping column depth now.value left
       else (if in_mapping then gives now else no_entry collection depth left))
 
 -- The slot of a value (8.2.2), after its key's colon.
 abbrev pub value_slot : ℕ → ℕ → Slot
-value_slot column at = record { spot = after_key; within = column + 1; in_mapping = true; empty = at }
+value_slot column at =
+    record { spot = after_key; within = column + 1; in_mapping = true; empty = at }
 
 -- The entries of a mapping after those done, the first of which has this key.
-unfoldable pub mapping_entries : BlockReader → CollectionReader → ℕ → ℕ → ℕ → Entries → Key → Reading (Part Entries)
+unfoldable pub mapping_entries : BlockReader → CollectionReader → ℕ → ℕ → ℕ → Entries → Key
+    → Reading (Part Entries)
 mapping_entries node collection zero column depth done key = fails yaml.UnexpectedCharacter 0
 mapping_entries node collection (suc turns) column depth done key = do
   x ← rest_node node (value_slot column (start key.after)) depth 0 key.after key.after
@@ -130,7 +147,8 @@ scalar_node_at within ls =
 abbrev pub flow_at : CollectionReader → Spot → ℕ → List Line → Reading (Part Node)
 flow_at collection spot depth ls = do
   x ← collection depth ls
-  if not (is_after_key spot) && has_colon x.left then fails yaml.WrongKey (start ls) else ending_line x
+  if not (is_after_key spot) && has_colon x.left then fails yaml.WrongKey (start ls)
+      else ending_line x
 
 abbrev pub block_sequence : BlockReader → CollectionReader → ℕ → BlockReader
 block_sequence node collection turns slot depth column ls =
@@ -140,7 +158,8 @@ block_sequence node collection turns slot depth column ls =
     with_span sequence at (sequence_entries node collection turns slot.in_mapping column (depth + 1) no_nodes ls)))
 
 -- a mapping whose first key was read
-abbrev pub block_mapping : BlockReader → CollectionReader → ℕ → Spot → ℕ → ℕ → List Line → Key → Reading (Part Node)
+abbrev pub block_mapping : BlockReader → CollectionReader → ℕ → Spot → ℕ → ℕ → List Line → Key
+    → Reading (Part Node)
 block_mapping node collection turns spot depth column ls key =
     let at = start ls in
     if not (same_line ls key.read.left) then fails yaml.WrongKey at
@@ -167,14 +186,17 @@ unfoldable pub block_property : BlockReader → BlockReader
 block_property content slot depth column ls =
     property (not (is_after_key slot.spot) && is_on_key ls) ending_line (rest_node content slot depth column ls) depth ls
 
--- Nodes with a depth of nesting below the bound, each with fewer parts than the bound; the file's length plus one is always enough.
+-- Nodes with a depth of nesting below the bound, each with fewer parts than the bound; the file's
+-- length plus one is always enough.
 unfoldable pub block_node : ℕ → BlockReader
 block_node zero slot depth column ls = fails yaml.UnexpectedCharacter 0
 block_node (suc bound) slot depth column ls =
     let content = block_content (block_node bound) (flow_collection (suc bound)) (suc bound) in
-    if is_property (first_text ls) then block_property content slot depth column ls else content slot depth column ls
+    if is_property (first_text ls) then block_property content slot depth column ls
+    else content slot depth column ls
 
 -- a node within such a bound, without properties
 abbrev pub bare_node : ℕ → BlockReader
 bare_node zero slot depth column ls = fails yaml.UnexpectedCharacter 0
-bare_node (suc bound) slot depth column ls = block_content (block_node bound) (flow_collection (suc bound)) (suc bound) slot depth column ls
+bare_node (suc bound) slot depth column ls =
+    block_content (block_node bound) (flow_collection (suc bound)) (suc bound) slot depth column ls

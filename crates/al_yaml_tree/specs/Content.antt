@@ -1,14 +1,17 @@
--- Content lines, comments and document markers (YAML 1.2.2, 6.6, 6.7, 9.1), anchor names (6.9.2), and what a node's
--- first character forbids (5.3).
-use Rattle.std.specs.Prelude.{ℕ, ◌+◌, List, [], ◌∷◌, length, map, drop, Bool, true, false, ◌&&◌, ◌||◌, ◌==◌, nat_le, nat_lt}
+-- Content lines, comments and document markers (YAML 1.2.2, 6.6, 6.7, 9.1), anchor names (6.9.2),
+-- and what a node's first character forbids (5.3).
+use Rattle.std.specs.Prelude.{ℕ, ◌+◌, List, [], ◌∷◌, length, map, drop, Bool, true, false, ◌&&◌}
+use Rattle.std.specs.Prelude.{◌||◌, ◌==◌, nat_le, nat_lt}
 use Rattle.std.specs.Prelude.{if◌then◌else◌, Option, Some, None, Result, Ok}
 use Rattle.std.specs.Option.{option_or}
 use Rattle.al_base.specs.declared.codes.YamlCode.{YamlCode}
 use Rattle.al_base.specs.declared.codes.YamlCode.TheVariants as yaml
 use Rattle.al_base.specs.Ascii.{ascii}
 use Rattle.al_base.specs.Limits.{longest_key}
-use Rattle.al_scalar.specs.Line.{Cell, Line, start, cut, is_blank, indent, is_empty, is_all_blank, begins, begins_blank}
-use Rattle.al_scalar.specs.Line.{is_blank_or_end, is_comment, is_document_marker, blanks_dropped, spaces_dropped}
+use Rattle.al_scalar.specs.Line.{Cell, Line, start, cut, is_blank, indent, is_empty, is_all_blank}
+use Rattle.al_scalar.specs.Line.{begins, begins_blank}
+use Rattle.al_scalar.specs.Line.{is_blank_or_end, is_comment, is_document_marker, blanks_dropped}
+use Rattle.al_scalar.specs.Line.{spaces_dropped}
 use Rattle.al_scalar.specs.Places.{first_text, first_end}
 use Rattle.al_scalar.specs.Taken.{fault}
 use Rattle.al_scalar.specs.declared.faults.FaultAt.{FaultAt}
@@ -17,7 +20,8 @@ use Rattle.al_scalar.specs.Block.{at_end}
 use Rattle.al_scalar.specs.Scalar.{ScalarRead}
 use Rattle.al_yaml_tree.specs.Reading.{Reading, fails}
 
--- The whole lines after the first one. There is always a line left: after the file's last line, its empty end.
+-- The whole lines after the first one. There is always a line left: after the file's last line, its
+-- empty end.
 abbrev pub whole_lines : List Line → List Line
 whole_lines [] = []
 whole_lines (l ∷ ls) = if l.last then at_end l else ls
@@ -47,8 +51,8 @@ text_line (l ∷ ls) =
 abbrev pub is_file_end : List Line → Bool
 is_file_end ls = is_empty (first_text ls)
 
--- The first content line of whole lines. A document marker ends the document (9.1.2), and there is no tab between the
--- indent and the content (6.1).
+-- The first content line of whole lines. A document marker ends the document (9.1.2), and there is
+-- no tab between the indent and the content (6.1).
 abbrev pub content_line : List Line → Result Next FaultAt
 content_line ls =
     let left = spaces_dropped ls in
@@ -65,7 +69,8 @@ ends_line text = is_all_blank text || (begins_blank text && is_comment text)
 
 -- Nothing else may follow a node on its line. Returns the whole lines left.
 abbrev pub line_ended : List Line → Result (List Line) FaultAt
-line_ended ls = if ends_line (first_text ls) then Ok (whole_lines ls) else fault yaml.UnexpectedCharacter (start (blanks_dropped ls))
+line_ended ls = if ends_line (first_text ls) then Ok (whole_lines ls)
+    else fault yaml.UnexpectedCharacter (start (blanks_dropped ls))
 
 -- the dash of a block sequence's entry (8.2.1)
 abbrev pub is_dash : List Cell → Bool
@@ -79,7 +84,8 @@ tab_among (c ∷ cs) =
     let more = tab_among cs in
     if c.0 == ascii "\t" then Some c.1 else (if is_blank c then more else None)
 
--- What a node's first character forbids, in both contexts: tags, explicit keys, and what begins no node.
+-- What a node's first character forbids, in both contexts: tags, explicit keys, and what begins no
+-- node.
 abbrev pub is_reserved : ℕ → Bool
 is_reserved b =
     (b == ascii ",") || (b == ascii "]") || (b == ascii "}") || (b == ascii "%") || (b == ascii "@")
@@ -124,7 +130,8 @@ starts_quoted cs = begins (ascii "'") cs || begins (ascii "\"") cs
 abbrev pub is_property : List Cell → Bool
 is_property cs = begins (ascii "&") cs || begins (ascii "*") cs
 
--- the name after the indicator (6.9.2, ns-anchor-name), up to a blank, the line's end or a flow indicator
+-- the name after the indicator (6.9.2, ns-anchor-name), up to a blank, the line's end or a flow
+-- indicator
 abbrev pub anchor_cells : List Cell → List Cell
 anchor_cells [] = []
 anchor_cells (c ∷ cs) =

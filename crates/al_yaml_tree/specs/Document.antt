@@ -9,12 +9,13 @@ use Rattle.al_scalar.specs.declared.faults.FaultAt.{FaultAt}
 use Rattle.al_yaml_tree.specs.Node.{Node}
 use Rattle.al_yaml_tree.specs.Limits.{unless_fault, within_limits}
 use Rattle.al_yaml_tree.specs.Bytes.{byte_fault, file_lines}
-use Rattle.al_yaml_tree.specs.Reading.{Start, HaveNoAlias, Reading, no_anchors, gives, of_result, Part, ◌>>=◌}
+use Rattle.al_yaml_tree.specs.Reading.{Start, HaveNoAlias, Reading, no_anchors, gives, of_result}
+use Rattle.al_yaml_tree.specs.Reading.{Part, ◌>>=◌}
 use Rattle.al_yaml_tree.specs.Content.{text_line, is_file_end, line_ended, past}
 use Rattle.al_yaml_tree.specs.Blocks.{Slot, own_line, node_below, block_node}
 
--- The whole lines from the first content line on, or after it if it is the marker `---`. A directive there is a fault
--- (6.8).
+-- The whole lines from the first content line on, or after it if it is the marker `---`. A
+-- directive there is a fault (6.8).
 abbrev pub first_line : List Line → Result (List Line) FaultAt
 first_line ls =
     if begins (ascii "%") (first_text ls) then fault yaml.Directive (start ls)

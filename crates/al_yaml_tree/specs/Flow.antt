@@ -3,7 +3,8 @@ use Rattle.std.specs.Prelude.{ℕ, zero, suc, ◌+◌, List, [], ◌∷◌, Bool
 use Rattle.std.specs.Prelude.{◌||◌, if◌then◌else◌, Option, Some, None, Result, Ok}
 use Rattle.al_base.specs.declared.codes.YamlCode.TheVariants as yaml
 use Rattle.al_base.specs.Ascii.{ascii}
-use Rattle.al_scalar.specs.Line.{Cell, Line, start, cut, after_blanks, is_empty, begins, begins_blank, blanks_dropped}
+use Rattle.al_scalar.specs.Line.{Cell, Line, start, cut, after_blanks, is_empty, begins}
+use Rattle.al_scalar.specs.Line.{begins_blank, blanks_dropped}
 use Rattle.al_scalar.specs.Places.{first_text}
 use Rattle.al_scalar.specs.Taken.{fault}
 use Rattle.al_scalar.specs.declared.faults.FaultAt.{FaultAt}
@@ -12,13 +13,16 @@ use Rattle.al_scalar.specs.Block.{at_end}
 use Rattle.al_scalar.specs.Scalar.{ScalarRead, scalar_at, empty_scalar}
 use Rattle.al_yaml_tree.specs.Node.{Node, Nodes, Entries, scalar, sequence, mapping}
 use Rattle.al_yaml_tree.specs.Node.{no_nodes, with_item, no_entries, with_entry, scalar_node}
-use Rattle.al_yaml_tree.specs.Reading.{Reading, gives, fails, of_result, starting_scalar, start_of, with_start}
+use Rattle.al_yaml_tree.specs.Reading.{Reading, gives, fails, of_result, starting_scalar, start_of}
+use Rattle.al_yaml_tree.specs.Reading.{with_start}
 use Rattle.al_yaml_tree.specs.Reading.{gives_with_anchor, alias, Part, part, with_span, ◌>>=◌}
-use Rattle.al_yaml_tree.specs.Content.{past, is_file_end, flow_fault, unless_code, is_flow_start, starts_quoted, is_property}
-use Rattle.al_yaml_tree.specs.Content.{anchor_name, after_name, has_no_name, same_line, is_simple_key}
+use Rattle.al_yaml_tree.specs.Content.{past, is_file_end, flow_fault, unless_code, is_flow_start}
+use Rattle.al_yaml_tree.specs.Content.{starts_quoted, is_property}
+use Rattle.al_yaml_tree.specs.Content.{anchor_name, after_name, has_no_name, same_line}
+use Rattle.al_yaml_tree.specs.Content.{is_simple_key}
 
--- What surrounds a node in a flow collection: the offset of the collection's opening bracket, and that of the empty node
--- that takes its place if there is none, where an empty node is allowed.
+-- What surrounds a node in a flow collection: the offset of the collection's opening bracket, and
+-- that of the empty node that takes its place if there is none, where an empty node is allowed.
 pub record FlowSlot : Type 0 where
   pub opening : ℕ
   pub empty : Option ℕ
@@ -31,23 +35,29 @@ FlowReader = FlowSlot → ℕ → List Line → Reading (Part Node)
 abbrev pub CollectionReader : Type 0
 CollectionReader = ℕ → List Line → Reading (Part Node)
 
--- the lines that a gap skips: with nothing but blanks, or with a comment after a blank or at the line's start
+-- the lines that a gap skips: with nothing but blanks, or with a comment after a blank or at the
+-- line's start
 abbrev pub is_gap_line : Bool → List Cell → Bool
-is_gap_line at_start text = is_empty (after_blanks text) || (begins (ascii "#") (after_blanks text) && (at_start || begins_blank text))
+is_gap_line at_start text =
+    is_empty (after_blanks text)
+    || (begins (ascii "#") (after_blanks text) && (at_start || begins_blank text))
 
 -- Blanks, breaks and comments are skipped (6.7). Text is left after them, except at the file's end.
 abbrev pub gap : Bool → List Line → List Line
 gap at_start [] = []
 gap at_start (l ∷ ls) =
     let below = gap true ls in
-    if is_gap_line at_start l.text then (if l.last then at_end l else below) else cut (after_blanks l.text) l ls
+    if is_gap_line at_start l.text then (if l.last then at_end l else below)
+    else cut (after_blanks l.text) l ls
 
 -- an empty node at an offset
 abbrev pub empty_node : ℕ → List Line → Reading (Part Node)
 empty_node at left = starting_scalar at (gives (part (scalar (empty_scalar at)) at left))
 
--- The rest of a collection, given all its items or entries so far and the lines after the last one: after a comma, more reads the next.
-abbrev pub rest_after : {A : Type 0} → ℕ → (List Line → Reading (Part A)) → ℕ → A → List Line → Reading (Part A)
+-- The rest of a collection, given all its items or entries so far and the lines after the last one:
+-- after a comma, more reads the next.
+abbrev pub rest_after : {A : Type 0} → ℕ → (List Line → Reading (Part A)) → ℕ → A → List Line
+    → Reading (Part A)
 rest_after close more opening done left =
     let ls = gap false left in
     if is_file_end ls then fails yaml.UnclosedFlow opening
@@ -55,7 +65,8 @@ rest_after close more opening done left =
     else (if begins close (first_text ls) then gives (part done (start ls + 1) (past 1 ls))
     else fails yaml.UnexpectedCharacter (start ls)))
 
--- Items after those done, from the first character of an item or the closer. turns bounds their number.
+-- Items after those done, from the first character of an item or the closer. turns bounds their
+-- number.
 unfoldable pub flow_items : FlowReader → ℕ → ℕ → ℕ → Nodes → List Line → Reading (Part Nodes)
 flow_items node zero opening depth done ls = fails yaml.UnexpectedCharacter 0
 flow_items node (suc turns) opening depth done ls =
@@ -66,12 +77,15 @@ flow_items node (suc turns) opening depth done ls =
       rest_after (ascii "]") (λ left. flow_items node turns opening depth (with_item done x.value) left) opening
           (with_item done x.value) x.left))
 
--- The lines after a key's colon, if there is one on its line. After a quoted key, anything may follow the colon.
+-- The lines after a key's colon, if there is one on its line. After a quoted key, anything may
+-- follow the colon.
 abbrev pub is_key_colon : Bool → List Line → Bool
-is_key_colon after_quote ls = (after_quote && begins (ascii ":") (first_text ls)) || is_value_colon flow (after_blanks (first_text ls))
+is_key_colon after_quote ls = (after_quote && begins (ascii ":") (first_text ls))
+    || is_value_colon flow (after_blanks (first_text ls))
 
 abbrev pub after_colon_in_flow : Bool → List Line → Option (List Line)
-after_colon_in_flow after_quote ls = if is_key_colon after_quote ls then Some (past 1 (blanks_dropped ls)) else None
+after_colon_in_flow after_quote ls = if is_key_colon after_quote ls
+    then Some (past 1 (blanks_dropped ls)) else None
 
 -- A value: empty before a comma or the closer.
 abbrev pub flow_value : FlowReader → FlowSlot → ℕ → List Line → Reading (Part Node)
@@ -88,11 +102,13 @@ pub record FlowKey : Type 0 where
 
 -- whether a colon begins a later line
 abbrev pub is_late_colon : List Line → Bool
-is_late_colon left = begins (ascii ":") (first_text (gap false left)) && not (same_line left (gap false left))
+is_late_colon left =
+    begins (ascii ":") (first_text (gap false left)) && not (same_line left (gap false left))
 
--- The lines after the colon of a scalar that is a key, which must be on one line. A colon that begins a later line is a
--- fault at the key.
-abbrev pub unless_late : List Line → ScalarRead → Option (List Line) → Result (Option (List Line)) FaultAt
+-- The lines after the colon of a scalar that is a key, which must be on one line. A colon that
+-- begins a later line is a fault at the key.
+abbrev pub unless_late : List Line → ScalarRead → Option (List Line)
+    → Result (Option (List Line)) FaultAt
 unless_late ls r (Some left) = Ok (Some left)
 unless_late ls r None = if is_late_colon r.left then fault yaml.WrongKey (start ls) else Ok None
 
@@ -104,7 +120,8 @@ unfoldable pub flow_key : CollectionReader → ℕ → List Line → Reading Flo
 flow_key collection depth ls =
     let at = start ls in
     unless_code (flow_fault (first_text ls)) at (
-    if is_property (first_text ls) then fails (if has_no_name ls then yaml.UnexpectedCharacter else yaml.AnchorOrAlias) at
+    if is_property (first_text ls)
+    then fails (if has_no_name ls then yaml.UnexpectedCharacter else yaml.AnchorOrAlias) at
     else (if is_flow_start (first_text ls) then (do
       x ← collection depth ls
       fails yaml.WrongKey at)
@@ -122,7 +139,8 @@ flow_entry_value node opening depth key =
     ]
 
 -- Entries after those done, from the first character of an entry or the closer.
-unfoldable pub flow_entries : FlowReader → CollectionReader → ℕ → ℕ → ℕ → Entries → List Line → Reading (Part Entries)
+unfoldable pub flow_entries : FlowReader → CollectionReader → ℕ → ℕ → ℕ → Entries → List Line
+    → Reading (Part Entries)
 flow_entries node collection zero opening depth done ls = fails yaml.UnexpectedCharacter 0
 flow_entries node collection (suc turns) opening depth done ls =
     if is_file_end ls then fails yaml.UnclosedFlow opening
@@ -144,9 +162,10 @@ flow_content collection slot depth ls =
       r ← of_result (scalar_at flow ls)
       gives (part (scalar_node r) r.scalar.span.end r.left))))
 
--- An alias, or an anchor and its node (6.9.2, 7.1), not on a key: ending continues after an alias, node after an anchor's
--- name.
-abbrev pub property : Bool → (Part Node → Reading (Part Node)) → (List Line → Reading (Part Node)) → ℕ → List Line → Reading (Part Node)
+-- An alias, or an anchor and its node (6.9.2, 7.1), not on a key: ending continues after an alias,
+-- node after an anchor's name.
+abbrev pub property : Bool → (Part Node → Reading (Part Node)) → (List Line → Reading (Part Node))
+    → ℕ → List Line → Reading (Part Node)
 property on_key ending node depth ls =
     let at = start ls in
     let name = anchor_name ls in
@@ -171,7 +190,8 @@ flow_node_over collection slot depth ls =
     if is_property (first_text ls) then flow_property collection slot depth ls
     else flow_content collection slot depth ls
 
--- Collections with a depth of nesting below the bound, each with fewer parts than the bound; the file's length plus one is always enough.
+-- Collections with a depth of nesting below the bound, each with fewer parts than the bound; the
+-- file's length plus one is always enough.
 unfoldable pub flow_collection : ℕ → CollectionReader
 flow_collection zero depth ls = fails yaml.UnexpectedCharacter 0
 flow_collection (suc bound) depth ls =

@@ -10,8 +10,10 @@ use Rattle.al_scalar.specs.Plain.{block, is_value_colon}
 use Rattle.al_scalar.specs.Scalar.{ScalarRead, scalar_at}
 use Rattle.al_scalar.specs.declared.faults.FaultAt.{FaultAt}
 use Rattle.al_yaml_tree.specs.Reading.{Reading, gives, fails, of_result, starting_scalar, ◌>>=◌}
-use Rattle.al_yaml_tree.specs.Content.{is_skipped, past, is_dash, block_fault, unless_code, is_flow_start, starts_quoted}
-use Rattle.al_yaml_tree.specs.Content.{is_property, after_name, has_no_name, same_line, is_simple_key}
+use Rattle.al_yaml_tree.specs.Content.{is_skipped, past, is_dash, block_fault, unless_code}
+use Rattle.al_yaml_tree.specs.Content.{is_flow_start, starts_quoted}
+use Rattle.al_yaml_tree.specs.Content.{is_property, after_name, has_no_name, same_line}
+use Rattle.al_yaml_tree.specs.Content.{is_simple_key}
 use Rattle.al_yaml_tree.specs.Flow.{CollectionReader}
 
 -- A key, and the lines after its colon.
@@ -43,9 +45,11 @@ has_colon ls = is_value_colon (block 0) (after_blanks (first_text ls))
 
 -- a scalar as a key, if a colon follows
 abbrev pub key_before_colon : ScalarRead → Option Key
-key_before_colon r = if has_colon r.left then Some (record { read = r; after = past 1 (blanks_dropped r.left) }) else None
+key_before_colon r = if has_colon r.left
+    then Some (record { read = r; after = past 1 (blanks_dropped r.left) }) else None
 
--- The key that begins here, if one does: a scalar with a colon after it. It may still be too long or span lines.
+-- The key that begins here, if one does: a scalar with a colon after it. It may still be too long
+-- or span lines.
 abbrev pub key_here : List Line → Result (Option Key) FaultAt
 key_here ls = elim (key_scalar ls) [ Ok r ↦ Ok (key_before_colon r) | Err f ↦ Err f ]
 
@@ -59,8 +63,8 @@ begins_key ls = elim (key_here ls) [ Ok (Some key) ↦ same_line ls key.read.lef
 abbrev pub is_key_start : List Cell → Bool
 is_key_start cs = not (is_skipped cs || is_dash cs || is_property cs || is_block_start cs || is_flow_start cs || is_some (block_fault cs))
 
--- Keys have no anchors and are no aliases here, though YAML allows both (6.9.2, 7.1). Whether an anchor or alias is on a
--- key: the alias itself, or what follows the anchor on its line.
+-- Keys have no anchors and are no aliases here, though YAML allows both (6.9.2, 7.1). Whether an
+-- anchor or alias is on a key: the alias itself, or what follows the anchor on its line.
 abbrev pub is_on_key : List Line → Bool
 is_on_key ls =
     let left = blanks_dropped (after_name ls) in
@@ -69,9 +73,11 @@ is_on_key ls =
 
 -- the fault of an anchor or alias where an entry of an open mapping is expected
 abbrev pub property_fault : List Line → YamlCode
-property_fault ls = if not (has_no_name ls) && is_on_key ls then yaml.AnchorOrAlias else yaml.UnexpectedCharacter
+property_fault ls = if not (has_no_name ls) && is_on_key ls then yaml.AnchorOrAlias
+    else yaml.UnexpectedCharacter
 
--- the fault of a flow collection that begins a line but no entry of the open mapping: it is a key if a colon follows it
+-- the fault of a flow collection that begins a line but no entry of the open mapping: it is a key
+-- if a colon follows it
 abbrev pub collection_fault : List Line → YamlCode
 collection_fault left = if has_colon left then yaml.WrongKey else yaml.UnexpectedCharacter
 
@@ -92,7 +98,8 @@ no_entry collection depth ls =
 -- a key that was found where a further entry is expected
 abbrev pub found_key : List Line → Option Key → Reading Key
 found_key ls None = fails yaml.UnexpectedCharacter (start ls)
-found_key ls (Some key) = if is_simple_key ls key.read then starting_scalar (start ls) (gives key) else fails yaml.WrongKey (start ls)
+found_key ls (Some key) = if is_simple_key ls key.read then starting_scalar (start ls) (gives key)
+    else fails yaml.WrongKey (start ls)
 
 -- the key of a further entry of the open mapping
 unfoldable pub entry_key : CollectionReader → ℕ → List Line → Reading Key

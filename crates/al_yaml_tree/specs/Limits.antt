@@ -1,5 +1,6 @@
 -- The limits on nodes, on the text of aliases' nodes and on nesting, which are the profile's own.
-use Rattle.std.specs.Prelude.{ℕ, ◌+◌, List, [], ◌∷◌, ◌||◌, min, nat_lt, if◌then◌else◌, Option, Some, None, Result, Err}
+use Rattle.std.specs.Prelude.{ℕ, ◌+◌, List, [], ◌∷◌, ◌||◌, min, nat_lt, if◌then◌else◌, Option, Some}
+use Rattle.std.specs.Prelude.{None, Result, Err}
 use Rattle.al_base.specs.Limits.{deepest_collection, most_alias_text, most_nodes}
 use Rattle.al_base.specs.declared.codes.YamlCode.TheVariants as yaml
 use Rattle.al_scalar.specs.declared.faults.FaultAt.{FaultAt}
@@ -9,8 +10,8 @@ use Rattle.al_yaml_tree.specs.Reading.{Start, Outcome}
 abbrev pub most_counted : ℕ → ℕ
 most_counted n = min n 4294967295
 
--- The first start that breaks a limit, after so many nodes and so many bytes of text of aliases' nodes; at one offset,
--- too many nodes, or too much text, come before too deep a nesting.
+-- The first start that breaks a limit, after so many nodes and so many bytes of text of aliases'
+-- nodes; at one offset, too many nodes, or too much text, come before too deep a nesting.
 abbrev pub broken_limit : ℕ → ℕ → List Start → Option FaultAt
 broken_limit nodes text [] = None
 broken_limit nodes text (s ∷ ss) =

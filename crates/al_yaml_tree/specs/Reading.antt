@@ -1,5 +1,5 @@
--- The result of reading nodes: the starts of nodes in reading order, then a value or the first fault. Reading knows the
--- anchors of the nodes that are complete.
+-- The result of reading nodes: the starts of nodes in reading order, then a value or the first
+-- fault. Reading knows the anchors of the nodes that are complete.
 use Rattle.std.specs.Prelude.{◌≡◌, ℕ, zero, suc, ◌+◌, List, [], ◌∷◌, ◌++◌, Bool, true, false}
 use Rattle.std.specs.Prelude.{nat_lt, if◌then◌else◌, Option, Some, None, Result, Ok, Err}
 use Rattle.std.specs.Str.{bytes_eq}
@@ -11,9 +11,9 @@ use Rattle.al_base.specs.Spans.{span}
 use Rattle.al_base.specs.declared.faults.Span.{Span}
 use Rattle.al_yaml_tree.specs.Node.{Node, nodes_in, text_size, levels_in}
 
--- A start of so many nodes at an offset: one, but two for a block mapping and its first key, and all those in its node
--- for an alias, which also counts the bytes of their texts. The depth is that of the deepest collection that starts
--- there, 0 if none does; alias says whether it is an alias's.
+-- A start of so many nodes at an offset: one, but two for a block mapping and its first key, and
+-- all those in its node for an alias, which also counts the bytes of their texts. The depth is that
+-- of the deepest collection that starts there, 0 if none does; alias says whether it is an alias's.
 pub record Start : Type 0 where
   pub at : ℕ
   pub nodes : ℕ
@@ -51,7 +51,8 @@ abbrev pub gives : {A : Type 0} → A → Reading A
 gives x known = record { starts = []; answer = Ok x; known = known }
 
 abbrev pub fails : {A : Type 0} → YamlCode → ℕ → Reading A
-fails code at known = record { starts = []; answer = Err (record { code = code; at = at }); known = known }
+fails code at known =
+    record { starts = []; answer = Err (record { code = code; at = at }); known = known }
 
 abbrev pub of_result : {A : Type 0} → Result A FaultAt → Reading A
 of_result r known = record { starts = []; answer = r; known = known }
@@ -101,7 +102,8 @@ abbrev pub deepest : ℕ → ℕ → ℕ
 deepest depth zero = 0
 deepest depth (suc levels) = depth + levels
 
--- All nodes in the node that an alias refers to (7.1) start at its indicator *, and their depths are counted from there.
+-- All nodes in the node that an alias refers to (7.1) start at its indicator *, and their depths
+-- are counted from there.
 abbrev pub alias_start : ℕ → ℕ → Node → Start
 alias_start at depth n =
     record { at = at; nodes = nodes_in n; text = text_size n; depth = deepest depth (levels_in n); alias = true }

@@ -9,8 +9,8 @@ use al_scalar::Scalar;
 use std::alloc::{AllocError, Global};
 use std::rc::Rc;
 
-/// A node (YAML 1.2.2, 3.2.1.1), with the span of its written form. A node with an anchor is shared by its own place and those of its
-/// aliases.
+/// A node (YAML 1.2.2, 3.2.1.1), with the span of its written form. A node with an anchor is shared
+/// by its own place and those of its aliases.
 #[cycle(node)]
 #[derive(Drop)]
 pub enum Node {

@@ -25,7 +25,7 @@ use Rattle.al_check_expressions.specs.FileExpressions.{expression_faults}
 use Rattle.al_base.specs.declared.codes.CallCode.TheVariants.{CallCycle}
 use Rattle.al_check_interfaces.specs.Uses.{Call, calls_in, cycle_faults, target_in, targets_of, that_uses}
 use Rattle.al_check_interfaces.proofs.Inside.{calls_lie, wrong_uses_lie}
-use Rattle.al_session_folder.specs.declared.lint.Target.{Target}
+use Rattle.al_lint.specs.declared.lint.Target.{Target}
 use Rattle.al_check.specs.Calling.{file_targets}
 use Rattle.al_check.specs.Sites.{file_sites}
 use Rattle.al_check_calls.proofs.Inside.{call_faults_lie}

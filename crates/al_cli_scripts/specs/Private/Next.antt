@@ -1,8 +1,10 @@
 -- What the reader of commands says of the waiting bytes.
-use Rattle.std.specs.Prelude.{◌≡◌, ◌≢◌, ℕ, ◌<◌, ◌≤◌, ◌^◌, List, ◌∷◌, ◌++◌, length, take, drop, decimal, Option, MatchOption, slice_index}
+use Rattle.std.specs.Prelude.{◌≡◌, ◌≢◌, ℕ, ◌<◌, ◌≤◌, ◌^◌, List, ◌∷◌, ◌++◌, length, take, drop}
+use Rattle.std.specs.Prelude.{decimal, Option, MatchOption, slice_index}
 use Rattle.std.specs.Borrow.{Bor}
 use Rattle.al_cli_scripts.specs.Script as script
-use Rattle.al_cli_scripts.specs.Script.{command_bytes, IsCommand, IsWrong, IsPending, IsLine, IsPathText, line_bytes}
+use Rattle.al_cli_scripts.specs.Script.{command_bytes, IsCommand, IsWrong, IsPending, IsLine}
+use Rattle.al_cli_scripts.specs.Script.{IsPathText, line_bytes}
 use Rattle.al_cli_scripts.specs.declared.commands.Command.{Command}
 use Rattle.al_cli_scripts.specs.declared.commands.Command.TheVariants.{Put, Delete, Report}
 use Rattle.al_cli_scripts.specs.declared.commands.Line.{Line}
@@ -36,7 +38,8 @@ line_meaning line.Report = script.ReportLine
 
 -- the line that has these bytes, if there is one
 abbrev pub IsLineOf : List ℕ → Option Line → Type 0
-IsLineOf bytes result = MatchOption result ((l : script.ScriptLine) → IsLine l → bytes ≢ line_bytes l)
+IsLineOf bytes result =
+    MatchOption result ((l : script.ScriptLine) → IsLine l → bytes ≢ line_bytes l)
     (λ l. IsLine (line_meaning l) × (bytes ≡ line_bytes (line_meaning l)))
 
 -- the path and the length, if the bytes are a path, a space and a length

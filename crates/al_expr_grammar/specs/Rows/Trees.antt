@@ -3,7 +3,8 @@ use Rattle.std.specs.Prelude.{ℕ, ◌+◌, List, length}
 use Rattle.al_base.specs.declared.faults.Span.{Span}
 use Rattle.al_base.specs.Spans.{span}
 use Rattle.al_expr_grammar.specs.declared.token.Operator.{Operator}
-use Rattle.al_expr_grammar.specs.Tree.{Sign, sign, Tree, Named, Path, Chain, StepTree, Property, steps_of, operands_of}
+use Rattle.al_expr_grammar.specs.Tree.{Sign, sign, Tree, Named, Path, Chain, StepTree, Property}
+use Rattle.al_expr_grammar.specs.Tree.{steps_of, operands_of}
 
 -- the span of a mark of one byte
 abbrev pub mark_at : ℕ → Span

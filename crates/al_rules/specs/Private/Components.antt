@@ -8,7 +8,8 @@ use Rattle.al_rules_settings.specs.Words.{Named}
 
 -- whether two jobs have the same label
 abbrev pub has_label_of : List (Option ℕ) → ℕ → ℕ → Bool
-has_label_of labels j k = option_eq nat_eq (slice_index_or labels j None) (slice_index_or labels k None)
+has_label_of labels j k =
+    option_eq nat_eq (slice_index_or labels j None) (slice_index_or labels k None)
 
 -- the faults of an entry, given the position of the job that it names, if there is one
 abbrev pub labelled_fault : List (Option ℕ) → NeedEntry → Option ℕ → List Fault
@@ -18,6 +19,7 @@ labelled_fault labels n named = tested_faults (λ j. has_label_of labels j n.job
 abbrev pub named_by : (List ℕ → Option ℕ) → Named → Option ℕ
 named_by position n = position n.text
 
--- the faults of entries: a needed job is on a cycle if it has the same label as the job that needs it
+-- the faults of entries: a needed job is on a cycle if it has the same label as the job that needs
+-- it
 abbrev pub labelled_faults : (List ℕ → Option ℕ) → List (Option ℕ) → List NeedEntry → List Fault
 labelled_faults position labels = flat_map (λ n. labelled_fault labels n (named_by position n.text))

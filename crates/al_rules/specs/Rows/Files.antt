@@ -1,4 +1,5 @@
--- Small files, as their trees, and how the worked rows write them. The text of each is above its tree.
+-- Small files, as their trees, and how the worked rows write them. The text of each is above its
+-- tree.
 use Rattle.std.specs.Prelude.{ℕ, ◌+◌, List, [], ◌∷◌, codes, length}
 use Rattle.al_scalar.specs.Line.{Cell}
 use Rattle.al_scalar.specs.Scalar.{Scalar}
@@ -6,7 +7,8 @@ use Rattle.al_scalar.specs.declared.styles.Class.TheVariants.{Str}
 use Rattle.al_scalar.specs.declared.styles.Style.TheVariants.{Plain, SingleQuoted}
 use Rattle.al_base.specs.declared.faults.Fault.{Fault}
 use Rattle.al_base.specs.declared.faults.Span.{Span}
-use Rattle.al_yaml_tree.specs.Node.{Node, scalar, sequence, mapping, no_nodes, item, no_entries, entry}
+use Rattle.al_yaml_tree.specs.Node.{Node, scalar, sequence, mapping, no_nodes, item, no_entries}
+use Rattle.al_yaml_tree.specs.Node.{entry}
 use Rattle.al_graph.specs.Within.{leads_within}
 use Rattle.al_rules.specs.Needs.{needs_faults, needs_lists}
 use Rattle.al_base.specs.NamePlaces.{name_place}

@@ -1,10 +1,13 @@
--- The states of the code that reads a filter pattern, for private contracts. `Patterns` defines what a pattern is, and
--- `proofs/PatternLemmas` proves that the two agree.
-use Rattle.std.specs.Prelude.{ℕ, List, [], ◌∷◌, Bool, true, false, ◌==◌, nat_lt, if◌then◌else◌, Option, Some, None, option_and_then}
+-- The states of the code that reads a filter pattern, for private contracts. `Patterns` defines
+-- what a pattern is, and `proofs/PatternLemmas` proves that the two agree.
+use Rattle.std.specs.Prelude.{ℕ, List, [], ◌∷◌, Bool, true, false, ◌==◌, nat_lt, if◌then◌else◌}
+use Rattle.std.specs.Prelude.{Option, Some, None, option_and_then}
 use Rattle.al_base.specs.Ascii.{ascii}
 use Rattle.al_rules_formats.specs.Patterns.{is_mark}
 use Rattle.al_rules_formats.specs.declared.patterns.State.{State}
-use Rattle.al_rules_formats.specs.declared.patterns.State.TheVariants.{FirstItem, AfterItem, AfterEscape, ClassFirst, ClassNext, ClassLow}
+use Rattle.al_rules_formats.specs.declared.patterns.State.TheVariants.{FirstItem, AfterItem}
+use Rattle.al_rules_formats.specs.declared.patterns.State.TheVariants.{AfterEscape, ClassFirst}
+use Rattle.al_rules_formats.specs.declared.patterns.State.TheVariants.{ClassNext, ClassLow}
 use Rattle.al_rules_formats.specs.declared.patterns.State.TheVariants.{ClassDash}
 
 -- the transition outside of a class, after an item or not
@@ -22,8 +25,10 @@ read AfterItem c = outside true c
 read AfterEscape c = Some AfterItem
 read ClassFirst c = if c == ascii "]" then None else Some (ClassLow c)
 read ClassNext c = if c == ascii "]" then Some AfterItem else Some (ClassLow c)
-read (ClassLow a) c = if c == ascii "]" then Some AfterItem else if c == ascii "-" then Some (ClassDash a) else Some (ClassLow c)
-read (ClassDash a) c = if c == ascii "]" then Some AfterItem else if nat_lt c a then None else Some ClassNext
+read (ClassLow a) c = if c == ascii "]" then Some AfterItem else if c == ascii "-"
+    then Some (ClassDash a) else Some (ClassLow c)
+read (ClassDash a) c = if c == ascii "]" then Some AfterItem else if nat_lt c a then None
+    else Some ClassNext
 
 abbrev pub read_all : State → List ℕ → Option State
 read_all s [] = Some s

@@ -31,7 +31,8 @@ pub record Indicates (bytes : List ℕ) (at : ℕ) (asked : Result Header FaultA
   pub given : asked ≡ block.header_end h (text_at bytes h.end)
   pub on_line : OnLine bytes at h.end
 
--- whether a header may end at an offset: None if it may, otherwise the offset of the text that isn't allowed there
+-- whether a header may end at an offset: None if it may, otherwise the offset of the text that
+-- isn't allowed there
 abbrev pub EndsHeader : List ℕ → ℕ → Option ℕ → Type 0
 EndsHeader bytes at None = (h : Header) → block.header_end h (text_at bytes at) ≡ Ok h
 EndsHeader bytes at (Some place) = (h : Header) → block.header_end h (text_at bytes at)
@@ -54,17 +55,22 @@ RowStarts bytes at m found r = RowTo bytes at (block.row_of m found (text_at byt
 abbrev pub indent_from : ℕ → List Cell → Option ℕ
 indent_from within text = if nat_le within (indent text) then Some (indent text) else None
 
--- The scalar from a row on: `found` is as in `rows_at`, `last` and `empties` as in `text_after`, `end` as in `rows_end`.
-abbrev pub rest : Bool → Chomping → Option ℕ → Bool → Option BlockLine → List ℕ → ℕ → List Line → Taken
+-- The scalar from a row on: `found` is as in `rows_at`, `last` and `empties` as in `text_after`,
+-- `end` as in `rows_end`.
+abbrev pub rest : Bool → Chomping → Option ℕ → Bool → Option BlockLine → List ℕ → ℕ
+    → List Line → Taken
 rest is_literal k m found last empties end ls =
     let rs = block.rows_at m found ls in
     record { text = block.text_after is_literal k last empties rs.rows; end = block.rows_end end rs.rows; left = rs.left }
 
 abbrev pub rest_of : BlockStyle → Bool → Option BlockLine → List ℕ → ℕ → List Line → Taken
-rest_of style found last empties end ls = rest style.literal style.chomping style.indent found last empties end ls
+rest_of style found last empties end ls =
+    rest style.literal style.chomping style.indent found last empties end ls
 
--- After one row is read, the text so far and the rows after it give the same text as before with that row.
-abbrev pub AddsRow : Bool → List Cell → RowState → List Cell → List ℕ → List Cell → RowState → Type 0
+-- After one row is read, the text so far and the rows after it give the same text as before with
+-- that row.
+abbrev pub AddsRow : Bool → List Cell → RowState → List Cell → List ℕ → List Cell
+    → RowState → Type 0
 AddsRow is_literal old was text break new is =
     (k : Chomping) (rs : List BlockLine) →
     old ++ block.text_after is_literal k (last_row was.last) was.empties.items (record { text = text; break = break } ∷ rs)

@@ -10,4 +10,5 @@ use Rattle.al_scalar.specs.declared.scalars.ScalarRead.{ScalarRead}
 
 abbrev pub GivesIn : List ℕ → ℕ → plain.Context → Result ScalarRead YamlFault → Type 0
 GivesIn bytes at p (Ok r) = value.scalar_at p (lines_at bytes at) ≡ Ok (read_of bytes r)
-GivesIn bytes at p (Err f) = (value.scalar_at p (lines_at bytes at) ≡ Err (placed_fault f)) × (f.span ≡ character_at bytes f.span.start)
+GivesIn bytes at p (Err f) = (value.scalar_at p (lines_at bytes at) ≡ Err (placed_fault f))
+    × (f.span ≡ character_at bytes f.span.start)

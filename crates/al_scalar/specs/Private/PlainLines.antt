@@ -1,6 +1,7 @@
 -- What the reader of plain scalars returns, in terms of offsets.
 use Rattle.std.specs.Prelude.{◌≡◌, ◌≢◌, ◌<◌, length, slice_index}
-use Rattle.std.specs.Prelude.{ℕ, List, [], ◌∷◌, Bool, true, false, not, ◌&&◌, if◌then◌else◌, Result, Ok}
+use Rattle.std.specs.Prelude.{ℕ, List, [], ◌∷◌, Bool, true, false, not, ◌&&◌, if◌then◌else◌, Result}
+use Rattle.std.specs.Prelude.{Ok}
 use Rattle.al_scalar.specs.Line.{Cell, Line, after_blanks, is_empty, is_all_blank}
 use Rattle.al_scalar.specs.Taken.{Taken, feeds, folded_break}
 use Rattle.al_scalar.specs.declared.faults.FaultAt.{FaultAt}
@@ -36,8 +37,8 @@ empty_ends (l ∷ ls) =
     let more = empty_ends ls in
     if is_blank_line l then l.end ∷ more else []
 
--- the line feeds or the space that are still to be added for a break and the breaks of the empty lines after it;
--- the flag says that an empty line came before these
+-- the line feeds or the space that are still to be added for a break and the breaks of the empty
+-- lines after it; the flag says that an empty line came before these
 abbrev pub break_left : Bool → ℕ → List ℕ → List Cell
 break_left true break ends = feeds ends
 break_left false break ends = folded_break break ends
@@ -55,7 +56,8 @@ after_part p bytes end =
 
 -- the part of a line from offset `at` ends at `end`
 abbrev pub PartTo : Context → Bool → List ℕ → ℕ → ℕ → Type 0
-PartTo p after_blank bytes at end = plain_part p after_blank (text_at bytes at) ≡ (cells_between bytes at end, text_at bytes end)
+PartTo p after_blank bytes at end =
+    plain_part p after_blank (text_at bytes at) ≡ (cells_between bytes at end, text_at bytes end)
 
 -- the byte is no blank and no part of a break, and a scalar can't end before it
 pub record IsWordByte (b : ℕ) : Type 0 where

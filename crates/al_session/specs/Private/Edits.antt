@@ -3,7 +3,7 @@ use Rattle.std.specs.Prelude.{◌≡◌, ◌≤◌, ◌<◌, ℕ, Bool, true, Li
 use Rattle.al_base.specs.Counted.{count_after}
 use Rattle.al_base.specs.Limits.{largest_file, most_files}
 use Rattle.al_base.specs.Paths.{path_fault_of}
-use Rattle.al_session_folder.specs.Meaning.{IsUpTo, Meaning}
+use Rattle.al_lint.specs.Meaning.{IsUpTo, Meaning}
 use Rattle.al_session_folder.specs.Folder.{Folder, bytes_at}
 use Rattle.al_session_folder.specs.Affected.{affected_paths}
 use Rattle.al_session.specs.Session.{IsLinted, folder_in}

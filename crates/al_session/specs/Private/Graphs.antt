@@ -1,6 +1,6 @@
 -- The graph of calls that is kept beside the files.
 use Rattle.std.specs.Prelude.{Option, Some, None}
-use Rattle.al_session_folder.specs.Meaning.{Meaning}
+use Rattle.al_lint.specs.Meaning.{Meaning}
 use Rattle.al_session_folder.specs.Folder.{Folder}
 use Rattle.al_session_folder.specs.CallGraphs.{IsCallGraph}
 use Rattle.al_session_folder.specs.declared.cycles.CallGraph.{CallGraph}

@@ -1,6 +1,6 @@
 -- The rows of the table of fault codes, as the code has them.
 use Rattle.std.specs.Prelude.{◌≡◌}
-use Rattle.al_base.specs.Codes.{code_row}
+use Rattle.al_text.specs.Wordings.{code_row}
 use Rattle.al_base.specs.declared.codes.Code.{Code}
 use Rattle.al_text.specs.declared.wordings.CodeRow.{CodeRow}
 

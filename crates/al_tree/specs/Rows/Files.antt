@@ -1,11 +1,13 @@
--- Small files, as their trees, and how the worked rows write them. The text of each is above its tree.
+-- Small files, as their trees, and how the worked rows write them. The text of each is above its
+-- tree.
 use Rattle.std.specs.Prelude.{ℕ, ◌+◌, List, [], codes, length, map}
 use Rattle.al_scalar.specs.Scalar.{Scalar}
 use Rattle.al_scalar.specs.declared.styles.Class.{Class}
 use Rattle.al_scalar.specs.declared.styles.Class.TheVariants.{Null, Int, Str}
 use Rattle.al_scalar.specs.declared.styles.Style.TheVariants.{Plain}
 use Rattle.al_base.specs.declared.faults.Span.{Span}
-use Rattle.al_yaml_tree.specs.Node.{Node, scalar, sequence, mapping, no_nodes, item, no_entries, entry}
+use Rattle.al_yaml_tree.specs.Node.{Node, scalar, sequence, mapping, no_nodes, item, no_entries}
+use Rattle.al_yaml_tree.specs.Node.{entry}
 
 abbrev pub at : ℕ → ℕ → Span
 at i j = record { start = i; end = j }

@@ -1,5 +1,6 @@
 -- What a stack of open block collections stands for, and how contracts speak of it.
-use Rattle.std.specs.Prelude.{◌≡◌, ℕ, suc, ◌+◌, ◌<◌, ◌≤◌, List, length, map, Bool, true, if◌then◌else◌, Option, Some, None, Result, Ok, Err}
+use Rattle.std.specs.Prelude.{◌≡◌, ℕ, suc, ◌+◌, ◌<◌, ◌≤◌, List, length, map, Bool, true}
+use Rattle.std.specs.Prelude.{if◌then◌else◌, Option, Some, None, Result, Ok, Err}
 use Rattle.al_scalar.specs.Line.{Line}
 use Rattle.al_scalar.specs.Places.{first_text, lines_at, text_at}
 use Rattle.al_scalar.specs.Scalar.{ScalarRead}
@@ -9,7 +10,8 @@ use Rattle.al_yaml_tree.specs.Reading.{Reading, gives, Part, part, with_span, �
 use Rattle.al_yaml_tree.specs.Content as content
 use Rattle.al_yaml_tree.specs.Flow.{CollectionReader, flow_collection}
 use Rattle.al_yaml_tree.specs.Keys.{Key, no_entry, entry_key}
-use Rattle.al_yaml_tree.specs.Blocks.{BlockReader, rest_below, sequence_entries, mapping_entries, block_node, bare_node}
+use Rattle.al_yaml_tree.specs.Blocks.{BlockReader, rest_below, sequence_entries, mapping_entries}
+use Rattle.al_yaml_tree.specs.Blocks.{block_node, bare_node}
 use Rattle.al_yaml_parts.specs.BlockReads.{IsKeyAfter, IsTabInside, key_seen, slot_of}
 use Rattle.al_yaml_parts.specs.Answers.{then_read, noting}
 use Rattle.al_yaml_parts.specs.Answers.{mark_of}
@@ -40,7 +42,8 @@ pub data BlockWaiting : Type 0 where
   item : Bool → Nodes → BlockWaiting
   value : Entries → ScalarRead → BlockWaiting
 
--- An open collection from here on. bound is what the nodes in it are read with, turns bounds what is still read.
+-- An open collection from here on. bound is what the nodes in it are read with, turns bounds what
+-- is still read.
 abbrev pub block_rest : ℕ → ℕ → ℕ → ℕ → ℕ → BlockOpen → List Line → Reading (Part Node)
 block_rest turns bound depth start column (items in_mapping done) ls =
     with_span sequence start (sequence_entries (block_node bound) (flow_collection (suc bound)) turns in_mapping column depth done ls)
@@ -49,12 +52,15 @@ block_rest turns bound depth start column (entries done key) ls =
 
 -- what is on the next line of a sequence, and of a mapping, in its column
 
-abbrev pub more_items : BlockReader → CollectionReader → ℕ → Bool → ℕ → ℕ → Part Nodes → List Line → Reading (Part Nodes)
+abbrev pub more_items : BlockReader → CollectionReader → ℕ → Bool → ℕ → ℕ → Part Nodes → List Line
+    → Reading (Part Nodes)
 more_items node collection turns in_mapping column depth now left =
-    if content.is_dash (first_text left) then sequence_entries node collection turns in_mapping column depth now.value left
+    if content.is_dash (first_text left)
+    then sequence_entries node collection turns in_mapping column depth now.value left
     else (if in_mapping then gives now else no_entry collection depth left)
 
-abbrev pub more_entries : BlockReader → CollectionReader → ℕ → ℕ → ℕ → Part Entries → List Line → Reading (Part Entries)
+abbrev pub more_entries : BlockReader → CollectionReader → ℕ → ℕ → ℕ → Part Entries → List Line
+    → Reading (Part Entries)
 more_entries node collection turns column depth now left =
     entry_key collection depth left >>= (λ key. mapping_entries node collection turns column depth now.value key)
 
@@ -71,11 +77,14 @@ block_waits turns bound depth start column (value done k) x =
 
 abbrev pub block_open_of : List ℕ → open_type.BlockOpen → BlockOpen
 block_open_of bytes (open_code.Items in_mapping v) = items in_mapping (nodes_of (map view v.items))
-block_open_of bytes (open_code.Entries v key) = entries (entries_of (map entry_view v.items)) (key_seen bytes key)
+block_open_of bytes (open_code.Entries v key) =
+    entries (entries_of (map entry_view v.items)) (key_seen bytes key)
 
 abbrev pub block_waiting_of : List ℕ → waiting_type.BlockWaiting → BlockWaiting
-block_waiting_of bytes (waiting_code.Item in_mapping v) = item in_mapping (nodes_of (map view v.items))
-block_waiting_of bytes (waiting_code.Value v read) = value (entries_of (map entry_view v.items)) (read_of bytes read)
+block_waiting_of bytes (waiting_code.Item in_mapping v) =
+    item in_mapping (nodes_of (map view v.items))
+block_waiting_of bytes (waiting_code.Value v read) =
+    value (entries_of (map entry_view v.items)) (read_of bytes read)
 
 -- what reads a node from its first character on, or from after its anchor
 abbrev pub node_reader : ℕ → Option ℕ → BlockReader
@@ -111,13 +120,16 @@ IsNextAt (next.Line indent first) at = at ≡ first
 
 -- the next content line after a part
 abbrev pub IsNextAfter : List ℕ → code.Part → Next → Type 0
-IsNextAfter bytes p x = (content.content (lines_at bytes p.next) ≡ Ok (next_of bytes x)) × IsNextInside (length bytes) x
+IsNextAfter bytes p x = (content.content (lines_at bytes p.next) ≡ Ok (next_of bytes x))
+    × IsNextInside (length bytes) x
     × IsLineFrom p.next (length bytes) x
 
 -- ---- a node: it was read whole, a collection begins, or it comes after an anchor
 
-abbrev pub Begins : List ℕ → ℕ → ℕ → Reading (Part Node) → State → Result task_type.BlockTask ReadError → State → Type 0
-Begins bytes bound depth reading before (Ok (task.Read p)) after = run before reading ≡ Ok (part_of bytes p, after)
+abbrev pub Begins : List ℕ → ℕ → ℕ → Reading (Part Node) → State
+    → Result task_type.BlockTask ReadError → State → Type 0
+Begins bytes bound depth reading before (Ok (task.Read p)) after =
+    run before reading ≡ Ok (part_of bytes p, after)
 Begins bytes bound depth reading before (Ok (task.Inside x)) after =
     run before reading
     ≡ noting (mark_of bytes x.begun.anchor)
@@ -127,7 +139,8 @@ Begins bytes bound depth reading before (Ok (task.Node x)) after =
     run before reading
     ≡ noting (mark_of bytes x.anchor)
     (run after (node_reader (suc bound) x.anchor (slot_of x.slot) depth x.start.column (lines_at bytes x.start.at)))
-Begins bytes bound depth reading before (Ok (task.Found r)) after = run before reading ≡ Ok (part_of bytes r.part, after)
+Begins bytes bound depth reading before (Ok (task.Found r)) after =
+    run before reading ≡ Ok (part_of bytes r.part, after)
 Begins bytes bound depth reading before (Err e) after = FailsWith reading before e
 
 -- a node in a collection that begins at an offset was read, and the line after it
@@ -141,7 +154,8 @@ abbrev pub IsFoundPart : List ℕ → ℕ → before_type.PartBefore → Type 0
 IsFoundPart bytes from r = IsPartAfter bytes from r.part × IsNextAfter bytes r.part r.next
 
 -- what comes after a dash, a colon or an anchor: a node, or the empty node, which was read
-abbrev pub FindsBlock : List ℕ → BlockReader → Option ℕ → ℕ → Reading (Part Node) → State → Result task_type.BlockTask ReadError → State →
+abbrev pub FindsBlock : List ℕ → BlockReader → Option ℕ → ℕ → Reading (Part Node) → State
+    → Result task_type.BlockTask ReadError → State →
     Type 0
 FindsBlock bytes node anchor depth reading before (Ok (task.Node x)) after =
     (x.anchor ≡ anchor) × (run before reading ≡ run after (node (slot_of x.slot) depth x.start.column (lines_at bytes x.start.at)))
@@ -154,15 +168,18 @@ FindsBlock bytes node anchor depth reading before (Err e) after = FailsWith read
 -- ---- where it lies
 
 abbrev pub IsOpenAt : List ℕ → ℕ → ℕ → open_type.BlockOpen → Type 0
-IsOpenAt bytes column at (open_code.Items in_mapping v) = (content.is_dash (text_at bytes at) ≡ true) × (at < length bytes) × (column ≤ at)
+IsOpenAt bytes column at (open_code.Items in_mapping v) =
+    (content.is_dash (text_at bytes at) ≡ true) × (at < length bytes) × (column ≤ at)
 IsOpenAt bytes column at (open_code.Entries v key) = IsKeyAfter bytes at key × (column ≤ at)
 
 abbrev pub IsBegun : List ℕ → ℕ → ℕ → task_type.BlockTask → Type 0
 IsBegun bytes from depth (task.Read p) = IsPartAfter bytes from p
 IsBegun bytes from depth (task.Inside x) =
-    (x.begun.start.at ≡ from) × (x.at ≡ from) × (depth ≤ 64) × IsOpenAt bytes x.begun.start.column x.at x.has
+    (x.begun.start.at ≡ from) × (x.at ≡ from) × (depth ≤ 64)
+    × IsOpenAt bytes x.begun.start.column x.at x.has
 IsBegun bytes from depth (task.Node x) = IsNodeAt bytes x.slot x.start × (from < x.start.at)
-IsBegun bytes from depth (task.Found r) = IsPartAfter bytes from r.part × IsNextAfter bytes r.part r.next
+IsBegun bytes from depth (task.Found r) =
+    IsPartAfter bytes from r.part × IsNextAfter bytes r.part r.next
 
 abbrev pub IsFoundFrom : List ℕ → ℕ → task_type.BlockTask → Type 0
 IsFoundFrom bytes from (task.Node x) = IsNodeAt bytes x.slot x.start × (from ≤ x.start.at)
@@ -172,7 +189,8 @@ IsFoundFrom bytes from (task.Inside x) = ⊥
 
 -- ---- a collection goes on: with what it waits and for what, and after the node that it waited for
 
-abbrev pub EntersWith : List ℕ → ℕ → ℕ → ℕ → ℕ → ℕ → Reading (Part Node) → State → waiting_type.BlockWaiting → task_type.BlockTask
+abbrev pub EntersWith : List ℕ → ℕ → ℕ → ℕ → ℕ → ℕ → Reading (Part Node) → State
+    → waiting_type.BlockWaiting → task_type.BlockTask
     → State → Type 0
 EntersWith bytes bound turns depth start column reading before w (task.Node x) after =
     (x.anchor ≡ None) × (run before reading
@@ -188,7 +206,8 @@ abbrev pub Enters : List ℕ → ℕ → ℕ → ℕ → ℕ → ℕ → Reading
     Result (waiting_type.BlockWaiting × task_type.BlockTask) ReadError → State → Type 0
 Enters bytes bound turns depth start column reading before (Ok r) after =
     EntersWith bytes bound turns depth start column reading before r.0 r.1 after
-Enters bytes bound turns depth start column reading before (Err e) after = FailsWith reading before e
+Enters bytes bound turns depth start column reading before (Err e) after =
+    FailsWith reading before e
 
 abbrev pub ResumesBlock : List ℕ → ℕ → ℕ → ℕ → ℕ → ℕ → Option ℕ → BlockWaiting → Part Node → State
     → Result task_type.BlockTask ReadError → State → Type 0
@@ -197,7 +216,8 @@ ResumesBlock bytes bound turns depth start column mark w x before (Ok (task.Insi
     × (run before (block_waits turns bound depth start column w x)
     ≡ run after (block_rest turns bound depth start column (block_open_of bytes i.has) (lines_at bytes i.at)))
 ResumesBlock bytes bound turns depth start column mark w x before (Ok (task.Found r)) after =
-    noting (mark_of bytes mark) (run before (block_waits turns bound depth start column w x)) ≡ Ok (part_of bytes r.part, after)
+    noting (mark_of bytes mark) (run before (block_waits turns bound depth start column w x))
+    ≡ Ok (part_of bytes r.part, after)
 ResumesBlock bytes bound turns depth start column mark w x before (Ok (task.Read p)) after = ⊥
 ResumesBlock bytes bound turns depth start column mark w x before (Ok (task.Node n)) after = ⊥
 ResumesBlock bytes bound turns depth start column mark w x before (Err e) after =
@@ -207,7 +227,8 @@ abbrev pub IsEntered : List ℕ → ℕ → waiting_type.BlockWaiting × task_ty
 IsEntered bytes at r = IsFoundFrom bytes (suc at) r.1
 
 abbrev pub IsResumed : List ℕ → ℕ → task_type.BlockTask → Type 0
-IsResumed bytes from (task.Inside x) = IsOpenAt bytes x.begun.start.column x.at x.has × (from ≤ x.at)
+IsResumed bytes from (task.Inside x) =
+    IsOpenAt bytes x.begun.start.column x.at x.has × (from ≤ x.at)
 IsResumed bytes from (task.Found r) = IsFoundPart bytes from r
 IsResumed bytes from (task.Read p) = ⊥
 IsResumed bytes from (task.Node x) = ⊥

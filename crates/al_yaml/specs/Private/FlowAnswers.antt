@@ -18,11 +18,13 @@ use Rattle.al_yaml_tree.specs.View.{view}
 
 -- The depth is that of the outermost collection.
 abbrev pub flow_goes : ℕ → Goes Frame
-flow_goes depth bound turns outside f o = then_read (noting f.mark o) (frame_rest (flow_collection bound) turns (depth + outside + 1) f)
+flow_goes depth bound turns outside f o =
+    then_read (noting f.mark o) (frame_rest (flow_collection bound) turns (depth + outside + 1) f)
 
 -- The innermost collection is read from an offset on.
 abbrev pub Inside : List ℕ → ℕ → NodeAnswer → List Frame → State → ℕ → Open → ℕ → Type 0
-Inside bytes depth whole fs n opening has at = IsInnermost (flow_goes depth) (length bytes) whole fs at
+Inside bytes depth whole fs n opening has at =
+    IsInnermost (flow_goes depth) (length bytes) whole fs at
     (λ bound turns. run n (open_rest (flow_collection bound) turns (depth + length fs + 1) opening has (lines_at bytes at)))
 
 -- A node was read in the innermost collection on the stack.
@@ -31,12 +33,15 @@ AfterNode bytes depth whole fs n p = IsInnermost (flow_goes depth) (length bytes
 
 -- What comes next in the innermost collection.
 abbrev pub Keeps : List ℕ → ℕ → NodeAnswer → List FlowFrame → State → ℕ → Open → After → Type 0
-Keeps bytes depth whole stack n opening has (after.GoesOn at) = Inside bytes depth whole (map (frame_of bytes) stack) n opening has at
+Keeps bytes depth whole stack n opening has (after.GoesOn at) =
+    Inside bytes depth whole (map (frame_of bytes) stack) n opening has at
 Keeps bytes depth whole stack n opening has (after.Closes end) =
     (p : code.Part) → view p.node ≡ closed_of opening has end → p.end ≡ end → p.next ≡ end
     → AfterNode bytes depth whole (map (frame_of bytes) stack) n p
 
 -- what a step leaves
-abbrev pub Answers : List ℕ → ℕ → NodeAnswer → List FlowFrame → Result OpenFlow ReadError → State → Type 0
-Answers bytes depth whole outer (Ok now) n = Keeps bytes depth whole outer n now.opening (open_of now.has) now.next
+abbrev pub Answers : List ℕ → ℕ → NodeAnswer → List FlowFrame → Result OpenFlow ReadError
+    → State → Type 0
+Answers bytes depth whole outer (Ok now) n =
+    Keeps bytes depth whole outer n now.opening (open_of now.has) now.next
 Answers bytes depth whole outer (Err e) n = WholeStops whole e

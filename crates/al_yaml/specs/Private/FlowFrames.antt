@@ -1,5 +1,6 @@
 -- How contracts speak of open flow collections.
-use Rattle.std.specs.Prelude.{◌≡◌, ℕ, suc, ◌+◌, ◌<◌, ◌≤◌, List, [], ◌∷◌, length, map, Option, Some, None, Result, Ok, Err}
+use Rattle.std.specs.Prelude.{◌≡◌, ℕ, suc, ◌+◌, ◌<◌, ◌≤◌, List, [], ◌∷◌, length, map, Option, Some}
+use Rattle.std.specs.Prelude.{None, Result, Ok, Err}
 use Rattle.al_scalar.specs.ReadScalar.{read_of}
 use Rattle.al_scalar.specs.Places.{lines_at}
 use Rattle.al_base.specs.Spans.{span}
@@ -39,7 +40,8 @@ mapping_waiting bytes at es None = frames.key at
 -- what waits for it in any collection
 abbrev pub waiting_of : List ℕ → ℕ → Open → frames.Waiting
 waiting_of bytes at (open_code.Items v) = frames.item (nodes_of (map view v.items))
-waiting_of bytes at (open_code.Entries m) = mapping_waiting bytes at (entries_of (map entry_view m.entries.items)) m.waits
+waiting_of bytes at (open_code.Entries m) =
+    mapping_waiting bytes at (entries_of (map entry_view m.entries.items)) m.waits
 
 abbrev pub frame_of : List ℕ → FlowFrame → frames.Frame
 frame_of bytes f = record { opening = f.opening; mark = mark_of bytes f.inner.anchor; waiting = waiting_of bytes f.inner.at f.has }
@@ -65,11 +67,14 @@ IsAfter at size (after.GoesOn next) = (at < next) × (next ≤ size)
 IsAfter at size (after.Closes next) = (at < next) × (next ≤ size)
 
 -- reading goes on in a collection after a comma, or ends with its closer
-abbrev pub GoesOn : List ℕ → ℕ → ℕ → (CollectionReader → ℕ → Answer (Part tree.Node)) → frames.Open → After → State → Type 0
+abbrev pub GoesOn : List ℕ → ℕ → ℕ → (CollectionReader → ℕ → Answer (Part tree.Node)) → frames.Open
+    → After → State → Type 0
 GoesOn bytes depth opening now has (after.GoesOn at) s =
-    (c : CollectionReader) (turns : ℕ) → now c turns ≡ run s (open_rest c turns depth opening has (lines_at bytes at))
+    (c : CollectionReader) (turns : ℕ)
+    → now c turns ≡ run s (open_rest c turns depth opening has (lines_at bytes at))
 GoesOn bytes depth opening now has (after.Closes end) s =
-    (c : CollectionReader) (turns : ℕ) → now c turns ≡ Ok (part (closed_of opening has end) end (lines_at bytes end), s)
+    (c : CollectionReader) (turns : ℕ)
+    → now c turns ≡ Ok (part (closed_of opening has end) end (lines_at bytes end), s)
 
 -- what a collection is from its bracket on, with nothing read in it
 abbrev pub Opens : List ℕ → ℕ → ℕ → State → frames.Open → After → State → Type 0
@@ -86,12 +91,15 @@ Steps bytes depth opening reading before has (Ok (step.Opens b)) s =
     (c : CollectionReader) (turns : ℕ) → run before (reading c (suc turns))
     ≡ then_read (noting (mark_of bytes b.anchor) (run s (c depth (lines_at bytes b.at))))
     (waiting_rest c turns depth opening (waiting_of bytes b.at has))
-Steps bytes depth opening reading before has (Err e) s = (c : CollectionReader) (turns : ℕ) → FailsWith (reading c (suc turns)) before e
+Steps bytes depth opening reading before has (Err e) s =
+    (c : CollectionReader) (turns : ℕ) → FailsWith (reading c (suc turns)) before e
 
-abbrev pub Resumes : List ℕ → ℕ → ℕ → frames.Waiting → Part tree.Node → State → frames.Open → Result After ReadError → Type 0
+abbrev pub Resumes : List ℕ → ℕ → ℕ → frames.Waiting → Part tree.Node → State → frames.Open
+    → Result After ReadError → Type 0
 Resumes bytes depth opening w x s has (Ok next) =
     GoesOn bytes depth opening (λ c turns. run s (waiting_rest c turns depth opening w x)) has next s
-Resumes bytes depth opening w x s has (Err e) = (c : CollectionReader) (turns : ℕ) → FailsWith (waiting_rest c turns depth opening w x) s e
+Resumes bytes depth opening w x s has (Err e) =
+    (c : CollectionReader) (turns : ℕ) → FailsWith (waiting_rest c turns depth opening w x) s e
 
 -- ---- where they lie
 
@@ -118,7 +126,8 @@ abbrev pub AreOpen : ℕ → List FlowFrame → Type 0
 AreOpen size [] = Unit {0}
 AreOpen size (f ∷ fs) = (f.opening < size) × (f.inner.at < size) × AreOpen size fs
 
--- where reading goes on in an open collection or in one that was opened in it, and what is open then
+-- where reading goes on in an open collection or in one that was opened in it, and what is open
+-- then
 pub record IsFurther (size at depth : ℕ) (old new : OpenCollections) (now : OpenFlow) : Type 0 where
   pub blocks : new.blocks ≡ old.blocks
   pub outer : AreOpen size new.flows

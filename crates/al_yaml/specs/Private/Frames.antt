@@ -1,4 +1,5 @@
--- What a stack of open collections stands for: what is still to be read after the node that is read now.
+-- What a stack of open collections stands for: what is still to be read after the node that is read
+-- now.
 use Rattle.std.specs.Prelude.{ℕ, ◌+◌, List, false, if◌then◌else◌, Option, Result, Ok}
 use Rattle.al_base.specs.declared.codes.YamlCode.TheVariants as yaml
 use Rattle.al_base.specs.Ascii.{ascii}
@@ -10,10 +11,12 @@ use Rattle.al_scalar.specs.declared.faults.FaultAt.{FaultAt}
 use Rattle.al_yaml_tree.specs.Content.{past, is_file_end}
 use Rattle.al_yaml_tree.specs.Node.{Node, Nodes, Entries, sequence, mapping, with_item, with_entry}
 use Rattle.al_yaml_tree.specs.Reading.{Reading, fails, Part, with_span}
-use Rattle.al_yaml_tree.specs.Flow.{CollectionReader, gap, flow_items, flow_entries, flow_node_over, rest_after}
+use Rattle.al_yaml_tree.specs.Flow.{CollectionReader, gap, flow_items, flow_entries, flow_node_over}
+use Rattle.al_yaml_tree.specs.Flow.{rest_after}
 use Rattle.al_yaml_parts.specs.Answers.{Mark}
 
--- What comes after an item: a comma, with the lines of what follows it, or the closing bracket with its end.
+-- What comes after an item: a comma, with the lines of what follows it, or the closing bracket with
+-- its end.
 pub data After : Type 0 where
   goes_on : List Line → After
   closes : ℕ → List Line → After
@@ -30,8 +33,8 @@ pub data Open : Type 0 where
   items : Nodes → Open
   entries : Entries → Open
 
--- What a flow collection waits with while a node in it is read: the items before it; the entries before it and the key
--- whose value it is; or the offset of a collection in the place of a key.
+-- What a flow collection waits with while a node in it is read: the items before it; the entries
+-- before it and the key whose value it is; or the offset of a collection in the place of a key.
 pub data Waiting : Type 0 where
   item : Nodes → Waiting
   value : Entries → ScalarRead → Waiting
@@ -43,7 +46,8 @@ pub record Frame : Type 0 where
   pub mark : Option Mark
   pub waiting : Waiting
 
--- An open collection from here on; collection reads what begins with a bracket in it, turns bounds what is still read.
+-- An open collection from here on; collection reads what begins with a bracket in it, turns bounds
+-- what is still read.
 abbrev pub open_rest : CollectionReader → ℕ → ℕ → ℕ → Open → List Line → Reading (Part Node)
 open_rest collection turns depth opening (items done) ls =
     with_span sequence opening (flow_items (flow_node_over collection) turns opening depth done ls)

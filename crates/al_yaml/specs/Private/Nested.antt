@@ -1,4 +1,5 @@
--- What the whole answers, by the collections that are open in it: what is still to be read gives the same answer.
+-- What the whole answers, by the collections that are open in it: what is still to be read gives
+-- the same answer.
 use Rattle.std.specs.Prelude.{◌≡◌, ℕ, suc, ◌+◌, ◌<◌, List, [], ◌∷◌, length, Err}
 use Rattle.al_yaml_tree.specs.Node.{Node}
 use Rattle.al_yaml_tree.specs.Reading.{Part}
@@ -9,16 +10,18 @@ use Rattle.al_yaml_parts.specs.declared.faults.ReadError.TheVariants as stop
 abbrev pub NodeAnswer : Type 0
 NodeAnswer = Answer (Part Node)
 
--- What an open collection answers if what is read in it answers so. Bounds come first: how deep collections nest in it, and how much it
--- still reads; then how many collections are around it.
+-- What an open collection answers if what is read in it answers so. Bounds come first: how deep
+-- collections nest in it, and how much it still reads; then how many collections are around it.
 abbrev pub Goes : Type 0 → Type 0
 Goes F = ℕ → ℕ → ℕ → F → NodeAnswer → NodeAnswer
 
--- What the whole answers if what is read in the innermost of these answers so. Each has a bound on what it still reads.
+-- What the whole answers if what is read in the innermost of these answers so. Each has a bound on
+-- what it still reads.
 abbrev pub whole_answer : {F : Type 0} → Goes F → ℕ → List F → List ℕ → NodeAnswer → NodeAnswer
 whole_answer goes bound [] ts o = o
 whole_answer goes bound (f ∷ fs) [] o = o
-whole_answer goes bound (f ∷ fs) (t ∷ ts) o = whole_answer goes (suc bound) fs ts (goes bound t (length fs) f o)
+whole_answer goes bound (f ∷ fs) (t ∷ ts) o =
+    whole_answer goes (suc bound) fs ts (goes bound t (length fs) f o)
 
 -- each bound is more than what is left of the file
 abbrev pub AreEnough : {F : Type 0} → ℕ → ℕ → List F → List ℕ → Type 0

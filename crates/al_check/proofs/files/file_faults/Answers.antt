@@ -3,7 +3,7 @@ use Rattle.std.specs.Option.{option_copied}
 use Rattle.al_base.proofs.Sets.{set_moved_after}
 use Rattle.al_base.specs.FaultLists.{fault_list}
 use Rattle.al_base.specs.Growth.{SameSet}
-use Rattle.al_session_folder.specs.Meaning.{AreAnswers}
+use Rattle.al_lint.specs.Meaning.{AreAnswers}
 use Rattle.al_tree.specs.Files.{kind_in, root_of}
 use Rattle.al_check_calls.specs.FileCalls.{faults_with_answers}
 use Rattle.al_check_interfaces.specs.FolderCalls.{AreCallsOf}

@@ -1,6 +1,6 @@
 use Rattle.std.proofs.Common.{◌≡◌, true}
 use Rattle.al_base.proofs.Growing.{begins_trans}
-use Rattle.al_types.specs.declared.names.Context.{Context}
+use Rattle.al_expr_names.specs.declared.names.Context.{Context}
 use Rattle.al_expr_types.specs.Tables.{is_known, type_at}
 use Rattle.al_expr_typing.specs.Scopes.{context_number}
 use Rattle.al_expr_typing.specs.declared.scope.ContextTypes as numbers

@@ -1,7 +1,7 @@
 use Rattle.std.proofs.Common.{◌≡◌, ◌++◌, get_or, length, map, sym, true, ap, ◌∙◌, append-nil, arith}
 use Rattle.std.proofs.lemmas.List.{at_drop_all, get_or_default, length-map}
 use Rattle.al_expr_grammar.proofs.RestItems.{rest_item}
-use Rattle.al_types.specs.Signatures.{takes_count}
+use Rattle.al_expr_names.specs.Signatures.{takes_count}
 use Rattle.al_expr_types.specs.declared.ty.Base.TheVariants as base
 use Rattle.al_expr_types.specs.declared.ty.Scalar.TheVariants as scalar
 use Rattle.al_expr_typing.specs.Arguments.{argument_in}

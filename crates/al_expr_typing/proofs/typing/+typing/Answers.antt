@@ -3,7 +3,7 @@ use Rattle.std.specs.Prelude.{not, ◌||◌}
 use Rattle.std.proofs.Math.Bool.{or-true}
 use Rattle.std.proofs.lemmas.List.{map-append, at_drop_all}
 use Rattle.std.proofs.lemmas.Result.{IfOk-weaker}
-use Rattle.al_types.specs.Names.{function_of}
+use Rattle.al_expr_names.specs.Names.{function_of}
 use Rattle.al_expr_grammar.specs.Extents.{extent}
 use Rattle.al_expr_grammar.specs.Tree.{sign, steps_of, operands_of, arguments_of}
 use Rattle.al_expr_grammar.specs.View.{expr_view, step_of, operand_of}

@@ -10,6 +10,6 @@ use Rattle.al_session.proofs.edit.index_file.Goals as goal
 pub reindex-requires : goal.reindex-requires
 reindex-requires g c text =
     let es = c.args.kept.now.files.entries in
-    let empty = sym (ap (list_any (λ k. bytes_eq text (string_bytes k))) c.new-none.ensures.empty) in
+    let empty = sym (ap (list_any (λ k. bytes_eq text (string_bytes k))) c.with_hasher-none.ensures.empty) in
     callers_at g.L.Lint.meaning g.L.Lint.is_unit es c.args.kept.now.callers c.args.path.now c.requires.index c.requires.kept.kept text
     ∙ ap (option_map_or (λ file. contains_text file.calls.candidates text) (file_at es c.args.path.now)) empty ∙ sym (c.candidates_at-before.ensures text)

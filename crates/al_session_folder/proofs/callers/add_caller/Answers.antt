@@ -34,4 +34,4 @@ returns-in_ok-insert-in-None-clause-added c =
     let updates = rw c.get_mut.follows.holds-at-none at c.in_ok-insert-in-None.ensures.updates in
     let set = callers_set old c.insert.new.self (string_bytes c.in_ok-from_str-in-None.field-0) (Some w) updates in
     added_to (is_caller old) _ p (contains_text w) (λ _. false) (rw c.in_ok-from_str-in-None.ensures.ok at set) (none_at old p (sym c.in-None.ensures.value)) c.args.path.now
-    (rw c.new-known.ensures.empty at c.in_ok-add_name-in-None.ensures.added)
+    (rw c.with_hasher-known.ensures.empty at c.in_ok-add_name-in-None.ensures.added)

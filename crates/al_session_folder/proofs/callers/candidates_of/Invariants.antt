@@ -1,6 +1,6 @@
 use Rattle.std.proofs.Common.{◌≡◌, ℕ, List, take}
 use Rattle.indexmap.specs.IndexSet.{contains_text}
-use Rattle.al_session_folder.specs.Meaning.{is_candidate}
+use Rattle.al_lint.specs.Meaning.{is_candidate}
 use Rattle.al_session_folder.proofs.callers.candidates_of.Given as goal
 
 abbrev pub invariant-loop-target : goal.invariant-loop-target

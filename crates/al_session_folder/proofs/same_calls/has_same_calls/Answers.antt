@@ -1,5 +1,5 @@
 use Rattle.std.proofs.lemmas.Slice.Eq.{slice_eq-Decides}
-use Rattle.al_session_folder.specs.Proofs.Targets.{targets_decide}
+use Rattle.al_lint.specs.Proofs.Targets.{targets_decide}
 use Rattle.al_session_folder.proofs.same_calls.has_same_calls.Goals as goal
 
 pub returns : goal.returns

@@ -1,6 +1,6 @@
 use Rattle.std.proofs.Common.{List, ap, ◌∙◌}
 use Rattle.std.specs.Borrow.{Bor}
-use Rattle.al_session_folder.specs.declared.lint.Target.{Target}
+use Rattle.al_lint.specs.declared.lint.Target.{Target}
 use Rattle.al_cli.proofs.Turns.{calls_none, calls_there, copied_or, item_none, item_there}
 use Rattle.al_cli.proofs.taken.TakenFiles.calls.Goals as goal
 

@@ -4,7 +4,7 @@ use Rattle.al_cli.proofs.Keeping.{kept_none}
 use Rattle.al_cli.proofs.taken.TakenFiles.new.Goals as goal
 
 pub invariant_of-result : goal.invariant_of-result
-invariant_of-result c = rw (c.new.ensures.folder, c.new.ensures.checks ∙ c.for_one_report.ensures.checks, c.new-2.ensures.items) kept_none
+invariant_of-result c = rw (c.seeded.ensures.folder, c.seeded.ensures.checks ∙ c.for_one_report.ensures.checks, c.new.ensures.items) kept_none
 
 pub returns : goal.returns
-returns c = ap (entries_in c.new.result.folder) c.new-2.ensures.items
+returns c = ap (entries_in c.seeded.result.folder) c.new.ensures.items

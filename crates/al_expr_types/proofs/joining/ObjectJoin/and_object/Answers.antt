@@ -1,13 +1,9 @@
-use Rattle.std.proofs.Common.{◌∙◌, ap, map, sym}
+use Rattle.std.proofs.Common.{◌∙◌, ap, map}
 use Rattle.std.proofs.lemmas.Result.{IfOk-weaker}
 use Rattle.al_types.specs.Fused.{fuse_all}
 use Rattle.al_expr_types.specs.Types.{object_in}
 use Rattle.al_expr_types.proofs.Fusing.{fused_push}
-use Rattle.al_expr_types.proofs.Gathering.{held_object}
 use Rattle.al_expr_types.proofs.joining.ObjectJoin.and_object.Goals as goal
-
-pub returns-then-has-clause-objects : goal.returns-then-has-clause-objects
-returns-then-has-clause-objects c = λ ms. sym (held_object (object_in ms) c.args.self.objects.items c.args.n (c.has.ensures c.if-has.true))
 
 pub returns-clause-objects : goal.returns-clause-objects
 returns-clause-objects c =

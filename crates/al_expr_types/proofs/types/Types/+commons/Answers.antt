@@ -55,7 +55,8 @@ make_commons-common-requires-in-loop-m t c =
     let os = c.args.self.now.objects.items in
     let n = c.args.n in
     let ns = c.as_slice-m-items.result.now in
-    let below = ap (are_below n) c.as_slice-m-items.ensures.value ∙ subst (λ o. IfSome o (λ v. are_below n v.items ≡ true)) c.in-Some-2.is c.in_ok-of.ensures in
+    let below = ap (are_below n) (c.as_slice-m-items.ensures.value ∙ ap (λ v. v.items) c.deref.ensures)
+    ∙ subst (λ o. IfSome o (λ v. are_below n v.value.items ≡ true)) c.in-Some-2.is c.in_ok-of.ensures.below in
     let lt = number_at n ns c.loop-m.m-index c.loop-m-test.true below in
     let le = longer c.loop-m.self.objects.items os c.loop-m.invariant in
     (omega (arith, lt, c.decreases), omega (arith, lt, c.requires, le))

@@ -20,7 +20,7 @@ gather-loop-m-init t c = record {
 pub gather-gather-requires-in-loop-m : goal.gather-gather-requires-in-loop-m
 gather-gather-requires-in-loop-m t c =
     let n = c.args.n in
-    let all = ap (are_below n) c.as_slice-m-items.ensures.value ∙ sym (ap (is_object_below n) c.in-Common.is) ∙ c.object.ensures.below in
+    let all = ap (are_below n) (c.as_slice-m-items.ensures.value ∙ ap (λ v. v.items) c.deref.ensures) ∙ sym (ap (is_object_below n) c.in-Common.is) ∙ c.object.ensures.below in
     let lt = number_at n c.as_slice-m-items.result.now c.loop-m.m-index c.loop-m-test.true all in
     (omega (arith, lt, c.decreases), omega (arith, lt, c.requires))
 
@@ -50,7 +50,7 @@ gather-returns-after-loop-m-clause-part t c =
     let start = join_in ms c.args.so_far in
     let all = take_all c.loop-m.m-index ns (omega (arith, c.loop-m-test.false)) in
     of_object ms c.args.part start _ _ c.object.result.now _ c.object.ensures.object c.in-Common.is
-    (c.loop-m.invariant.part ∙ ap (λ l. fuse_optional start (part_in c.args.part (fuse_all (map (object_in ms) l)))) (all ∙ c.as_slice-m-items.ensures.value))
+    (c.loop-m.invariant.part ∙ ap (λ l. fuse_optional start (part_in c.args.part (fuse_all (map (object_in ms) l)))) (all ∙ c.as_slice-m-items.ensures.value ∙ ap (λ v. v.items) c.deref.ensures))
 
 pub gather-gather_extension-requires : goal.gather-gather_extension-requires
 gather-gather_extension-requires t c =

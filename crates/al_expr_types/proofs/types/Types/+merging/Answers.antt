@@ -16,7 +16,7 @@ use Rattle.al_expr_types.proofs.types.Types.+merging.Goals as goal
 pub merge-requires : goal.merge-requires
 merge-requires t c =
     let n = c.args.n in
-    let all = ap (are_below n) c.as_slice-m-items.ensures.value ∙ sym (ap (is_object_below n) c.in-Common.is) ∙ c.object.ensures.below in
+    let all = ap (are_below n) (c.as_slice-m-items.ensures.value ∙ ap (λ v. v.items) c.deref.ensures) ∙ sym (ap (is_object_below n) c.in-Common.is) ∙ c.object.ensures.below in
     let lt = number_at n c.as_slice-m-items.result.now c.loop-m.m-index c.loop-m-test.true all in
     (omega (arith, lt, c.decreases), omega (arith, lt, c.requires))
 
@@ -62,7 +62,7 @@ returns-after-loop-m-clause-found t c = λ d name.
     let start : Optional = found_in ms c.args.so_far name in
     let all = take_all c.loop-m.m-index ns (omega (arith, c.loop-m-test.false)) in
     (c.loop-m.invariant.found name
-    ∙ ap (λ l. fuse_optional start ((fuse_all (map (object_in ms) l)).0 name)) (all ∙ c.as_slice-m-items.ensures.value)
+    ∙ ap (λ l. fuse_optional start ((fuse_all (map (object_in ms) l)).0 name)) (all ∙ c.as_slice-m-items.ensures.value ∙ ap (λ v. v.items) c.deref.ensures)
     ∙ ap (λ p. fuse_optional start (p.0 name)) (sym (c.object.ensures.object ∙ ap (object_parts ms) c.in-Common.is))) d
 
 pub returns-in-Some-clause-found : goal.returns-in-Some-clause-found

@@ -6,7 +6,7 @@ use Rattle.al_session_folder.specs.declared.kept.KeptFile.{KeptFile}
 use Rattle.al_session_folder.specs.Kept.{folder_of}
 use Rattle.al_session_folder.specs.Cycles.{calls_graph}
 use Rattle.al_session_folder.specs.CallGraphs.{IsCalledBy}
-use Rattle.al_session_folder.specs.Sites.{site_fault}
+use Rattle.al_lint.specs.Sites.{site_fault}
 use Rattle.al_session_folder.proofs.CallCycles.{call_edge, entry_calls, kept_number, on_cycles_end, on_cycles_next}
 use Rattle.al_session_folder.proofs.cycles.LinkedFiles.call_cycle_faults.Goals as goal
 

@@ -1,0 +1,259 @@
+"""What actionlint-facts says of a file: its faults, its tree as YAML and its expressions, with their places as offsets of bytes."""
+from __future__ import annotations
+
+from dataclasses import dataclass, field
+from functools import cached_property
+from typing import Any, Iterator, Union
+
+Json = dict[str, Any]
+Key = Union[str, int]
+
+
+@dataclass(frozen=True)
+class CodedFault:
+    """A fault of a file or, without lines and columns, of an expression. Lines and columns count from 1, columns in characters."""
+
+    code: str
+    kind: str
+    message: str
+    arguments: tuple[str, ...]
+    start: int
+    end: int
+    line: int = 0
+    column: int = 0
+    end_line: int = 0
+    end_column: int = 0
+
+
+@dataclass
+class Node:
+    """A node of a tree. A node behind an alias has the span of the node at its anchor."""
+
+    kind: str
+    start: int
+    end: int
+    # Whether it has an anchor, or an alias stands for it.
+    is_shared: bool = False
+    # Of a scalar: how it is written, its class by the core schema, its text, and where the bytes of that come from.
+    style: str = ""
+    schema_class: str = ""
+    text: str = ""
+    places: list[list[int]] = field(default_factory=list)
+    items: list[Node] = field(default_factory=list)
+    entries: list[tuple[Node, Node]] = field(default_factory=list)
+
+    @cached_property
+    def _by_key(self) -> dict[str, tuple[Node, Node]]:
+        """The entries by their keys, the first of those with equal keys."""
+        return {key.text: (key, value) for key, value in reversed(self.entries)}
+
+    @property
+    def is_null(self) -> bool:
+        return self.schema_class == "null"
+
+    def get(self, *path: Key) -> Node | None:
+        """The node at the end of a path of keys and positions."""
+        node: Node | None = self
+        for step in path:
+            if node is None:
+                return None
+            if isinstance(step, int):
+                node = node.items[step] if step < len(node.items) else None
+            else:
+                found = node._by_key.get(step)
+                node = found[1] if found else None
+        return node
+
+    def key(self, key: str) -> Node | None:
+        """The node of a key."""
+        found = self._by_key.get(key)
+        return found[0] if found else None
+
+    def scalar(self, *path: Key) -> str | None:
+        """The text of the scalar at the end of a path."""
+        node = self.get(*path)
+        return node.text if node and node.kind == "scalar" else None
+
+    def offset(self, index: int) -> int:
+        """Where a byte of the text, as UTF-8, comes from."""
+        before = [place for place in self.places if place[0] <= index]
+        return before[-1][1] + index - before[-1][0] if before else self.start
+
+
+@dataclass(frozen=True)
+class Word:
+    """A name, keyword, number or string, as written."""
+
+    kind: str
+    text: str
+    start: int
+    end: int
+
+
+@dataclass(frozen=True)
+class Group:
+    """An expression in brackets."""
+
+    inner: Expression
+    start: int
+    end: int
+
+
+@dataclass(frozen=True)
+class Not:
+    operand: Expression
+    start: int
+    end: int
+
+
+@dataclass(frozen=True)
+class Call:
+    name: Word
+    arguments: tuple[Expression, ...]
+    start: int
+    end: int
+
+
+@dataclass(frozen=True)
+class Step:
+    """A step of a path: a `property` with its text, an `index`, or `all` (`.*`, `[*]`)."""
+
+    kind: str
+    text: str
+    index: Expression | None
+    start: int
+    end: int
+
+
+@dataclass(frozen=True)
+class Path:
+    base: Expression
+    steps: tuple[Step, ...]
+    start: int
+    end: int
+
+
+@dataclass(frozen=True)
+class Chain:
+    """Operands with the operators of one level between them, from the left."""
+
+    first: Expression
+    rest: tuple[tuple[str, Expression], ...]
+    start: int
+    end: int
+
+
+Expression = Union[Word, Group, Not, Call, Path, Chain]
+
+
+@dataclass(frozen=True)
+class Token:
+    """A `name`, `keyword`, `number`, `string`, `operator` or `mark`, as written."""
+
+    kind: str
+    text: str
+    start: int
+    end: int
+
+
+@dataclass(frozen=True)
+class Chunk:
+    """An expression of a text: its tree, or its fault."""
+
+    tokens: tuple[Token, ...]
+    tree: Expression | None
+    fault: CodedFault | None
+    start: int
+    end: int
+
+
+@dataclass(frozen=True)
+class Place:
+    """A scalar that has expressions. `contexts` and `functions` are None where all are available."""
+
+    start: int
+    end: int
+    is_condition: bool
+    is_script: bool
+    contexts: tuple[str, ...] | None
+    functions: tuple[str, ...] | None
+    chunks: tuple[Chunk, ...]
+    fault: CodedFault | None
+
+
+def walk(expression: Expression) -> Iterator[Expression]:
+    """An expression and those in it, in the order of the text."""
+    yield expression
+    if isinstance(expression, Group):
+        yield from walk(expression.inner)
+    elif isinstance(expression, Not):
+        yield from walk(expression.operand)
+    elif isinstance(expression, Call):
+        for argument in expression.arguments:
+            yield from walk(argument)
+    elif isinstance(expression, Path):
+        yield from walk(expression.base)
+        for step in expression.steps:
+            if step.index is not None:
+                yield from walk(step.index)
+    elif isinstance(expression, Chain):
+        yield from walk(expression.first)
+        for _, operand in expression.rest:
+            yield from walk(operand)
+
+
+def read_fault(said: Json) -> CodedFault:
+    places = {name: said.get(name, 0) for name in ("line", "column", "end_line", "end_column")}
+    return CodedFault(said["code"], said["kind"], said["message"], tuple(said["arguments"]), said["start"], said["end"], **places)
+
+
+def read_node(said: Json) -> Node:
+    node = Node(said["kind"], said["start"], said["end"], said.get("shared", False))
+    if node.kind == "scalar":
+        node.style, node.schema_class, node.text, node.places = said["style"], said["class"], said["text"], said["places"]
+    elif node.kind == "sequence":
+        node.items = [read_node(item) for item in said["items"]]
+    else:
+        node.entries = [(read_node(key), read_node(value)) for key, value in said["entries"]]
+    return node
+
+
+def read_expression(said: Json) -> Expression:
+    kind, start, end = said["kind"], said["start"], said["end"]
+    if kind == "group":
+        return Group(read_expression(said["inner"]), start, end)
+    if kind == "not":
+        return Not(read_expression(said["operand"]), start, end)
+    if kind == "call":
+        return Call(_word(said["name"]), tuple(map(read_expression, said["arguments"])), start, end)
+    if kind == "path":
+        return Path(read_expression(said["base"]), tuple(map(_step, said["steps"])), start, end)
+    if kind == "chain":
+        rest = tuple((one["operator"], read_expression(one["operand"])) for one in said["rest"])
+        return Chain(read_expression(said["first"]), rest, start, end)
+    return _word(said)
+
+
+def read_place(said: Json) -> Place:
+    contexts, functions = said.get("contexts"), said.get("functions")
+    return Place(said["start"], said["end"], said["condition"], said["script"], None if contexts is None else tuple(contexts),
+                 None if functions is None else tuple(functions), tuple(map(_chunk, said["chunks"])), _fault_in(said))
+
+
+def _word(said: Json) -> Word:
+    return Word(said["kind"], said["text"], said["start"], said["end"])
+
+
+def _step(said: Json) -> Step:
+    index = read_expression(said["index"]) if "index" in said else None
+    return Step(said["kind"], said.get("text", ""), index, said["start"], said["end"])
+
+
+def _chunk(said: Json) -> Chunk:
+    tokens = tuple(Token(one["kind"], one["text"], one["start"], one["end"]) for one in said["tokens"])
+    tree = read_expression(said["tree"]) if "tree" in said else None
+    return Chunk(tokens, tree, _fault_in(said), said["start"], said["end"])
+
+
+def _fault_in(said: Json) -> CodedFault | None:
+    return read_fault(said["fault"]) if "fault" in said else None

@@ -1,0 +1,100 @@
+"""Rows of matrices: values that are there twice, and values that no row has."""
+from __future__ import annotations
+
+from typing import Iterator
+
+from ..facts_tree import Chain, Expression, Node
+from ..facts_tree import walk as parts_of
+from .file import File, Finding, has_expression, inner, names_of, note, text_of, walk
+
+OPTIONS = ("include", "exclude")
+
+
+def rows(job: Node) -> list[tuple[Node, Node]]:
+    """The rows of a job's matrix, as far as they are lists."""
+    matrix = job.get("strategy", "matrix")
+    return [(key, row) for key, row in matrix.entries if key.text not in OPTIONS and row.kind == "sequence"] if matrix else []
+
+
+def is_literal(job: Node) -> bool:
+    """Whether a job has a matrix, and each of its values is written there."""
+    matrix = job.get("strategy", "matrix")
+    return matrix is not None and matrix.kind == "mapping" and not any(
+        has_expression(one.text) for node in walk(matrix) for one in [node, *(key for key, _ in node.entries)])
+
+
+def values_of(job: Node, names: list[str]) -> list[Node]:
+    """The nodes that `matrix` can have under these names in lower case: those of the row, and those of the entries of `include`."""
+    matrix = job.get("strategy", "matrix")
+    if matrix is None or not names or "*" in names:
+        return []
+    include = matrix.get("include")
+    found = [item for key, row in rows(job) if key.text.lower() == names[0] for item in row.items]
+    found += [value for entry in (include.items if include else []) for key, value in entry.entries if key.text.lower() == names[0]]
+    for name in names[1:]:
+        found = [value for node in found for key, value in node.entries if key.text.lower() == name]
+    return found
+
+
+def repeated_values(file: File) -> Iterator[Finding]:
+    """N21: a value of a row or a job under `needs` that is there twice."""
+    for _, job in file.jobs:
+        lists = [row.items for _, row in rows(job)] + ([needs.items] if (needs := job.get("needs")) else [])
+        for items in lists:
+            seen: set[tuple[str, str]] = set()
+            for item in items:
+                value = (item.schema_class, item.text)
+                if item.kind == "scalar" and value in seen and not has_expression(item.text):
+                    yield note("N21", item, item.text)
+                seen.add(value)
+
+
+def excluded_values(file: File) -> Iterator[Finding]:
+    """N20: a value under `exclude` that its row doesn't have."""
+    for _, job in file.jobs:
+        exclude = job.get("strategy", "matrix", "exclude")
+        known = {key.text.lower(): _texts(row.items) for key, row in rows(job) if exclude}
+        for key, value in (entry for one in (exclude.items if exclude else []) for entry in one.entries):
+            texts = known.get(key.text.lower())
+            if texts and value.kind == "scalar" and not has_expression(value.text) and _folded(value.text) not in texts:
+                yield note("N20", value, f"matrix.{key.text}", value.text)
+
+
+def compared_values(file: File) -> Iterator[Finding]:
+    """N20: a text with which a value of the matrix is compared, and which no row has."""
+    for job, trees in file.expressions_by_job:
+        if not is_literal(job):
+            continue
+        known: dict[tuple[str, ...], set[str]] = {}
+        for part in (part for tree in trees for part in parts_of(tree)):
+            # (what is left unequal on purpose is often a row that went)
+            if isinstance(part, Chain) and len(part.rest) == 1 and part.rest[0][0] == "==":
+                yield from _never_equal(job, known, part.first, part.rest[0][1])
+                yield from _never_equal(job, known, part.rest[0][1], part.first)
+
+
+def _never_equal(job: Node, known: dict[tuple[str, ...], set[str]], one: Expression, other: Expression) -> Iterator[Finding]:
+    names, text = names_of(one), text_of(other)
+    if names[:1] != ["matrix"] or not text:
+        return
+    path = tuple(names[1:])
+    if path not in known:
+        values = values_of(job, names[1:])
+        known[path] = _texts(values) if all(value.schema_class == "str" for value in values) else set()
+    if known[path] and _folded(text) not in known[path]:
+        yield note("N20", inner(other), ".".join(names), text)
+
+
+def _texts(nodes: list[Node]) -> set[str]:
+    """The texts of scalars as GitHub compares them. None if one isn't known, or isn't a scalar."""
+    if any(node.kind != "scalar" or has_expression(node.text) for node in nodes):
+        return set()
+    return {_folded(node.text) for node in nodes}
+
+
+def _folded(text: str) -> str:
+    """A text as GitHub compares it: without case, and a number by its value."""
+    try:
+        return str(float(text))
+    except ValueError:
+        return text.lower()

@@ -1,0 +1,48 @@
+"""Outputs of steps that their scripts never write."""
+from __future__ import annotations
+
+import re
+from typing import Iterator
+
+from ..facts_tree import walk as parts_of
+from .file import File, Finding, names_of, note, table
+
+NAME = re.compile(r"""\s*(?:echo|printf)\s+["']?([A-Za-z_][\w-]*)(?:=|<<)[^|;&]*>>\s*"?\$\{?GITHUB_OUTPUT\}?"?\s*""")
+COMMAND = re.compile(r"(?:^|\||&&|;|\$\(|`|\bif\b|\bthen\b|\bdo\b|\belse\b)\s*(?=((?:\w+=(?:[^\s$`]|\$(?!\())*\s+)*[^\s;|&()`]+))")
+# Commands that write no output by themselves.
+PLAIN = frozenset(table("outputs")["commands"])
+
+
+def names_written(script: str) -> set[str] | None:
+    """The names of the outputs that a script writes in lines `echo "NAME=.." >> "$GITHUB_OUTPUT"`. None if anything else may write some."""
+    names: set[str] = set()
+    for line in script.replace("\\\n", " ").splitlines():
+        if line.lstrip().startswith("#"):
+            continue
+        found = NAME.fullmatch(line)
+        if found:
+            names.add(found[1].lower())
+        elif "GITHUB_OUTPUT" in line or "::set-output" in line or not _is_plain(line):
+            return None
+    return names
+
+
+def _is_plain(line: str) -> bool:
+    """Whether each command of a line is a plain one, or an assignment."""
+    return all(found.split()[-1] in PLAIN or re.match(r"\w+=", found.split()[-1]) for found in COMMAND.findall(line))
+
+
+def unwritten_outputs(file: File) -> Iterator[Finding]:
+    """N23: an output that the script of its step doesn't write, though it writes others, and nothing else in it could."""
+    written: dict[tuple[int, str], set[str] | None] = {}
+    for job, step in file.steps:
+        identifier, script = step.scalar("id"), step.scalar("run")
+        if identifier and script:
+            written[(job or file.root).start, identifier.lower()] = names_written(script)
+    for owner, trees in file.expressions_by_job:
+        for part in (part for tree in trees for part in parts_of(tree)):
+            names = names_of(part)
+            if len(names) == 4 and (names[0], names[2]) == ("steps", "outputs"):
+                found = written.get((owner.start, names[1]))
+                if found and names[3] != "*" and names[3] not in found:
+                    yield note("N23", part, names[1], names[3])

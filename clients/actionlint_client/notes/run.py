@@ -1,0 +1,162 @@
+"""The notes of the files of a folder on disk, as problems of a report."""
+from __future__ import annotations
+
+import os
+import posixpath
+from bisect import bisect_right
+from collections import deque
+from contextlib import contextmanager
+from typing import Callable, Iterable, Iterator
+
+from ..child import LinterEnded
+from ..disk import Disk
+from ..entries import Entry
+from ..facts import Answers, EditRefused, Facts, NoAnswer, NoTree
+from ..paths import ACTION_NAMES
+from ..positions import lines_of
+from ..problems import ERROR, NOTE, NOTE_KIND, Problem, snippet_of
+from ..program import FACTS, find_facts
+from ..report import Fault
+from .entries import NoNotes, entry_of_note
+from .file import File, Finding
+from .rules import findings
+
+SECONDS = 60.0
+# Of a longer line no snippet is shown.
+LONGEST_LINE = 2_000
+
+
+class Folder:
+    """The files that are noted, and those that they call, as actionlint-facts has them."""
+
+    def __init__(self, facts: Answers, read: Callable[[str], bytes | None], is_there: Callable[[str], bool]):
+        self._facts, self._read, self._is_there = facts, read, is_there
+        self._data: dict[str, bytes] = {}
+        self._deprecated: dict[str, dict[str, str]] = {}
+
+    def put(self, paths: Iterable[str]) -> list[str]:
+        """Takes files and what they call, one after another, and returns their paths. Files that the linter refuses are left out."""
+        taken, seen, waiting = [], set(), deque(paths)
+        while waiting:
+            path = waiting.popleft()
+            if path not in seen and self._put(path):
+                taken.append(path)
+            seen.add(path)
+            if not waiting:
+                waiting.extend(lack for lack in self._facts.lacks() if lack not in seen)
+        return taken
+
+    def _put(self, path: str) -> bool:
+        data = self._read(path)
+        if data is None:
+            return False
+        try:
+            self._facts.put(path, data)
+        except EditRefused:
+            return False
+        self._data[path] = data
+        return True
+
+    def notes(self, path: str, counts: bool) -> Iterator[Problem]:
+        """The notes of a file, none if it isn't valid YAML. With `counts` they are errors. Raises `NoAnswer`."""
+        try:
+            file = File(path, self._facts.tree(path), self._facts.expressions(path), self._is_there, self.deprecated)
+        except NoTree:
+            return
+        places = Places(self._data[path])
+        for found in findings(file):
+            yield _problem(path, places, found, ERROR if counts else NOTE)
+
+    def deprecated(self, folder: str) -> dict[str, str]:
+        """What the action in a folder says of its deprecated inputs, by their names in lower case."""
+        if folder not in self._deprecated:
+            self._deprecated[folder] = self._read_deprecated(folder)
+        return self._deprecated[folder]
+
+    def _read_deprecated(self, folder: str) -> dict[str, str]:
+        path = next((path for name in ACTION_NAMES if (path := posixpath.normpath(f"{folder}/{name}")) in self._data), None)
+        try:
+            inputs = self._facts.tree(path).get("inputs") if path else None
+        except (NoTree, NoAnswer):
+            inputs = None
+        return {key.text.lower(): said for key, one in (inputs.entries if inputs else []) if (said := one.scalar("deprecationMessage"))}
+
+
+class Places:
+    """Lines and columns of a file, in characters from 1."""
+
+    def __init__(self, data: bytes):
+        self.lines = lines_of(data)
+        self._data, self._starts = data, [0]
+        for line in self.lines:
+            end = self._starts[-1] + len(line)
+            self._starts.append(end + (2 if data[end:end + 2] == b"\r\n" else 1))
+
+        # The last place that was asked for: many may be on one long line.
+        self._last = (1, 0, 1)
+
+    def place(self, offset: int) -> tuple[int, int]:
+        line = bisect_right(self._starts, offset, 0, len(self.lines))
+        before, start, column = self._last
+        if before != line or start > offset:
+            start, column = self._starts[line - 1], 1
+        self._last = line, offset, column + self._characters(start, offset)
+        return line, self._last[2]
+
+    def width(self, start: int, end: int) -> int:
+        """The characters of a span on its first line."""
+        line, _ = self.place(start)
+        return max(self._characters(start, min(end, self._starts[line - 1] + len(self.lines[line - 1]))), 1)
+
+    def snippet(self, fault: Fault) -> tuple[bytes, ...]:
+        """The lines that the linter would print below it, nothing for a long line."""
+        line = self.lines[fault.line - 1]
+        return snippet_of(line.decode("utf-8", "replace"), fault) if len(line) <= LONGEST_LINE else ()
+
+    def _characters(self, start: int, end: int) -> int:
+        return len(self._data[start:end].decode("utf-8", "replace"))
+
+
+def _problem(path: str, places: Places, found: Finding, level: str) -> Problem:
+    entry = entry_of_note(found.code)
+    line, column = places.place(found.start)
+    fault = Fault(path, line, column, message_of(entry, found.arguments), NOTE_KIND, places.width(found.start, found.end))
+    return Problem(fault, found.code, entry, places.snippet(fault), level)
+
+
+def message_of(entry: Entry, arguments: tuple[str, ...]) -> str:
+    first, *rest = entry.fixed
+    return first + "".join(argument + text for argument, text in zip(arguments, rest))
+
+
+def notes(linter: str, root: str, files: list[str], counts: bool, say: Callable[[str], None]) -> Iterator[Problem]:
+    """The notes of the files and of what they call, or of all workflows. `say` is told about files that have none because of their size.
+    Raises `NoNotes`."""
+    with _folder(linter, root, {}) as (folder, disk):
+        named = list(dict.fromkeys(path.removeprefix("./") for path in files)) or sorted(disk.workflows)
+        for path in sorted(folder.put(named)):
+            try:
+                yield from folder.notes(path, counts)
+            except NoAnswer as error:
+                say(f"{path}: no notes, since {error}")
+
+
+def notes_of_text(linter: str, root: str, path: str, data: bytes) -> list[Problem]:
+    """The notes of a file with this text. What it calls is read from disk. Raises `NoNotes`."""
+    with _folder(linter, root, {path: data}) as (folder, _):
+        return list(folder.notes(path, False)) if path in folder.put([path]) else []
+
+
+@contextmanager
+def _folder(linter: str, root: str, texts: dict[str, bytes]) -> Iterator[tuple[Folder, Disk]]:
+    """A folder with the files on disk, or other texts in their place. Raises `NoNotes`."""
+    # (the linter has already said which links it skipped)
+    disk = Disk(os.fsencode(root), lambda _: None)
+    disk.rescan()
+    try:
+        facts = Facts([find_facts(linter)], SECONDS)
+        read = lambda path: texts[path] if path in texts else disk.file(path).data
+        yield Folder(facts, read, lambda path: os.path.lexists(os.path.join(root, path))), disk
+        facts.stop()
+    except (LinterEnded, NoAnswer) as error:
+        raise NoNotes(f"no notes, since {FACTS} can't be used: {error}") from error

@@ -1,0 +1,70 @@
+"""Labels of runners that no longer exist, are slips of known ones, or exclude each other; and shells that they lack."""
+from __future__ import annotations
+
+import re
+from typing import Iterator
+
+from ..facts_tree import Node
+from .file import File, Finding, has_expression, is_slip, names_of, note, table
+from .matrices import values_of
+
+TABLE = table("runners")
+DIGITS = re.compile(r"\d+")
+
+
+def _named(job: Node) -> list[Node]:
+    """What stands at `runs-on`, or in its list."""
+    runs_on = job.get("runs-on")
+    named = runs_on.items or [runs_on] if runs_on and runs_on.kind != "mapping" else []
+    return [label for label in named if label.kind == "scalar"]
+
+
+def labels(file: File) -> Iterator[Node]:
+    """The labels of jobs that run on runners of GitHub, those of a matrix included."""
+    for _, job in file.jobs:
+        found = [one for label in _named(job) for one in _given_by(file, job, label)]
+        if not any(one.text.lower() == "self-hosted" for one in found):
+            yield from (one for one in found if not has_expression(one.text))
+
+
+def _given_by(file: File, job: Node, label: Node) -> list[Node]:
+    """The texts that a label may have: itself, or the values of `${{ matrix.x }}`."""
+    tree = file.whole(label)
+    names = names_of(tree) if tree else []
+    return values_of(job, names[1:]) if names[:1] == ["matrix"] else [label]
+
+
+def ended_labels(file: File) -> Iterator[Finding]:
+    """N13: a label of runners that no longer exist."""
+    for label in labels(file):
+        if label.kind == "scalar" and (row := TABLE["ended"].get(label.text.lower())):
+            yield note("N13", label, label.text, row["in"])
+
+
+def slips_of_labels(file: File) -> Iterator[Finding]:
+    """N14: a label that differs by a letter from one that exists, with the same numbers."""
+    known = [*TABLE["known"], *TABLE["ended"]]
+    for label in labels(file):
+        text = label.text.lower()
+        if label.kind == "scalar" and text not in known:
+            like = next((one for one in known if is_slip(text, one) and DIGITS.findall(text) == DIGITS.findall(one)), None)
+            if like:
+                yield note("N14", label, label.text, like)
+
+
+def labels_of_two_runners(file: File) -> Iterator[Finding]:
+    """N29: two labels of GitHub's own runners, each of which has one."""
+    for _, job in file.jobs:
+        named = [label for label in _named(job) if label.text.lower() in TABLE["known"]]
+        is_own = any(label.text.lower() == "self-hosted" for label in _named(job))
+        yield from (note("N29", label, label.text, named[0].text) for label in named if not is_own and label.text != named[0].text)
+
+
+def missing_shells(file: File) -> Iterator[Finding]:
+    """N30: a shell that GitHub's runners with the job's only label don't have."""
+    for job, step in file.steps:
+        named, shell = _named(job) if job else [], step.get("shell")
+        label = named[0].text.lower() if len(named) == 1 else ""
+        system = label.partition("-")[0] if label in TABLE["known"] else ""
+        if shell and shell.text in TABLE["missing shells"].get(system, []) and job and job.get("container") is None:
+            yield note("N30", shell, shell.text, label)

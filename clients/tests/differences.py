@@ -1,0 +1,92 @@
+#!/usr/bin/env python3
+"""The tables of docs/DIFFERENCES.md have the rows of differences.cases, and each row's files have the faults and notes that it says. Needs
+actionlint-facts.
+
+    differences.py PROGRAM [NAME...]
+    differences.py --write              writes the tables
+"""
+from __future__ import annotations
+
+import json
+import re
+import subprocess
+import sys
+import tempfile
+from dataclasses import dataclass, field
+from pathlib import Path
+
+from cases import Cases
+from repositories import CLIENTS, TOP, write
+
+from actionlint_client.entries import entries, link_of
+from actionlint_client.notes.entries import entries_of_notes
+
+CASES = Cases("differences")
+PAGE = TOP / "docs/DIFFERENCES.md"
+ROWS = Path(__file__).resolve().parent / "differences.cases"
+HEAD = re.compile(r"== (\w+) \| ([^|]+) \| (.+)")
+TABLE = re.compile(r"(^\| What \| Found by \|\n\|---\|---\|\n)((?:\|.*\n)*)", re.M)
+# The sections in the order of the page.
+SECTIONS = ("refused", "meant", "stricter")
+FEWEST = 45
+
+
+@dataclass
+class Row:
+    section: str
+    found: str
+    text: str
+    files: dict[str, str] = field(default_factory=dict)
+
+
+def rows() -> list[Row]:
+    found: list[Row] = []
+    path = ""
+    for line in ROWS.read_text(encoding="utf-8").splitlines():
+        if head := HEAD.fullmatch(line):
+            found.append(Row(*head.groups()))
+        elif line.startswith("-- "):
+            path = line[3:]
+            found[-1].files[path] = ""
+        elif found:
+            found[-1].files[path] += line + "\n"
+    return found
+
+
+def linked(found: str) -> str:
+    """The codes of a row with links to their entries."""
+    known = {entry.code: entry for entry in (*entries(), *entries_of_notes().values())}
+    return ", ".join(f"[{code}]({link_of(known[code], '.').removeprefix('./')})" if code in known else code for code in found.split(", "))
+
+
+def page_with_rows(text: str) -> str:
+    tables = iter("".join(f"| {row.text} | {linked(row.found)} |\n" for row in rows() if row.section == section) for section in SECTIONS)
+    return TABLE.sub(lambda table: table[1] + next(tables), text)
+
+
+@CASES.case
+def on_the_page(_: str) -> None:
+    text = PAGE.read_text(encoding="utf-8")
+    assert len(rows()) >= FEWEST and {row.section for row in rows()} == set(SECTIONS)
+    assert len(TABLE.findall(text)) == len(SECTIONS) and page_with_rows(text) == text, "differences.py --write writes the tables"
+
+
+@CASES.case
+def as_they_say(program: str) -> None:
+    wrong = []
+    for row in rows():
+        with tempfile.TemporaryDirectory(prefix="actionlint-test-") as folder:
+            write(folder, row.files)
+            words = [str(CLIENTS / "actionlint-report"), "--program", program, f"--root={folder}", "--form=jsonl", "--notes"]
+            ran = subprocess.run(words, stdout=subprocess.PIPE, check=False, text=True)
+            codes = sorted({json.loads(line)["code"] for line in ran.stdout.splitlines()}, key=lambda code: (code[0], int(code[1:])))
+            if (", ".join(codes) or "nothing") != row.found or ran.returncode not in (0, 1):
+                wrong.append(f"{row.text}: {codes} (status {ran.returncode})")
+    assert not wrong, "\n".join(wrong)
+
+
+if __name__ == "__main__":
+    if sys.argv[1:] == ["--write"]:
+        PAGE.write_text(page_with_rows(PAGE.read_text(encoding="utf-8")), encoding="utf-8")
+    else:
+        sys.exit(CASES.run(sys.argv[1:]))

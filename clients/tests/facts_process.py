@@ -1,0 +1,137 @@
+#!/usr/bin/env python3
+"""The process of actionlint-facts: its answers as values, and what happens if it is missing, ends, hangs or answers something else.
+
+    facts_process.py PROGRAM [NAME...]
+"""
+from __future__ import annotations
+
+import os
+import subprocess
+import sys
+import tempfile
+from pathlib import Path
+
+from cases import Cases
+from repositories import ACTION, CALLED, CLIENTS, FILE, FILES, write
+
+from actionlint_client import facts as module
+from actionlint_client.child import LinterEnded, LinterMissing, LinterSilent
+from actionlint_client.facts import EditRefused, Facts, NoAnswer, NoTree
+from actionlint_client.facts_tree import Chain, Path as Dotted, Word, walk
+from actionlint_client.program import FACTS, find_facts
+
+CASES = Cases("facts-process")
+SECONDS = 60.0
+# A program that answers each line by one, after a line of its own.
+ECHO = 'while read -r line; do printf "%s\\n" "{answer}"; done'
+ANSWERS = {'{\\"error\\": \\"no\\"}': NoAnswer, "words": LinterEnded, "[1]": LinterEnded,
+           '{\\"lacks\\": [\\"' + "x" * 300 + '\\"]}': NoAnswer}
+
+
+def fake(folder: str, script: str) -> list[str]:
+    file = Path(folder) / "facts"
+    file.write_text(f"#!/bin/sh\n{script}\n", encoding="utf-8")
+    file.chmod(0o755)
+    return [str(file)]
+
+
+def raised(facts: Facts, kind: type[Exception]) -> bool:
+    try:
+        facts.lacks()
+    except kind as error:
+        return type(error) is kind
+    return False
+
+
+@CASES.case
+def answers(program: str) -> None:
+    facts = Facts([find_facts(program)], SECONDS)
+    text = FILES[CALLED].encode()
+    assert facts.put(CALLED, text) == [CALLED] and facts.lacks() == ["a/action.yaml", "a/action.yml"]
+    assert facts.put(ACTION, FILES[ACTION].encode()) == [CALLED, ACTION] and facts.lacks() == ["a/action.yaml"]
+    found = facts.faults(CALLED)
+    assert [(fault.code, fault.arguments, fault.line, fault.column) for fault in found] == [("C3", ("who", "A"), 6, 15)], found
+    assert list(facts.report()) == [CALLED] and facts.cycles() == {}
+    facts.delete(ACTION)
+    assert facts.faults(CALLED) == []
+    try:
+        facts.put("b.yml", b"")
+        raise AssertionError("a file that isn't linted was taken")
+    except EditRefused as error:
+        assert error.code == "E2", error.code
+    try:
+        facts.put(FILE, b"a: 'b\n")
+        facts.tree(FILE)
+        raise AssertionError("a tree of what isn't YAML")
+    except NoTree as error:
+        assert error.fault.code == "Y5", error.fault
+    assert facts.stop() == 0
+
+
+@CASES.case
+def trees(program: str) -> None:
+    facts = Facts([find_facts(program)], SECONDS)
+    text = "name: é\nrun-name: \"\\x41 ${{ github.ref == 'x' }}\"\non: &a [push]\njobs: {}\n".encode()
+    facts.put(FILE, text)
+    root = facts.tree(FILE)
+    assert [key.text for key, _ in root.entries] == ["name", "run-name", "on", "jobs"], root
+    name, on, jobs = root.get("name"), root.get("on"), root.get("jobs")
+    assert name and on and jobs and (name.text, name.start, name.end, name.style, name.schema_class) == ("é", 6, 8, "plain", "str"), name
+    assert on.is_shared and root.scalar("on", 0) == "push" and root.get("on", 1) is None and jobs.entries == [] and root.get("x") is None
+    title = root.get("run-name")
+    assert title and title.text.startswith("A ${{") and text[title.offset(2):].startswith(b"${{"), title
+    place = facts.expressions(FILE)[0]
+    assert (place.start, place.end, place.is_condition) == (title.start, title.end, False), place
+    assert place.contexts == ("github", "inputs", "vars"), place
+    tree = place.chunks[0].tree
+    assert isinstance(tree, Chain) and tree.rest[0][0] == "==" and isinstance(tree.first, Dotted) and tree.first.steps[0].text == "ref"
+    assert [part.text for part in walk(tree) if isinstance(part, Word)] == ["github", "'x'"]
+    assert [token.text for token in place.chunks[0].tokens] == ["github", ".", "ref", "==", "'x'"]
+    facts.stop()
+
+
+@CASES.case
+def wrong_programs(_: str) -> None:
+    """After an answer that is none the program goes on; after one that isn't JSON, or too late, it is gone."""
+    longest = module.MAX_ANSWER_BYTES
+    module.MAX_ANSWER_BYTES = 200
+    with tempfile.TemporaryDirectory(prefix="actionlint-test-") as folder:
+        for answer, kind in ANSWERS.items():
+            facts = Facts(fake(folder, ECHO.replace("{answer}", answer)), SECONDS)
+            assert raised(facts, kind) and raised(facts, kind), answer
+            facts.stop()
+        facts = Facts(fake(folder, "exec sleep 600"), 0.5)
+        assert raised(facts, LinterSilent)
+        assert raised(Facts(fake(folder, "exit 3"), SECONDS), LinterEnded)
+        try:
+            Facts([folder + "/absent"], SECONDS)
+            raise AssertionError("a program that isn't there was started")
+        except LinterMissing as error:
+            assert "cannot start" in str(error), error
+    module.MAX_ANSWER_BYTES = longest
+
+
+@CASES.case
+def which_program(_: str) -> None:
+    """The named one, else the one beside the linter, which may have the linter's own name, else those of a clone, else the one on the PATH;
+    never the script that builds it."""
+    finder = f"import sys; sys.path.insert(0, {str(CLIENTS)!r}); from actionlint_client.program import find_facts; "
+    finder += "print(find_facts(sys.argv[1]))"
+    with tempfile.TemporaryDirectory(prefix="actionlint-test-") as folder:
+        programs = (f"bin/{FACTS}", "bin/juzbrost-facts", f"clone/prebuilt/{FACTS}", "clone/actionlint")
+        write(folder, {**dict.fromkeys(programs, "#!/bin/sh\n"), f"named/{FACTS}": ""})
+        os.symlink("actionlint", f"{folder}/clone/{FACTS}")
+        for path in programs:
+            os.chmod(f"{folder}/{path}", 0o755)
+        for linter, named, wanted in (("bin/actionlint", None, f"bin/{FACTS}"), ("bin/juzbrost", None, "bin/juzbrost-facts"),
+                                      ("clone/actionlint", None, f"clone/prebuilt/{FACTS}"),
+                                      ("bin/actionlint", f"{folder}/named/{FACTS}", f"named/{FACTS}")):
+            environment = {name: value for name, value in os.environ.items() if name != "ACTIONLINT_FACTS"}
+            environment |= {"ACTIONLINT_FACTS": named} if named else {}
+            ran = subprocess.run([sys.executable, "-c", finder, f"{folder}/{linter}"], env=environment, stdout=subprocess.PIPE, text=True,
+                                 check=True)
+            assert ran.stdout.strip() == f"{folder}/{wanted}", (linter, named, ran.stdout)
+
+
+if __name__ == "__main__":
+    sys.exit(CASES.run(sys.argv[1:]))

@@ -1,5 +1,0 @@
--- Terms for worked rows: small files and their trees, by hand. No definition uses them.
-pub mod Actions
-pub mod Matrices
-pub mod Words
-pub mod Workflows

@@ -1,0 +1,32 @@
+//! Which contexts and functions are available at a place.
+
+ghost use Rattle.std.specs.Prelude.{◌≡◌};
+ghost use Rattle.al_expr_names.specs.Scopes.{can_call};
+
+use crate::names::{Context, Function};
+
+/// The functions that are available only at some places.
+pub const SPECIAL_FUNCTIONS: [Function; 5] = [
+    Function::HashFiles,
+    Function::Always,
+    Function::Cancelled,
+    Function::Success,
+    Function::Failure,
+];
+
+/// What a place makes available.
+#[derive(Clone, Copy)]
+pub struct Available {
+    pub contexts: &'static [Context],
+    /// Special functions.
+    pub special: &'static [Function],
+}
+
+impl Available {
+    /// Whether a function can be called: one that isn't special can be called everywhere.
+    pub fn allows(&self, function: Function) -> bool
+        ensures { result ≡ can_call self.now.special.now function }
+    {
+        !SPECIAL_FUNCTIONS.contains(&function) || self.special.contains(&function)
+    }
+}

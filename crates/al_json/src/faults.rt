@@ -1,0 +1,132 @@
+//! Faults, with their places.
+
+use crate::codes::{push_code, push_message};
+use crate::json::Json;
+use al_text::limits::LARGEST_FILE;
+use al_text::{Args, Fault, position};
+use std::alloc::{AllocError, Global};
+
+/// A byte offset of a file with its line and column, both from 1.
+#[derive(Clone, Copy)]
+pub struct Spot {
+    at: u32,
+    line: u32,
+    column: u32,
+}
+
+/// The start of a file.
+pub fn first_spot() -> Spot {
+    Spot {
+        at: 0,
+        line: 1,
+        column: 1,
+    }
+}
+
+// The lines and columns from the start of some bytes to an offset, or to their end.
+fn position_in(bytes: &[u8], offset: u32) -> (u32, u32) {
+    if bytes.len() > LARGEST_FILE {
+        return (1, 1);
+    }
+    position(bytes, offset.min(bytes.len() as u32))
+}
+
+/// The place of an offset, counted on from an earlier one. An offset past the end counts as the end.
+fn spot_after(bytes: &[u8], from: Spot, offset: u32) -> Spot {
+    let start = from.at as usize;
+    if start > bytes.len() {
+        return from;
+    }
+    let (line, column) = position_in(&bytes[start..], offset.saturating_sub(from.at));
+    let same_line = line == 1;
+    let before = if same_line { from.column } else { 1 };
+    Spot {
+        at: offset.max(from.at),
+        line: from.line.saturating_add(line.saturating_sub(1)),
+        column: before.saturating_add(column.saturating_sub(1)),
+    }
+}
+
+fn push_arguments(json: &mut Json, args: &Args) -> Result<(), AllocError> {
+    json.list_at("arguments")?;
+    if let Some(first) = args.first() {
+        json.text(first)?;
+    }
+    if let Some(second) = args.second() {
+        json.text(second)?;
+    }
+    json.close(']')
+}
+
+// The keys of a spot, with what begins their names.
+fn push_start(json: &mut Json, spot: Spot) -> Result<(), AllocError> {
+    json.number_at("line", spot.line)?;
+    json.number_at("column", spot.column)
+}
+
+fn push_end(json: &mut Json, spot: Spot) -> Result<(), AllocError> {
+    json.number_at("end_line", spot.line)?;
+    json.number_at("end_column", spot.column)
+}
+
+fn push_what(json: &mut Json, fault: &Fault) -> Result<(), AllocError> {
+    push_code(json, fault.code)?;
+    let args = fault.args.copy(json.alloc())?;
+    push_message(json, fault.code, args)?;
+    push_arguments(json, &fault.args)?;
+    json.number_at("start", fault.span.start)?;
+    json.number_at("end", fault.span.end)
+}
+
+/// Writes a fault without its line and column.
+pub fn push_fault(json: &mut Json, fault: &Fault) -> Result<(), AllocError> {
+    json.open('{')?;
+    push_what(json, fault)?;
+    json.close('}')
+}
+
+// Writes a fault whose start is at a spot.
+fn push_at(json: &mut Json, bytes: &[u8], fault: &Fault, spot: Spot) -> Result<(), AllocError> {
+    json.open('{')?;
+    push_what(json, fault)?;
+    push_start(json, spot)?;
+    push_end(json, spot_after(bytes, spot, fault.span.end))?;
+    json.close('}')
+}
+
+/// Writes a list of faults of a file, in the order of reports.
+fn push_faults(json: &mut Json, bytes: &[u8], faults: &[&Fault]) -> Result<(), AllocError> {
+    let mut spot = first_spot();
+    json.open('[')?;
+    for fault in faults {
+        spot = spot_after(bytes, spot, fault.span.start);
+        push_at(json, bytes, *fault, spot)?;
+    }
+    json.close(']')
+}
+
+// The faults of two lists in the order of reports, each once.
+fn join<'a>(
+    alloc: Global,
+    own: &'a [Fault],
+    more: &'a [Fault],
+) -> Result<Vec<&'a Fault>, AllocError> {
+    let mut joined: Vec<&Fault> = own.iter().chain(more).collect(alloc)?;
+    if !more.is_empty() {
+        joined.sort_unstable();
+        joined.dedup();
+    }
+    Ok(joined)
+}
+
+/// Writes the key `faults` with a file's own faults and those of its calls on a call cycle.
+pub fn push_joined(
+    json: &mut Json,
+    bytes: &[u8],
+    own: &[Fault],
+    more: &[Fault],
+) -> Result<(), AllocError> {
+    let joined = join(json.alloc(), own, more)?;
+    json.key("faults")?;
+    push_faults(json, bytes, joined.as_slice())
+}

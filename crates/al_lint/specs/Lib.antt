@@ -1,0 +1,4 @@
+pub mod Meaning
+pub mod Sites
+pub mod Targets
+pub mod Proofs

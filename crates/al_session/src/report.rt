@@ -1,0 +1,120 @@
+//! What a report prints of a folder's files.
+
+ghost use Rattle.std.specs.Prelude.{◌≡◌, not, length, ◌==◌};
+ghost use Rattle.std.specs.List.{enumerate_from, flat_map, list_any};
+ghost use Rattle.al_base.specs.Streams.{WritesOrFails};
+ghost use Rattle.al_session_folder.specs.Kept.{folder_of, referents};
+ghost use Rattle.al_session_folder.specs.Printing.{AreListed, ArePrintable, IsPrintable, joined_or_own};
+ghost use Rattle.al_session.specs.Private.Printing.{lines_of, numbered_lines};
+
+use al_base::{Fault, Location, Output, Stop};
+use al_lint::Lint;
+use al_session_folder::{Files, KeptFile, file_number};
+use al_text::{write_fault_at, write_faults};
+use std::io::Write;
+
+/// Whether any file has a fault of its own, not of a call cycle. Doesn't allocate.
+pub fn has_faults<U, I>(files: &Files<U, I>) -> bool
+    ensures { result ≡ list_any (λ e. not (length e.1.faults.items == 0)) files.now.entries }
+{
+    files.iter().any(|(_, file)| !file.faults.is_empty())
+}
+
+/// Writes the faults that a report lists, file by file in order of path: each as its line, followed by its snippet unless `oneline` is
+/// set. The lists are those of [`join_files`](al_session_folder::join_files). Doesn't allocate.
+///
+/// # Errors
+///
+/// [`Stop::WriteFault`] if the writer fails; it then holds a prefix of the output. No other stop is returned.
+pub fn write_files<L: Lint, W: Write>(
+    writer: &mut Output<W>,
+    files: &Files<L::Unit, L::Iface>,
+    joined: &[Vec<&Fault>],
+    oneline: bool,
+) -> Result<(), Stop>
+    requires listed { AreListed L.meaning files.now.entries joined.now }
+    requires printable { ArePrintable L.meaning files.now.entries }
+    ensures { WritesOrFails W.contents writer.old writer.new result
+        (flat_map (numbered_lines oneline L.meaning (folder_of files.now.entries))
+        (enumerate_from 0 files.now.entries)) }
+{
+    for index in 0..files.len() {
+        let (path, file) = file_number(files, index);
+        let listing = Listing {
+            path: path.as_str(),
+            file,
+            oneline,
+        };
+        write_file(writer, &listing, &joined[index])?;
+    }
+    Ok(())
+}
+
+// A file whose faults are listed, each as its line, followed by its snippet unless `oneline` is set.
+#[derive(Drop)]
+struct Listing<'a, U, I> {
+    path: &'a str,
+    file: &'a KeptFile<U, I>,
+    oneline: bool,
+}
+
+// Writes the listed faults of one file: the joined ones, or its own if there are none.
+fn write_file<U, I, W: Write>(
+    writer: &mut Output<W>,
+    listing: &Listing<'_, U, I>,
+    joined: &[&Fault],
+) -> Result<(), Stop>
+    requires { IsPrintable listing.now.file.now (joined_or_own listing.now.file.now joined.now) }
+    ensures { WritesOrFails W.contents writer.old writer.new result
+        (lines_of listing.now.oneline listing.now.path.now listing.now.file.now
+        (joined_or_own listing.now.file.now joined.now)) }
+{
+    if !joined.is_empty() {
+        return write_referred(writer, listing, joined);
+    }
+    let file = listing.file;
+    write_faults(
+        writer,
+        &file.lines,
+        listing.path,
+        &file.bytes,
+        &file.faults,
+        listing.oneline,
+    )
+}
+
+// Writes faults of a file, given by reference, as `write_faults` does.
+fn write_referred<U, I, W: Write>(
+    writer: &mut Output<W>,
+    listing: &Listing<'_, U, I>,
+    faults: &[&Fault],
+) -> Result<(), Stop>
+    requires { IsPrintable listing.now.file.now (referents faults.now) }
+    ensures { WritesOrFails W.contents writer.old writer.new result
+        (lines_of listing.now.oneline listing.now.path.now listing.now.file.now
+        (referents faults.now)) }
+{
+    let bytes = listing.file.bytes.as_slice();
+    let mut at = 0;
+    let mut location = Location {
+        line: 1,
+        column: 1,
+        start: 0,
+    };
+    for fault in faults {
+        location = listing
+            .file
+            .lines
+            .location_after(bytes, at, location, fault.span.start);
+        at = fault.span.start;
+        write_fault_at(
+            writer,
+            listing.path,
+            bytes,
+            *fault,
+            location,
+            listing.oneline,
+        )?;
+    }
+    Ok(())
+}
