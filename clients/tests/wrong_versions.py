@@ -1,5 +1,5 @@
 #!/usr/bin/env python3
-"""Mutations of the clients: each is one edit of a copy, and the test in its row, which passes here, has to fail there.
+"""Mutations of the clients: each is one edit of a copy. The test in its row has to pass in a copy without it, and to fail with it.
 
     wrong_versions.py PROGRAM [NAME...]         NAME can also be `shellcheck` or `mypy`: the rows whose tests need it, which run only so
 """
@@ -17,10 +17,12 @@ from pathlib import Path
 from typing import NamedTuple
 
 from wrong_fixes import WRONG_FIXES
+from wrong_notes import WRONG_NOTES
 
 CLIENTS = Path(__file__).resolve().parent.parent
 SECONDS = 600
 SIDE_BY_SIDE = 4
+PASSED, REFUSED = "didn't fail", "failed"
 RANDOM_EDITS = "random_edits.py 250 1"
 
 
@@ -35,6 +37,7 @@ class WrongVersion(NamedTuple):
 
 WRONG_VERSIONS = {name: WrongVersion(*row) for name, *row in (
     *WRONG_FIXES,
+    *WRONG_NOTES,
     ("only_open_files_are_shown", "repository.py", "promises.py a_renamed_file",
      "for path in sorted(paths):", "for path in sorted(paths & self.documents.keys()):"),
     ("columns_are_characters", "positions.py", "promises.py ranges",
@@ -484,27 +487,6 @@ WRONG_VERSIONS = {name: WrongVersion(*row) for name, *row in (
      "    if second != first:\n        yield second", "    pass"),
     ("tabs_on_empty_lines_are_refused", "readable.py", "navigation.py what_the_linter_reads",
      'first = EMPTY_LINE.sub(lambda found: " " * len(found[0]), text.translate(NO_BREAKS))', "first = text.translate(NO_BREAKS)"),
-    ("empty_values_are_fine", "notes/keys.py", "notes.py each_case", "if is_empty and value.kind in allowed:", "if False:"),
-    ("digits_are_slips", "notes/file.py", "notes.py slips", ' or _SIGNS.sub("", name) == _SIGNS.sub("", known)', ""),
-    ("own_runners_end", "notes/runners.py", "notes.py each_case",
-     'if not any(one.text.lower() == "self-hosted" for one in found):', "if True:"),
-    ("labels_of_a_matrix_are_missed", "notes/runners.py", "notes.py each_case",
-     'return values_of(job, names[1:]) if names[:1] == ["matrix"] else [label]', "return [label]"),
-    ("minor_versions_do_not_fail", "notes/actions.py", "notes.py each_case",
-     ' or minor is not None and minor < row.get("fail before", {}).get(str(major), 0)', ""),
-    ("values_of_expressions_are_known", "notes/matrices.py", "notes.py each_case",
-     'if any(node.kind != "scalar" or has_expression(node.text) for node in nodes):', "if False:"),
-    ("values_differ_by_case", "notes/matrices.py", "notes.py each_case", "return text.lower()", "return text"),
-    ("other_programs_write_no_outputs", "notes/outputs.py", "notes.py scripts", " or not _is_plain(line)", ""),
-    ("anchors_are_always_used", "notes/folder.py", "notes.py each_case", "shared[node.start, node.end] == 1", "False"),
-    ("every_step_keeps_the_folder", "notes/folder.py", "notes.py each_case",
-     'return uses.startswith(("actions/checkout@", "actions/setup-")) and is_plain', "return True"),
-    ("json_is_harmless_in_a_shell", "notes/strangers.py", "notes.py each_case", " or as_json and _has_text(names)", ""),
-    ("operands_of_comparisons_are_inserted", "notes/strangers.py", "notes.py each_case",
-     "isinstance(expression, Chain) and expression.rest[0][0] not in COMPARISONS", "isinstance(expression, Chain)"),
-    ("all_notes_count", "forms.py", "notes.py reports", "self.counting += problem.level == ERROR", "self.counting += 1"),
-    ("notes_need_no_facts", "notes/run.py", "notes.py without_facts", "except (LinterEnded, NoAnswer) as error:",
-     "except ZeroDivisionError as error:"),
     ("long_answers_are_kept", "child.py", "facts_process.py wrong_programs",
      "return None if max_bytes is not None and", "return None if False and"),
     ("facts_are_built", "program.py", "facts_process.py which_program", "not place.is_symlink() and ", ""),
@@ -515,38 +497,55 @@ WRONG_VERSIONS = {name: WrongVersion(*row) for name, *row in (
 TOOLS = {"shellcheck": "shellcheck_", "mypy": "types_of_clients"}
 
 
-def edited_copy(version: WrongVersion, top: str) -> Path:
-    """A repository with the mutated clients, and everything else unchanged."""
-    for name in ("docs", "examples", "tests"):
-        (Path(top) / name).symlink_to(CLIENTS.parent / name)
-    copy = Path(top) / "clients"
-    shutil.copytree(CLIENTS, copy, ignore=shutil.ignore_patterns("__pycache__"))
-    file = copy / "actionlint_client" / version.file
+def copy_repository(top: Path) -> Path:
+    """Copies the repository to a folder, with links to all its folders but the clients', and returns that one."""
+    for path in CLIENTS.parent.iterdir():
+        if not path.is_dir():
+            shutil.copy(path, top, follow_symlinks=False)
+        elif path.name not in (CLIENTS.name, ".git"):
+            (top / path.name).symlink_to(path)
+    return Path(shutil.copytree(CLIENTS, top / CLIENTS.name, ignore=shutil.ignore_patterns("__pycache__")))
+
+
+def edit(clients: Path, version: WrongVersion) -> None:
+    """Puts the wrong text in place of the right one."""
+    file = clients / "actionlint_client" / version.file
     text = file.read_text(encoding="utf-8")
     assert text.count(version.right) == 1, f"{version.file} has this {text.count(version.right)} times: {version.right}"
     wrong = text.replace(version.right, version.wrong)
     if version.file.endswith(".py"):
         compile(wrong, version.file, "exec")
     file.write_text(wrong, encoding="utf-8")
-    return copy
 
 
-def is_refused(version: WrongVersion, program: str) -> bool:
-    """Whether the test fails by an assertion, and not by something else."""
-    script, *words = version.test.split()
+def ending(test: str, program: str, version: WrongVersion | None = None) -> str:
+    """How a test ends in a copy of the repository, with or without an edit: PASSED, REFUSED if an assertion failed, or in other words."""
+    script, *words = test.split()
     with tempfile.TemporaryDirectory(prefix="actionlint-test-") as top:
-        copy = edited_copy(version, top)
-        done = subprocess.run([sys.executable, str(copy / "tests" / script), program, *words], stdin=subprocess.DEVNULL,
-                              stdout=subprocess.PIPE, stderr=subprocess.STDOUT, timeout=SECONDS, check=False)
-    return done.returncode == 1 and (b"AssertionError" in done.stdout or b"only shown: " in done.stdout)
+        clients = copy_repository(Path(top))
+        if version:
+            edit(clients, version)
+        try:
+            done = subprocess.run([sys.executable, str(clients / "tests" / script), program, *words], stdin=subprocess.DEVNULL,
+                                  stdout=subprocess.PIPE, stderr=subprocess.STDOUT, timeout=SECONDS, check=False)
+        except subprocess.TimeoutExpired:
+            return f"didn't end in {SECONDS} seconds"
+    if done.returncode == 0:
+        return PASSED
+    if done.returncode == 1 and (b"AssertionError" in done.stdout or b"only shown: " in done.stdout):
+        return REFUSED
+    return f"ended with status {done.returncode}: " + done.stdout.decode("utf-8", "replace").strip().rpartition("\n")[2].strip()
 
 
-def line_of(name: str, program: str) -> str:
-    """The line of a case, and what is wrong."""
+def line_of(name: str, program: str, without_edit: dict[str, str]) -> str:
+    """The line of a case, and what is wrong. The endings of the tests without an edit are known."""
+    version = WRONG_VERSIONS[name]
     begun = time.monotonic()
-    refused = is_refused(WRONG_VERSIONS[name], program)
-    line = f"case=clients-wrong-version-{name} output={'expected' if refused else 'wrong'} status=0 seconds={time.monotonic() - begun:.1f}"
-    return line if refused else f"{line}\n  {WRONG_VERSIONS[name].test} did not fail"
+    before = without_edit[version.test]
+    found = ending(version.test, program, version) if before == PASSED else f"has to pass without the edit, but {before}"
+    shown = "expected" if found == REFUSED else "wrong"
+    line = f"case=clients-wrong-version-{name} output={shown} status=0 seconds={time.monotonic() - begun:.1f}"
+    return line if found == REFUSED else f"{line}\n  {version.test} {found}"
 
 
 def rows_of(tool: str | None) -> list[str]:
@@ -559,8 +558,11 @@ def rows_of(tool: str | None) -> list[str]:
 def main(words: list[str]) -> int:
     # In parallel, since they mostly wait.
     names = [name for word in words[1:] for name in (rows_of(word) if word in TOOLS else [word])] or rows_of(None)
+    program = os.path.abspath(words[0])
+    tests = sorted({WRONG_VERSIONS[name].test for name in names})
     with ThreadPoolExecutor(max_workers=SIDE_BY_SIDE) as pool:
-        lines = list(pool.map(line_of, names, itertools.repeat(os.path.abspath(words[0]))))
+        without_edit = dict(zip(tests, pool.map(ending, tests, itertools.repeat(program))))
+        lines = list(pool.map(line_of, names, itertools.repeat(program), itertools.repeat(without_edit)))
     print("\n".join(lines))
     return 1 if any(" output=wrong " in line for line in lines) else 0
 
