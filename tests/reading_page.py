@@ -57,6 +57,10 @@ class Theorem(NamedTuple):
 THEOREMS = (
     Theorem("W", "2", "what the arguments ask for", (Contracts("al_cli_words", "words.rt", ("pub fn parse_words",)),)),
     Theorem("D", "4", "the files that a run takes", (Contracts("al_cli", "gathering.rt", ("pub fn load",)),)),
+    Theorem("A", "2 4 6", "a whole run, from its arguments to how it ends, and its exit status", (
+        Contracts("al_cli", "program.rt", ("pub fn run",)),
+        Contracts("al_cli", "ending.rt", ("pub fn status",)),
+    )),
     Theorem("F", "2 4 6", "the report and status of these files", (
         Contracts("al_session", "builder.rt", ("pub fn put", "pub fn build")),
         Contracts("al_cli", "linted.rt", ("pub fn write_report", "pub fn lint_all")),

@@ -17,7 +17,9 @@ use std::alloc::{AllocError, Global};
 // A linter for one report keeps the trees of files up to this many bytes in total.
 const KEPT_BYTES: usize = 2_097_152;
 
-/// The linter of workflows and actions, with its counts of reads and checks.
+/// The linter of workflows and actions, with its counts of reads and checks. It is used by a
+/// session or a builder of `al_session`, or through its methods of [`Lint`]: `read` a file, then
+/// `check` it with the interfaces that answer its calls.
 #[derive(Drop)]
 pub struct Actions {
     checks: u64,
@@ -27,8 +29,8 @@ pub struct Actions {
 }
 
 impl Actions {
-    /// A linter that has read and checked nothing. It keeps everything it reads, as a session that takes edits needs.
-    /// Doesn't allocate.
+    /// A linter that has read and checked nothing. It keeps everything it reads, as a session that
+    /// takes edits needs. Doesn't allocate.
     pub fn new() -> Actions
         ensures checks { result.checks ≡ 0 }
         ensures reads { result.reads ≡ 0 }

@@ -15,7 +15,7 @@ pub struct Brief {
     pub(crate) calls: Vec<FolderCall>,
 }
 
-/// What is kept of a file after it was read.
+/// What is kept of a file after it was read. Only the linter that made it knows what to do with it.
 #[derive(Drop)]
 pub enum Unit {
     /// Everything that was read.

@@ -91,8 +91,8 @@ abbrev pub jobs_in : OutputNames → List (Scalar × Node) → Section → Type'
 jobs_in known jobs apart = Any
 jobs_in known jobs _ = jobs_type known jobs
 
--- The table of contexts. Some are the same in every file; the others are any where they aren't available. An action has only the section
--- `apart`.
+-- The table of contexts. Some are the same in every file; the others are any outside of what they belong to, a job or the steps of a job or
+-- of a composite action. An action has only the section `apart`.
 abbrev pub context_type_at : FileKind → OutputNames → Node → Position → Context → Type'
 context_type_at k known root p context.Github = github_type
 context_type_at k known root p context.Env = loose_strings

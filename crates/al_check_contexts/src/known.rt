@@ -8,8 +8,9 @@ use al_expr_types::NameList;
 use std::alloc::{AllocError, Global};
 use std::collections::BTreeMap;
 
-/// What is known of the outputs of a call: of a job, by its key; of a step of a job, by the job's key and the step's index; of a step
-/// of an action, by its index. Of several answers at one place the first counts.
+/// What is known of the outputs of a call: of a job, by its key; of a step of a job, by the job's
+/// key and the step's index; of a step of an action, by its index. Of several answers at one place
+/// the first counts.
 #[derive(Clone, Copy)]
 pub struct Answer<'a> {
     /// The key of the job; `None` for a step of an action.

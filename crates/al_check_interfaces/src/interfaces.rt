@@ -35,7 +35,9 @@ pub struct Parameter {
 /// The kind of a parameter: inputs, which a call gives under `with`, or secrets, which it gives under `secrets`.
 #[derive(Clone, Copy, PartialEq, Eq, PartialOrd, Ord)]
 pub enum ParameterKind {
+    /// An input.
     Input,
+    /// A secret.
     Secret,
 }
 
@@ -44,11 +46,13 @@ pub enum ParameterKind {
 pub struct Signature {
     /// The text of `name`, if it is a scalar and not null.
     pub name: Option<Name>,
+    /// What the file is to its callers.
     pub role: Role,
+    /// The inputs, in order.
     pub inputs: Parameters,
-    /// Empty for an action.
+    /// The secrets, in order; empty for an action.
     pub secrets: Parameters,
-    /// The names of the outputs.
+    /// The names of the outputs, in order.
     pub outputs: NameList,
 }
 
@@ -64,10 +68,11 @@ impl Signature {
     }
 }
 
-/// What callers see of a file.
+/// What callers see of a file. Two interfaces that compare equal are the same to every caller.
 #[derive(Drop, PartialEq, Eq)]
 pub enum Interface {
     /// The file isn't YAML, or its root isn't a mapping.
     Unreadable,
+    /// The root is a mapping, which declares this.
     Readable(Signature),
 }

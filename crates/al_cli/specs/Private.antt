@@ -2,3 +2,4 @@
 pub mod Puts
 pub mod Kept
 pub mod Turns
+pub mod Endings

@@ -110,7 +110,7 @@ impl TakenFiles {
     ///
     /// # Errors
     ///
-    /// [`AllocError`] if memory runs out.
+    /// `AllocError` if memory runs out.
     pub(crate) fn into_list(self) -> Result<Vec<(Path, Vec<u8>)>, AllocError>
         ensures gathered { AreGathered self }
         ensures list { IfOk result (λ files. map owned_entry files.items ≡ self) }

@@ -11,8 +11,9 @@ const PAUSE: u64 = 1;
 
 /// A writer that waits until the one below takes bytes.
 ///
-/// A non-blocking pipe, as Node makes them, refuses a write when it is full (`WouldBlock`). This writer then waits, as a blocking pipe
-/// would; any other result is passed on.
+/// A non-blocking pipe, as Node makes them, refuses a write when it is full (`WouldBlock`). This
+/// writer then waits a millisecond and tries again, up to 2^64 - 1 times, as a blocking pipe would;
+/// any other result is passed on.
 #[derive(Drop)]
 pub struct WaitingOutput<'a, W, C> {
     output: W,

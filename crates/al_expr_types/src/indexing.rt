@@ -70,6 +70,14 @@ impl<'a> Types<'a> {
     }
 
     /// The fields of an object by name, and the type of others, as one list.
+    ///
+    /// # Requires
+    ///
+    /// `n` is the number of an object of this table.
+    ///
+    /// # Errors
+    ///
+    /// `AllocError` if memory runs out.
     pub fn index(&mut self, n: u32) -> Result<Fields<'a>, AllocError>
         requires { n < length self.old.objects.items }
         ensures index { IfOk result (λ f. IsFieldIndex self.new.objects.items n f) }

@@ -169,8 +169,16 @@ impl<'a> Types<'a> {
         }
     }
 
-    /// The type of a property of an object: that of the field with its name, otherwise that of other fields, if
-    /// others are possible.
+    /// The type of a property of an object: that of the field with its name, otherwise that of
+    /// other fields, if others are possible. Types made before stay valid.
+    ///
+    /// # Requires
+    ///
+    /// `n` is the number of an object of this table.
+    ///
+    /// # Errors
+    ///
+    /// `AllocError` if memory runs out.
     pub fn property(&mut self, n: u32, name: &[u8]) -> Result<Option<Ty>, AllocError>
         requires { n < length self.old.objects.items }
         ensures ty { IfOk result (λ t. option_map (type_at self.new) t
@@ -256,7 +264,16 @@ impl<'a> Types<'a> {
         Ok(())
     }
 
-    /// What all fields of an object, and the type of others, have in common, which is computed once.
+    /// What all fields of an object, and the type of others, have in common, which is computed
+    /// once. Types made before stay valid.
+    ///
+    /// # Requires
+    ///
+    /// `n` is the number of an object of this table.
+    ///
+    /// # Errors
+    ///
+    /// `AllocError` if memory runs out.
     #[cycle(commons)]
     pub fn common(&mut self, n: u32) -> Result<Option<Ty>, AllocError>
         requires { n < length self.old.objects.items }

@@ -87,11 +87,14 @@ impl<L: Lint> SessionBuilder<L> {
         file.map(|file| file.calls.targets.as_slice())
     }
 
-    /// Sets the bytes of a file, which is new or replaces the one with its path, and reads it. Checks no file.
+    /// Sets the bytes of a file, which is new or replaces the one with its path, and reads it.
+    /// Checks no file, as the linter counts: one that is made for one report may check a file as it
+    /// reads it.
     ///
     /// # Errors
     ///
-    /// The first of E1 to E4 that applies; if none does, E6 if memory ran out. The folder is then unchanged.
+    /// The first of E1 to E4 that applies; if none does, E6 if memory ran out. The folder is then
+    /// unchanged.
     pub fn put(&mut self, path: &str, bytes: Vec<u8>) -> Result<(), Refused>
         ensures accepted { OnOk result
             (put_refusal L.meaning self.old.folder path.now bytes.items ≡ None) }
@@ -113,11 +116,12 @@ impl<L: Lint> SessionBuilder<L> {
         load_file(&mut self.lint, &mut self.kept, path, bytes).map_err(|_| Refused::Memory)
     }
 
-    /// The session of these files. Checks each file once and reads none.
+    /// The session of these files. As the linter counts, checks each file once and reads none: one
+    /// that is made for one report may read a file again to check it.
     ///
     /// # Errors
     ///
-    /// [`AllocError`] if memory runs out.
+    /// `AllocError` if memory runs out. The files are then gone.
     pub fn build(self) -> Result<Session<L>, AllocError>
         ensures folder { IfOk result (λ session. session.folder ≡ self.folder) }
         ensures meter { IfOk result

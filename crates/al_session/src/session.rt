@@ -37,11 +37,11 @@ use std::alloc::{AllocError, Global};
 use std::io::Write;
 use std::marker::Model;
 
-/// The result of an accepted edit.
+/// The reply to an accepted edit.
 #[derive(Drop)]
 pub struct Edit {
-    /// The files that were rechecked, in order of path: those that are new, whose bytes changed, or that have a call
-    /// whose answer changed.
+    /// The files that were rechecked, in order of path, each once: those that are new, whose bytes
+    /// changed, or that have a call whose answer changed.
     pub rechecked: Paths,
 }
 
@@ -106,8 +106,8 @@ impl<L: Lint> Session<L> {
         }
     }
 
-    /// The number of checks the linter has made, including those of refused edits. It stays at its greatest value.
-    /// Doesn't allocate.
+    /// The number of checks the linter has made, including those of refused edits. It saturates at
+    /// 2^64 - 1. Doesn't allocate.
     pub fn meter(&self) -> u64
         ensures { result ≡ self.now.checks }
     {
@@ -227,7 +227,7 @@ impl<L: Lint> Session<L> {
     ///
     /// # Errors
     ///
-    /// [`AllocError`] if memory runs out.
+    /// `AllocError` if memory runs out.
     pub fn status(&mut self) -> Result<u8, AllocError>
         ensures status { IfOk result (λ status. status ≡ status_of L.meaning self.old.folder) }
         ensures unchanged { self.new ≡ self.old }
@@ -291,7 +291,7 @@ impl<L: Lint> Session<L> {
     ///
     /// # Errors
     ///
-    /// [`AllocError`] if memory runs out.
+    /// `AllocError` if memory runs out.
     pub fn call_cycle_faults(&mut self) -> Result<Vec<Vec<Fault>>, AllocError>
         ensures faults { IfOk result (λ all. AreCycleFaults L.meaning self.old.folder all.items) }
         ensures unchanged { self.new ≡ self.old }
@@ -305,7 +305,7 @@ impl<L: Lint> Session<L> {
     ///
     /// # Errors
     ///
-    /// [`AllocError`] if memory runs out.
+    /// `AllocError` if memory runs out.
     pub fn missing(&self) -> Result<Vec<Path>, AllocError>
         ensures paths { IfOk result
             (λ paths. paths.items ≡ missing_in L.meaning self.now.folder) }

@@ -36,12 +36,12 @@ fn refuses_files(alloc: Global, given: &[&str]) -> bool {
 
 #[test]
 fn words(rt: HostRuntime) {
-    assert!(rt;
-        takes(
-            rt.alloc(),
-            &["actionlint", "--oneline", "--root", "d", "a/action.yml"]
-        )
-    );
+    let given = ["actionlint", "--oneline", "--root", "d", "a/action.yml"];
+    assert!(rt; takes(rt.alloc(), &given));
+}
+
+#[test]
+fn words_that_ask_for_no_run(rt: HostRuntime) {
     assert!(rt; refuses_files(rt.alloc(), &["actionlint", "--session", "a/action.yml"]));
 }
 

@@ -5,7 +5,7 @@ ghost use Rattle.al_cli.specs.Disk.{IsBounded};
 
 use al_base::Path;
 use al_base::limits::LARGEST_FILE;
-use al_cli::{Disk, DiskError, Entry, Gathered, Unread, Words, gather, load_from};
+use al_cli::{Disk, DiskError, Entry, Gathered, Unread, Words, gather, load};
 use al_session::Refused;
 use std::alloc::{AllocError, Global};
 use std::collections::BTreeSet;
@@ -25,7 +25,7 @@ struct Held {
 }
 
 impl Disk for Held {
-    fn workflows(&mut self, alloc: Global) -> Result<BTreeSet<String>, DiskError> {
+    fn workflows(&mut self, alloc: Global, _root: &str) -> Result<BTreeSet<String>, DiskError> {
         let mut listed = BTreeSet::new(alloc);
         for (path, _) in self.files {
             if path.starts_with(".github/workflows/") {
@@ -35,7 +35,7 @@ impl Disk for Held {
         Ok(listed)
     }
 
-    fn read(&mut self, alloc: Global, path: &str) -> Result<Entry, DiskError> {
+    fn read(&mut self, alloc: Global, _root: &str, path: &str) -> Result<Entry, DiskError> {
         self.asked.push(String::from_str(alloc, path)?)?;
         for (held, bytes) in self.files {
             if *held == path {
@@ -120,7 +120,7 @@ fn are_read_in_order(alloc: Global, words: &Words<'_>) -> bool {
         files: folder(),
         asked: Vec::new(alloc),
     };
-    match load_from(alloc, &mut disk, words) {
+    match load(alloc, &mut disk, words) {
         Ok(gathered) => {
             are_these(&disk.asked, reads()) && are_these(&gathered.outside, outside())
         }
@@ -171,7 +171,7 @@ fn takes_named(alloc: Global) -> Result<bool, AllocError> {
         asked: Vec::new(alloc),
     };
     let words = named(alloc, &["./x/action.yml", "z/action.yml"])?;
-    match load_from(alloc, &mut disk, &words) {
+    match load(alloc, &mut disk, &words) {
         Ok(gathered) => are_taken(gathered, &["x/action.yml", "w/action.yaml", "z/action.yml"]),
         Err(_) => Ok(false),
     }
@@ -190,7 +190,7 @@ fn is_refused_unread(alloc: Global, path: &str, wanted: Refused) -> Result<bool,
         asked: Vec::new(alloc),
     };
     let words = named(alloc, &[path])?;
-    match load_from(alloc, &mut disk, &words) {
+    match load(alloc, &mut disk, &words) {
         Err(Unread::Refused(text, reason)) => {
             Ok(text.as_str() == path && reason == wanted && disk.asked.is_empty())
         }
@@ -212,7 +212,7 @@ fn reads_once(alloc: Global) -> Result<bool, AllocError> {
         asked: Vec::new(alloc),
     };
     let words = named(alloc, &["z/action.yml", "./z/action.yml"])?;
-    let answer = load_from(alloc, &mut disk, &words);
+    let answer = load(alloc, &mut disk, &words);
     Ok(answer.is_ok() && are_these(&disk.asked, &["z/action.yml"]))
 }
 
