@@ -42,10 +42,11 @@ impl Actions {
         }
     }
 
-    /// A linter that has read and checked nothing, for one report on a folder. Of a file that calls no file in the folder
-    /// and has no faults, it keeps no tree. It keeps the trees of the first other files it reads, up to 2,097,152 bytes of
-    /// files. Of later files it keeps only what a report and their callers need, and reads them again to check them; these
-    /// reads aren't counted. Doesn't allocate.
+    /// A linter that has read and checked nothing, for one report on a folder. Of a file that calls
+    /// no file in the folder and has no faults, it keeps no tree. It keeps the trees of the first
+    /// other files it reads, up to 2,097,152 bytes of files. Of later files it keeps only what a
+    /// report and their callers need, and reads them again to check them; these reads aren't
+    /// counted. Doesn't allocate.
     pub fn for_one_report() -> Actions
         ensures checks { result.checks ≡ 0 }
         ensures reads { result.reads ≡ 0 }
@@ -57,7 +58,8 @@ impl Actions {
         }
     }
 
-    // Whether the tree of a file with this many bytes is kept; if so, they are subtracted from the remaining room.
+    // Whether the tree of a file with this many bytes is kept; if so, they are subtracted from the
+    // remaining room.
     fn keeps_tree(&mut self, bytes: usize) -> bool
         ensures checks { self.new.checks ≡ self.old.checks }
         ensures reads { self.new.reads ≡ self.old.reads }

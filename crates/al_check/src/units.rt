@@ -36,8 +36,8 @@ pub(crate) fn brief_of(alloc: Global, file: ReadFile) -> Result<Brief, AllocErro
     Ok(Brief { interface, calls })
 }
 
-/// Whether a file that was read from this source calls no file in the folder and has no faults. If it has faults of its
-/// own, its expressions aren't checked.
+/// Whether a file that was read from this source calls no file in the folder and has no faults. If
+/// it has faults of its own, its expressions aren't checked.
 pub(crate) fn is_clean(
     alloc: Global,
     source: Source<'_>,

@@ -17,13 +17,13 @@ pub struct Answer<'a> {
     pub job: Option<&'a [u8]>,
     /// The index of the step, from 0; `None` if the job itself calls.
     pub step: Option<usize>,
-    /// The position of the names of the outputs in `Answers::lists`, from 0; `None` if nothing is known of them. A position without a
-    /// list means the same.
+    /// The position of the names of the outputs in `Answers::lists`, from 0; `None` if nothing is
+    /// known of them. A position without a list means the same.
     pub names: Option<usize>,
 }
 
-/// What is known of the outputs of the calls of a file. Calls with the same position in `lists` have the same outputs, whose type is
-/// made once.
+/// What is known of the outputs of the calls of a file. Calls with the same position in `lists`
+/// have the same outputs, whose type is made once.
 #[derive(Clone, Copy)]
 pub struct Answers<'a> {
     /// The answers; only the order of those at the same place matters.
@@ -65,7 +65,8 @@ impl<'a> Outputs<'a> {
         self.lists.len()
     }
 
-    /// The position of the list of the outputs of a call, or `unknown`. Calls with the same position have the same outputs.
+    /// The position of the list of the outputs of a call, or `unknown`. Calls with the same
+    /// position have the same outputs.
     pub(crate) fn position(&self, job: Option<&'a [u8]>, step: Option<usize>) -> usize
         ensures { list_at self.now result ≡ known_by self.now (option_copied job.entry) step }
     {

@@ -1,4 +1,5 @@
-//! The interfaces of files. They have no spans and no descriptions, so an edit that callers can't see leaves the interface the same.
+//! The interfaces of files. They have no spans and no descriptions, so an edit that callers can't
+//! see leaves the interface the same.
 ghost use Rattle.std.specs.Prelude.{◌≡◌};
 ghost use Rattle.al_check_interfaces.specs.Kinds.{parameters_of};
 
@@ -32,7 +33,8 @@ pub struct Parameter {
     pub takes: InputType,
 }
 
-/// The kind of a parameter: inputs, which a call gives under `with`, or secrets, which it gives under `secrets`.
+/// The kind of a parameter: inputs, which a call gives under `with`, or secrets, which it gives
+/// under `secrets`.
 #[derive(Clone, Copy, PartialEq, Eq, PartialOrd, Ord)]
 pub enum ParameterKind {
     /// An input.
@@ -41,7 +43,8 @@ pub enum ParameterKind {
     Secret,
 }
 
-/// The interface of a file whose root is a mapping. Of names that differ only in ASCII case, each list has only the first.
+/// The interface of a file whose root is a mapping. Of names that differ only in ASCII case, each
+/// list has only the first.
 #[derive(Drop, PartialEq, Eq)]
 pub struct Signature {
     /// The text of `name`, if it is a scalar and not null.

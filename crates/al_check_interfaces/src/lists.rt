@@ -1,4 +1,5 @@
-//! The parameters of an interface. The positions of their names, and which of them are mandatory, are found once for all calls.
+//! The parameters of an interface. The positions of their names, and which of them are mandatory,
+//! are found once for all calls.
 ghost use Rattle.std.specs.Prelude.{◌≡◌, find, map, IfOk};
 ghost use Rattle.std.specs.Option.{option_copied};
 ghost use Rattle.al_base.specs.NamePlaces.{name_place, name_position};

@@ -15,8 +15,8 @@ IsBounded (File bytes) = length bytes.items ≤ largest_file + 1
 IsBounded Absent = Unit {0}
 IsBounded Outside = Unit {0}
 
--- What a folder has at a path: a file with these bytes, of which there is one more than allowed if it is too large; no file; a link that
--- leads out of the folder; or what can't be read.
+-- What a folder has at a path: a file with these bytes, of which there is one more than allowed if
+-- it is too large; no file; a link that leads out of the folder; or what can't be read.
 pub data Held : Type 0 where
   HeldFile : List ℕ → Held
   HeldNone : Held

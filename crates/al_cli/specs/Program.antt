@@ -1,4 +1,5 @@
--- What a run of the program leaves, by how it ended. In these definitions wrote and now are the writer's bytes before and after.
+-- What a run of the program leaves, by how it ended. In these definitions wrote and now are the
+-- writer's bytes before and after.
 use Rattle.std.specs.Prelude.{◌≡◌, ◌⊎◌, ℕ, Bool, true, false, List, [], Option, Ok, Err, map, string_bytes}
 use Rattle.std.specs.Io.KnownBytes.{Appends, Keeps}
 use Rattle.al_base.specs.Counted.{AppendsPrefix}
@@ -21,12 +22,13 @@ use Rattle.al_cli.specs.Taken.{IsGathered}
 use Rattle.al_cli.specs.declared.ending.Ending.{Ending}
 use Rattle.al_cli.specs.declared.ending.Ending.TheVariants as ending
 
--- the folder of the files of a disk that these words ask for, where the disk tells what the folder at each place holds
+-- the folder of the files of a disk that these words ask for, where the disk tells what the folder
+-- at each place holds
 abbrev pub IsAskedFolder : Words → (List ℕ → Option Holding) → Folder → Type 0
 IsAskedFolder words holds folder = IsGathered (holds words.root.now) (map (λ file. file.now) words.files.items) folder
 
--- A run over a folder: the report of its files was written, and the status is theirs; or a prefix of that report, as a write failed; or
--- nothing, as memory ran out or a file wasn't taken.
+-- A run over a folder: the report of its files was written, and the status is theirs; or a prefix
+-- of that report, as a write failed; or nothing, as memory ran out or a file wasn't taken.
 abbrev pub FolderEnds : Words → (List ℕ → Option Holding) → Option (List ℕ) → Option (List ℕ) → Ending → Type 0
 FolderEnds words holds wrote now (ending.Reported status) = (folder : Folder) × IsAskedFolder words holds folder
     × (status ≡ status_of linting folder) × Appends wrote now (report_of words.oneline linting folder)
@@ -56,7 +58,8 @@ help_of (usage.Clap text) = []
 help_of usage.Session = []
 help_of usage.Memory = []
 
--- words that ask for no run: help was written, or a prefix of it, as a write failed; and otherwise nothing
+-- words that ask for no run: help was written, or a prefix of it, as a write failed; and otherwise
+-- nothing
 abbrev pub UsageEnds : Usage → Option (List ℕ) → Option (List ℕ) → Ending → Type 0
 UsageEnds asked wrote now (ending.NoRun said) = (said ≡ asked) × Appends wrote now (help_of asked)
 UsageEnds asked wrote now (ending.Stopped stop) = (stop ≡ WriteFault) × AppendsPrefix wrote now (help_of asked)
@@ -71,7 +74,8 @@ pub record WordsEnd {R W : Type 0} (words : Words) (holds : List ℕ → Option 
   pub script : words.session ≡ true → ScriptEnds words.oneline remaining contents unread left wrote now end
   pub folder : words.session ≡ false → FolderEnds words holds (bytes_written contents wrote) (bytes_written contents now) end
 
--- A run of the program with these texts as its arguments, the first of which is its name: they ask for no run, or for one.
+-- A run of the program with these texts as its arguments, the first of which is its name: they ask
+-- for no run, or for one.
 abbrev pub RunEnds : {R W : Type 0} → List (List ℕ) → (List ℕ → Option Holding) → (R → Option (List ℕ)) → (W → Option (List ℕ)) → Input R
     → Input R → Output W → Output W → Ending → Type 0
 RunEnds texts holds remaining contents unread left wrote now end =

@@ -18,7 +18,8 @@ abbrev pub AreNew : Folder → List (List ℕ × List ℕ) → Type 0
 AreNew folder [] = Unit {0}
 AreNew folder (e ∷ es) = (bytes_at folder e.0 ≡ None) × AreNew (with_file folder e.0 e.1) es
 
--- Files that can be put one after another into an empty folder: none of them is refused, and none replaces another.
+-- Files that can be put one after another into an empty folder: none of them is refused, and none
+-- replaces another.
 pub record AreGathered (files : List (List ℕ × List ℕ)) : Type 0 where
   pub taken : AreTaken [] files
   pub new : AreNew [] files
@@ -48,7 +49,8 @@ AreListedFiles None paths = Unit {0}
 AreListedFiles (Some folder) paths = (listed : List (List ℕ)) × (folder.listed ≡ Some listed)
     × ((p : List ℕ) → is_among p paths ≡ (is_among p listed && is_file (folder.has p)))
 
--- the paths that FILEs ask for: their own, in order, each once; if there are no FILEs, those of the files that the folder lists, ascending
+-- the paths that FILEs ask for: their own, in order, each once; if there are no FILEs, those of the
+-- files that the folder lists, ascending
 abbrev pub AreAsked : Option Holding → List (List ℕ) → List (List ℕ) → Type 0
 AreAsked holding [] paths = IsStrictlySortedBy (slice_cmp nat_cmp) paths × AreListedFiles holding paths
 AreAsked holding (file ∷ files) paths = paths ≡ each_once (map path_named (file ∷ files))
@@ -62,7 +64,8 @@ abbrev pub AreCalled : List (List ℕ × List ℕ) → List (List ℕ × List �
 AreCalled first [] = Unit {0}
 AreCalled first (e ∷ es) = (is_among e.0 (called_by first) ≡ true) × AreCalled (first ++ e ∷ []) es
 
--- Files of a folder in order: first those that these FILEs ask for, then others, each called by a file before it.
+-- Files of a folder in order: first those that these FILEs ask for, then others, each called by a
+-- file before it.
 pub record AreInOrder (holding : Option Holding) (words : List (List ℕ)) (files : List (List ℕ × List ℕ)) : Type 0 where
   pub first : List (List ℕ × List ℕ)
   pub after : List (List ℕ × List ℕ)

@@ -17,7 +17,8 @@ use std::io::{ErrorKind, Write};
 pub enum Ending {
     /// The report of a folder was written. Its status is 0 if no file has a fault, otherwise 1.
     Reported(u8),
-    /// A script was answered. Its status is that of the folder that it leaves, or 2 for a bad command.
+    /// A script was answered. Its status is that of the folder that it leaves, or 2 for a bad
+    /// command.
     Answered(u8),
     /// An argument isn't UTF-8.
     NotText,

@@ -34,12 +34,13 @@ pub type Loaded = SessionBuilder<Actions>;
 pub struct Gathered {
     /// The files, read but not yet checked.
     pub files: Loaded,
-    /// The paths at which links lead out of the folder, in the order in which they were tried, as a line of standard error has
-    /// them, with a `?` for each control character.
+    /// The paths at which links lead out of the folder, in the order in which they were tried, as a
+    /// line of standard error has them, with a `?` for each control character.
     pub outside: Vec<String>,
 }
 
-/// Why files were not gathered. A path is as a fatal line has it, with a `?` for each control character.
+/// Why files were not gathered. A path is as a fatal line has it, with a `?` for each control
+/// character.
 #[derive(Debug, Drop, Error)]
 pub enum Unread {
     /// The file or folder at this path can't be read.
@@ -65,17 +66,18 @@ impl<T: Drop> From<AllocFailed<T>> for Unread {
     }
 }
 
-/// The files that a run without a script lints, each with its path and its bytes: those that the words name, or else all
-/// workflows of the folder in order of path; and then, one after another, each file that those before it call and that is
-/// there. Of what the folder lists only regular files are taken, with links followed; anything else of a name can't be read. A
-/// listed or called file whose symbolic links point outside the folder is skipped, and can't be read where the words name it. Each path
-/// is in the list once, and [`lint_all`](crate::lint_all) refuses none of the files; the folder that they make there is the one that
-/// [`load`] answers for this disk.
+/// The files that a run without a script lints, each with its path and its bytes: those that the
+/// words name, or else all workflows of the folder in order of path; and then, one after another,
+/// each file that those before it call and that is there. Of what the folder lists only regular
+/// files are taken, with links followed; anything else of a name can't be read. A listed or called
+/// file whose symbolic links point outside the folder is skipped, and can't be read where the words
+/// name it. Each path is in the list once, and [`lint_all`](crate::lint_all) refuses none of the
+/// files; the folder that they make there is the one that [`load`] answers for this disk.
 ///
 /// # Errors
 ///
-/// [`Unread`], for the first file that can't be read or is refused, or where memory ran out. A path is refused before it is read, and of a
-/// file at most 1,048,577 bytes are asked for.
+/// [`Unread`], for the first file that can't be read or is refused, or where memory ran out. A path
+/// is refused before it is read, and of a file at most 1,048,577 bytes are asked for.
 #[tactic(auto, using(crate::proofs::Turns::all_small))]
 pub fn gather<R: Files + RandomSource + AllocGlobal + Clone + Drop>(
     rt: &R,
@@ -93,7 +95,8 @@ pub fn gather<R: Files + RandomSource + AllocGlobal + Clone + Drop>(
     Ok(gathering.files.into_list()?)
 }
 
-/// The files of a disk that such a run lints, read and not checked yet, and the paths that were skipped.
+/// The files of a disk that such a run lints, read and not checked yet, and the paths that were
+/// skipped.
 ///
 /// # Errors
 ///

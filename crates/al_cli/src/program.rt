@@ -24,9 +24,10 @@ use std::convert::AsStr;
 use std::io::{Read, Write};
 use std::{io, mem};
 
-/// Runs the program with these arguments, the first of which is its name: prints help, runs the script that the reader gives, or writes the
-/// report of the files of a folder, and flushes the writer. What is skipped is said to `errors`; [`say_why`](crate::say_why) says there
-/// why a run ended.
+/// Runs the program with these arguments, the first of which is its name: prints help, runs the
+/// script that the reader gives, or writes the report of the files of a folder, and flushes the
+/// writer. What is skipped is said to `errors`; [`say_why`](crate::say_why) says there why a run
+/// ended.
 ///
 /// The memory of a session is not given back, as the program ends.
 pub fn run<S: AsStr, D: Disk, R: Read, W: Write, E: Write>(

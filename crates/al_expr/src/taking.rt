@@ -131,7 +131,8 @@ fn rest_tree(
     }
 }
 
-// A field with a name and a type. Names come from trees or from a file that was read, so they are UTF-8.
+// A field with a name and a type. Names come from trees or from a file that was read, so they are
+// UTF-8.
 fn field_with(alloc: Global, name: &[u8], ty: Ty) -> Result<Field, AllocError>
     ensures { IfOk result (λ f. field_of f ≡ (name.now, ty_of ty)) }
 {

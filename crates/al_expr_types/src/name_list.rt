@@ -1,4 +1,5 @@
-//! Names that own their text. They compare equal only if their bytes are the same, ASCII case included.
+//! Names that own their text. They compare equal only if their bytes are the same, ASCII case
+//! included.
 
 ghost use Rattle.std.specs.Prelude.{◌≡◌, IfOk, map};
 ghost use Rattle.al_base.specs.NamePlaces.{TellsFirsts, is_first_name, name_place, name_position};
@@ -84,8 +85,8 @@ impl Eq for Name {
     ghost laws = { nat_list_eq_equiv };
 }
 
-/// Names in order, and the position of each. It owns them, so that types of many files can share it. Contracts see the list of
-/// their bytes.
+/// Names in order, and the position of each. It owns them, so that types of many files can share
+/// it. Contracts see the list of their bytes.
 #[derive(Drop)]
 pub struct NameList {
     names: Vec<Name>,

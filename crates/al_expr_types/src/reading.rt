@@ -22,7 +22,8 @@ use crate::types::Types;
 use std::alloc::{AllocError, Global};
 use std::rc::Rc;
 
-/// Joins types with those so far. Fails with `AllocError` when out of memory, as everything here does.
+/// Joins types with those so far. Fails with `AllocError` when out of memory, as everything here
+/// does.
 fn and_all(alloc: Global, types: &[Ty], so_far: Join) -> Result<Join, AllocError>
     ensures part { IfOk result (λ j. (ms : List Parts)
         → join_in ms j
@@ -242,7 +243,8 @@ impl<'a> Types<'a> {
         }
     }
 
-    /// Computes what all fields of an object have in common for each object that it is made from, but for small ones.
+    /// Computes what all fields of an object have in common for each object that it is made from,
+    /// but for small ones.
     #[cycle(commons)]
     fn make_commons(&mut self, n: u32) -> Result<(), AllocError>
         requires { n < length self.old.objects.items }

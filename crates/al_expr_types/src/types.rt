@@ -13,8 +13,8 @@ use crate::ty::{Base, Ty};
 use std::alloc::{AllocError, Global};
 use std::collections::BTreeMap;
 
-/// The objects of a file, each made once and identified by its number. Objects refer only to earlier ones, so adding one changes no
-/// other.
+/// The objects of a file, each made once and identified by its number. Objects refer only to
+/// earlier ones, so adding one changes no other.
 #[derive(Drop)]
 pub struct Types<'a> {
     pub(crate) alloc: Global,
@@ -65,7 +65,8 @@ impl<'a> Types<'a> {
         self.alloc
     }
 
-    /// Adds an object, and returns its number. Fails with `AllocError` when out of memory, as everything here does.
+    /// Adds an object, and returns its number. Fails with `AllocError` when out of memory, as
+    /// everything here does.
     pub(crate) fn push(&mut self, object: Object<'a>) -> Result<u32, AllocError>
         requires { is_object_below (length self.old.objects.items) object ≡ true }
         ensures objects { OnOk result

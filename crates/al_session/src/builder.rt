@@ -20,9 +20,10 @@ use std::marker::Model;
 
 /// Builds the session of a folder from its files.
 ///
-/// Each file is read when it is put, and checked once, when the session is built. So it doesn't matter whether a file
-/// is put before or after those it calls, whereas a session rechecks the callers of each file that is put. As for a
-/// session, contracts see the folder and the linter's two counts.
+/// Each file is read when it is put, and checked once, when the session is built. So it doesn't
+/// matter whether a file is put before or after those it calls, whereas a session rechecks the
+/// callers of each file that is put. As for a session, contracts see the folder and the linter's
+/// two counts.
 #[derive(Drop)]
 pub struct SessionBuilder<L: Lint> {
     lint: L,
@@ -42,8 +43,8 @@ impl<L: Lint> Model for SessionBuilder<L> {
 }
 
 impl<L: Lint> SessionBuilder<L> {
-    /// A builder without files. Doesn't allocate; later calls allocate from `alloc`. Paths whose hashes are equal can be found by who
-    /// knows this program: see `seeded`.
+    /// A builder without files. Doesn't allocate; later calls allocate from `alloc`. Paths whose
+    /// hashes are equal can be found by who knows this program: see `seeded`.
     pub fn new(alloc: Global, lint: L) -> SessionBuilder<L>
         ensures folder { result.folder ≡ [] }
         ensures checks { result.checks ≡ L.checks_of lint }
@@ -52,7 +53,8 @@ impl<L: Lint> SessionBuilder<L> {
         SessionBuilder::seeded(alloc, lint, Seed::fixed())
     }
 
-    /// A builder without files whose hashes of paths start with this seed: a random one if a stranger names the files.
+    /// A builder without files whose hashes of paths start with this seed: a random one if a
+    /// stranger names the files.
     pub fn seeded(alloc: Global, lint: L, seed: Seed) -> SessionBuilder<L>
         ensures folder { result.folder ≡ [] }
         ensures checks { result.checks ≡ L.checks_of lint }

@@ -227,7 +227,8 @@ fn types_stand_for_others(rt: HostRuntime) {
     assert!(rt; assignable(&Ty::Bool, &Ty::String) && !assignable(&Ty::String, &Ty::Number));
 }
 
-/// A place where `github`, an object without fields, is the only context, and no special function is available.
+/// A place where `github`, an object without fields, is the only context, and no special function
+/// is available.
 fn context_types(alloc: Global) -> ContextTypes {
     ContextTypes {
         github: Ty::Object {

@@ -1,5 +1,6 @@
-//! Calls public functions of the nine public crates, each by its name and with its parameters in order. Depends on these crates
-//! alone. The modules `example_*` begin with the examples of the crates' first pages.
+//! Calls public functions of the nine public crates, each by its name and with its parameters in
+//! order. Depends on these crates alone. The modules `example_*` begin with the examples of the
+//! crates' first pages.
 #![tactic(auto)]
 
 #[cfg(test)]

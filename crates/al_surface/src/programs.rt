@@ -158,7 +158,8 @@ fn is_reported(alloc: Global, files: &[(Path, Vec<u8>)], wanted: &[u8]) -> bool 
     }
 }
 
-/// Whether the files of the folder are its only workflow and the action that this calls, and their report is this one.
+/// Whether the files of the folder are its only workflow and the action that this calls, and their
+/// report is this one.
 fn gathers<R: Files + RandomSource + AllocGlobal + Clone + Drop>(rt: &R, wanted: &[u8]) -> bool {
     let words = Words {
         oneline: true,

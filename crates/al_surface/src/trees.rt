@@ -1,4 +1,5 @@
-//! `al_tree` and `al_rules`: workflows and actions, and the faults of their keys and those that rules find.
+//! `al_tree` and `al_rules`: workflows and actions, and the faults of their keys and those that
+//! rules find.
 
 use al_rules::rules;
 use al_text::{Code, Fault, KeyCode, RuleCode, fault_list};

@@ -17,7 +17,8 @@ use std::test::Fail;
 // A folder's files, by their paths and bytes.
 type Files = &'static [(&'static str, &'static [u8])];
 
-// A disk in memory that records the paths it is asked for. A file with the content `outside` stands for a link out of the folder.
+// A disk in memory that records the paths it is asked for. A file with the content `outside` stands
+// for a link out of the folder.
 #[derive(Drop)]
 struct Held {
     files: Files,
@@ -56,8 +57,8 @@ fn entry_of(alloc: Global, bytes: &[u8]) -> Result<Entry, DiskError>
     Ok(Entry::File(Vec::from_slice(alloc, &bytes[..most])?))
 }
 
-// A workflow that calls two actions, the second of which calls itself and an action beside the first. The first action is
-// outside the folder, and so is a workflow that a job calls.
+// A workflow that calls two actions, the second of which calls itself and an action beside the
+// first. The first action is outside the folder, and so is a workflow that a job calls.
 static FOLDER: [(&str, &[u8]); 6] = [
     (
         ".github/workflows/a.yml",
@@ -80,7 +81,8 @@ fn folder() -> Files {
     &FOLDER
 }
 
-// First the workflows, then, one after another, the first candidate in order of path that hasn't been tried.
+// First the workflows, then, one after another, the first candidate in order of path that hasn't
+// been tried.
 static READS: [&str; 8] = [
     ".github/workflows/a.yml",
     ".github/workflows/b.yml",
@@ -153,7 +155,8 @@ fn named<'a>(alloc: Global, files: &[&'a str]) -> Result<Words<'a>, AllocError> 
     })
 }
 
-// Whether the files at these paths were taken, and none was checked: the session built from them checks each file once.
+// Whether the files at these paths were taken, and none was checked: the session built from them
+// checks each file once.
 fn are_taken(gathered: Gathered, paths: &[&str]) -> Result<bool, AllocError> {
     for path in paths {
         if gathered.files.bytes(path).is_none() {

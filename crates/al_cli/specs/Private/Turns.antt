@@ -52,7 +52,8 @@ calls_at files number = calls_of_entry (slice_get files number)
 abbrev pub AreAmong : List (List ℕ) → List (String Global) → Type 0
 AreAmong paths texts = AllByRecursion (λ text. is_among (string_bytes text) paths ≡ true) texts
 
--- The files after the first ones are each called by a file before them, and each pending text is a candidate of a call of these files.
+-- The files after the first ones are each called by a file before them, and each pending text is a
+-- candidate of a call of these files.
 pub record IsCalling (first : List (List ℕ × List ℕ)) (files : List (List ℕ × List ℕ)) (texts : List (String Global)) : Type 0 where
   pub after : List (List ℕ × List ℕ)
   pub all : files ≡ first ++ after
