@@ -1,7 +1,7 @@
 """Checks what the public crates say of themselves: public_docs.py TOP.
 
 Each public item of the nine crates has a comment, fields and variants too; so do those of types that their signatures name and no public
-crate does. A function that returns a `Result` says under `# Errors` when it fails, and one with a `requires` under `# Requires` what it
+crate does, which are in signatures of what is public for the crates above alone. A function that returns a `Result` says under `# Errors` when it fails, and one with a `requires` under `# Requires` what it
 asks. Each item is on the page that tools/api_pages.py makes of its crate, with all its clauses. docs/LIBRARY.md has a row for each crate,
 and lists what is public for the crates above alone: items that exist, among them all that do nothing at run time. Prints a line for each.
 """
@@ -44,6 +44,14 @@ def uncommented(top, items):
         yield from (f"{item.file.relative_to(top)}:{item.line} {name} {it}" for it in lacks(item))
 
 
+def unnamed(top, hidden):
+    """The types that a caller needs and can't name: those in signatures of what is public for others too."""
+    inner = {f"{crate}::{name}" for crate, names in inner_items(top).items() for name in names}
+    for item, needed in hidden:
+        yield from (f"{it} needs {item.name}, which no public crate names" for it in needed
+                    if it not in inner and it.rpartition("::")[0] not in inner)
+
+
 def missing_on_page(page, items):
     """The items that a page doesn't have, or without their clauses."""
     for name, item in items:
@@ -83,8 +91,9 @@ def main(folder):
     for crate in PUBLIC:
         items = items_of(named[crate])
         report(f"comments-of-{crate}", "-", list(uncommented(top, items)) if items else ["it has no items"])
-    hidden = [pair for item, _ in hidden_types(library, named) for pair in item.with_parts()]
-    report("comments-of-types-in-signatures", "-", list(uncommented(top, hidden)))
+    hidden = hidden_types(library, named)
+    report("comments-of-types-in-signatures", "-", list(uncommented(top, [pair for item, _ in hidden for pair in item.with_parts()])))
+    report("types-that-no-public-crate-names", "-", list(unnamed(top, hidden)))
     pages, wrong = made_pages(top)
     report("api-pages", "-", wrong)
     for crate in PUBLIC:
