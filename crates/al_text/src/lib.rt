@@ -43,10 +43,10 @@ mod wordings;
 mod examples;
 
 pub use al_base::{
-    Args, CallCode, Caller, Code, ExpressionCode, Fault, FaultSink, Input, KeyCode, Lines, Location,
-    NamePositions, Output, Path, PathFault, RuleCode, Span, Stop, YamlCode, add_copies, fault_list,
-    fault_lists, first_control, is_char_start, is_same_name, limits, location_of, path_fault,
-    position, printable, rows,
+    Args, CallCode, Caller, Code, ExpressionCode, Fault, FaultSink, Input, KeyCode, Lines,
+    Location, NamePositions, Output, Path, PathFault, RuleCode, Span, Stop, YamlCode, add_copies,
+    fault_list, fault_lists, first_control, is_char_start, is_same_name, limits, location_of,
+    path_fault, position, printable, rows,
 };
 pub use examples::snippet_rows;
 pub use printing::{WriteFault, write_fault, write_fault_at, write_faults};
