@@ -16,7 +16,7 @@ ghost use Rattle.al_check.specs.Calling.{shown_by};
 ghost use Rattle.al_tree.specs.declared.files.FileKind.{FileKind};
 ghost use Rattle.al_check.specs.Reading.{IsRead};
 
-use crate::printing::with_printed_args;
+use crate::printed_args::with_printed_args;
 use al_base::{Code, Fault, FaultSink, add_copies, fault_list};
 use al_check_calls::{Calling, faults_with_answers};
 use al_check_interfaces::{FolderCall, Interface, calls_in, folder_calls, interface_of};
