@@ -1,4 +1,3 @@
-use Rattle.std.proofs.Common.{◌∙◌}
 use Rattle.al_tree.specs.Kinds.{file_kind}
 use Rattle.al_check.proofs.lint.ActionsLint.read.Goals as goal
 
