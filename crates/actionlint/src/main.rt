@@ -2,7 +2,7 @@
 #![tactic(auto)]
 
 use al_base::{Input, Output, Stop};
-use al_cli::{Ending, SystemDisk, WaitingOutput, run, say_why};
+use al_cli::{Ending, SystemDisk, WaitingInput, WaitingOutput, run, say_why};
 use std::io::BufWriter;
 use std::process::ExitCode;
 use std::{env, io};
@@ -27,7 +27,7 @@ fn run_here(rt: &HostRuntime) -> Ending {
         rt.alloc(),
         &arguments,
         &mut SystemDisk::new(rt),
-        &mut Input::new(rt.stdin()),
+        &mut Input::new(WaitingInput::new(rt.stdin(), rt)),
         &mut Output::new(buffer),
         &mut rt.stderr(),
     )

@@ -34,8 +34,8 @@ pub type Loaded = SessionBuilder<Actions>;
 pub struct Gathered {
     /// The files, read but not yet checked.
     pub files: Loaded,
-    /// The paths at which links lead out of the folder, in the order in which they were tried, as a
-    /// line of standard error has them, with a `?` for each control character.
+    /// The paths at which links point outside the folder, in the order in which they were tried,
+    /// with a `?` for each control character.
     pub outside: Vec<String>,
 }
 
@@ -66,17 +66,21 @@ impl<T: Drop> From<AllocFailed<T>> for Unread {
     }
 }
 
-/// The files that a run without a script lints, each with its path and its bytes: those that the
-/// words name, or else all workflows of the folder in order of path; and then, one after another,
-/// each file that those before it call and that is there. Of what the folder lists only regular
-/// files are taken, with links followed; anything else of a name can't be read. A listed or called
-/// file whose symbolic links point outside the folder is skipped, and can't be read where the words
-/// name it. Each path is in the list once, and [`lint_all`](crate::lint_all) refuses none of the
-/// files; the folder that they make there is the one that [`load`] answers for this disk.
+/// The files that a run without a script lints, each with its path and its bytes.
+///
+/// First come those that the command line names, in its order, or without any the workflows of the
+/// folder in byte order of their paths; then, one after another, each file that those before it
+/// call and that is there. Each path is in the list once. Only regular files are taken, with links
+/// followed. A listed or called file whose symbolic links point outside the folder is skipped, and
+/// can't be read if the command line names it.
+///
+/// [`lint_all`](crate::lint_all) accepts each of the files; the folder that they make there is the
+/// one of [`load`]. The contract says how the files follow from one another; that they and their
+/// bytes are those of the disk is only tested.
 ///
 /// # Errors
 ///
-/// [`Unread`], for the first file that can't be read or is refused, or where memory ran out. A path
+/// [`Unread`], for the first file that can't be read or is refused, or if memory runs out. A path
 /// is refused before it is read, and of a file at most 1,048,577 bytes are asked for.
 #[tactic(auto, using(crate::proofs::Turns::all_small))]
 pub fn gather<R: Files + RandomSource + AllocGlobal + Clone + Drop>(
@@ -95,8 +99,8 @@ pub fn gather<R: Files + RandomSource + AllocGlobal + Clone + Drop>(
     Ok(gathering.files.into_list()?)
 }
 
-/// The files of a disk that such a run lints, read and not checked yet, and the paths that were
-/// skipped.
+/// The files of a disk that such a run lints, as a builder that has read them and checked none, and
+/// the paths that were skipped.
 ///
 /// # Errors
 ///
