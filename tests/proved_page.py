@@ -1,12 +1,12 @@
 """Compares docs/PROVED.md with the crates, and README.md's table with it: proved_page.py TOP.
 
 Each clause in the table of promises belongs to the function that the table names, and README.md's table has exactly the numbered promises.
-Each crate of crates.txt that the program depends on, `al_laws` and `toy` have rows in the table of crates; a row is about a public item of its crate,
-and the clauses in brackets after it are its own; a definition's file that a row names exists. If a clause is a record, its fields count as
-clauses. The table of tests names files and functions that exist. What is trusted is whole: the C functions that `prebuilt/actionlint`
-calls, the foreign crates in it, whose licences are in LICENSES, the libraries of crates.txt, and each `unsafe` block of the crates, none of
-which has an axiom or a foreign function. If the kit's `rt` is on the PATH, the trusted logic is the one with which that kit proves. Prints
-what isn't so.
+Each crate of crates.txt that the program depends on, `al_laws` and `toy` have rows in the table of crates; a row is about a public item of
+its crate, and the clauses in brackets after it are its own; a definition's file that a row names exists. If a clause is a record, its
+fields count as clauses. The table of tests names files and functions that exist. What is trusted is whole: the C functions that
+`prebuilt/actionlint` calls, the foreign crates in it, whose licences are in LICENSES, the libraries of crates.txt, and each `unsafe` block
+of the crates, none of which has an axiom or a foreign function. If the kit's `rt` is on the PATH, the trusted logic is the one with which
+that kit proves. Prints what isn't so.
 """
 
 import pathlib
