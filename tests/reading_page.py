@@ -85,6 +85,11 @@ THEOREMS = (
         Contracts("al_types", "law.rt", ("pub fn objects_fuse", "pub fn types_fuse")),
         Contracts("al_graph", "laws.rt", ("pub fn walk_laws",)),
     )),
+    Theorem("B", "2", "laws: that the bounds of definitions are enough", (
+        Contracts("al_laws", "documents.rt", ("pub fn document_bound",)),
+        Contracts("al_laws", "expressions.rt", ("pub fn expression_bounds",)),
+        Contracts("al_laws", "walks.rt", ("pub fn walk_bound",)),
+    )),
     Theorem("R", "", "library: a scalar, and the tree of a file's bytes, or the one fault", (
         Contracts("al_scalar", "reader.rt", ("pub fn read_scalar",)),
         Contracts("al_yaml", "document.rt", ("pub fn read_yaml",)),
