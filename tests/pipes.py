@@ -47,9 +47,22 @@ def is_silent(program):
     return not select.select([program.stdout], [], [], 0.05)[0]
 
 
-def talk(name, ending, last, wanted):
+def start(blocking):
+    """Starts the program, with pipes whose ends are blocking for it or not, and returns it with the end of its input."""
+    given, sending = os.pipe()
+    taking, taken = os.pipe()
+    for end in (given, taken):
+        os.set_blocking(end, blocking)
+    program = subprocess.Popen([sys.argv[1], *SCRIPT], stdin=given, stdout=taken, stderr=subprocess.PIPE, bufsize=0)
+    os.close(given)
+    os.close(taken)
+    program.stdin, program.stdout = open(sending, "wb", buffering=0), open(taking, "rb", buffering=0)
+    return program
+
+
+def talk(name, ending, last, wanted, blocking=True):
     """Sends all commands, each after the reply to the one before, then a last piece of input, and compares."""
-    program = subprocess.Popen([sys.argv[1], *SCRIPT], stdin=subprocess.PIPE, stdout=subprocess.PIPE, stderr=subprocess.PIPE, bufsize=0)
+    program = start(blocking)
     wrong = []
     try:
         for pieces, reply in TALK:
@@ -69,6 +82,8 @@ def talk(name, ending, last, wanted):
         ended = program.wait(SECONDS)
         if (rest, complaint, ended) != (last, b"", wanted):
             wrong.append(f"at the end came {rest!r}, {complaint!r} and status {ended}")
+    except BrokenPipeError:
+        wrong.append(f"it stopped reading, with {program.stderr.read()!r}")
     finally:
         program.kill()
         program.wait()
@@ -81,6 +96,8 @@ def main():
         return 2
     talk("replies-before-the-end", b"", b"", 0)
     talk("replies-before-a-bad-command", b"repo\n", b"bad command\n", 2)
+    talk("replies-through-non-blocking-pipes", b"", b"", 0, blocking=False)
+    talk("a-bad-command-through-non-blocking-pipes", b"repo\n", b"bad command\n", 2, blocking=False)
     return exit_status()
 
 

@@ -46,8 +46,14 @@ def words(place):
         "short-help": ["-h"],
         "version": ["--version"],
         "root-twice": ["--root", "a", "--root", "b"],
+        "help-before-an-unknown-option": ["--help", "--bogus"],
+        "help-after-an-unknown-option": ["--bogus", "--help"],
+        "help-twice": ["--help", "--help"],
     }.items():
         place.case(name, 2, no, said, given)
+    place.case("help-beside-a-script-with-a-file", 2, no, beside, ["--help", "--session", "x"])
+    hints = lambda err: err.endswith(b"\n\nUsage: actionlint [OPTIONS] [FILE]...\n\nFor more information, try '--help'.\n")
+    place.case("unknown-option-and-how-to-get-help", 2, no, hints, ["--bogus"])
     facts = [b"--oneline", b"--root", b"[default: .]", b"--session", b"put PATH LENGTH", b"delete PATH", b"report", b"Exit status"]
     facts += [b"Examples", b"\n  cannot read PATH\n", b'\n      actionlint --root "$(git rev-parse --show-toplevel)"\n']
     facts += [b"\n  PATH: refused E%d\n" % number for number in range(1, 5)]
@@ -130,6 +136,10 @@ def control_characters(place):
     place.case("control-characters-of-a-listed-file", 3, no, refused(f"{WORKFLOWS}/a?]0;b?.yml", 1))
     given = f"a{controls}\u00e9/action.yml"
     place.case("control-characters-of-the-words", 3, no, refused(f"a{'?' * 32}\u00e9/action.yml", 1), [given])
+    others = controls.replace("\n", "")
+    shown = lambda err: b"'--a" + b"?" * 31 + b"\xc3\xa9'" in err and not any(it.encode() in err for it in others)
+    place.case("control-characters-of-an-unknown-option", 2, no, shown, [f"--a{others}\u00e9"])
+    place.case("control-characters-of-a-value", 2, no, shown, [f"--oneline=--a{others}\u00e9"])
 
 
 def bind_socket(path):

@@ -1,12 +1,12 @@
 """Compares docs/PROVED.md with the crates, and README.md's table with it: proved_page.py TOP.
 
 Each clause in the table of promises belongs to the function that the table names, and README.md's table has exactly the numbered promises.
-Each crate of crates.txt that the program depends on, and `toy`, has rows in the table of crates; a row is about a public item of its crate,
-and the clauses in brackets after it are its own; a definition's file that a row names exists. If a clause is a record, its fields count as
-clauses. The table of tests names files and functions that exist. What is trusted is whole: the C functions that `prebuilt/actionlint`
-calls, the foreign crates in it, whose licences are in LICENSES, the libraries of crates.txt, and each `unsafe` block of the crates, none of
-which has an axiom or a foreign function. If the kit's `rt` is on the PATH, the trusted logic is the one with which that kit proves. Prints
-what isn't so.
+Each crate of crates.txt that the program depends on, `al_laws` and `toy` have rows in the table of crates; a row is about a public item of
+its crate, and the clauses in brackets after it are its own; a definition's file that a row names exists. If a clause is a record, its
+fields count as clauses. The table of tests names files and functions that exist. What is trusted is whole: the C functions that
+`prebuilt/actionlint` calls, the foreign crates in it, whose licences are in LICENSES, the libraries of crates.txt, and each `unsafe` block
+of the crates, none of which has an axiom or a foreign function. If the kit's `rt` is on the PATH, the trusted logic is the one with which
+that kit proves. Prints what isn't so.
 """
 
 import pathlib
@@ -22,7 +22,7 @@ ROW = re.compile(r"^\| (\d?) ?\| (.*) \| (.*) \|$", re.MULTILINE)
 EXTRACT = re.compile(r"^\| (\d) \| (.*) \|$", re.MULTILINE)
 OF_CRATE = re.compile(r"^\| (?:`(\w+)`)? ?\| (`.*?) \| (.*) \|$", re.MULTILINE)
 ITEM = re.compile(r"^\s*(?:pub )?(?:fn|struct|enum|trait|type) (\w+)", re.MULTILINE)
-FUNCTION = re.compile(r"^( *)pub fn (\w+)(.*?)^\1(?:\{|$)", re.DOTALL | re.MULTILINE)
+FUNCTION = re.compile(r"^( *)pub fn (\w+)(.*?)^\1(?:[{}]|$)", re.DOTALL | re.MULTILINE)
 LAWS = re.compile(r"^impl Lint for Actions \{(.*?)^\}", re.DOTALL | re.MULTILINE)
 CLAUSE = re.compile(r"\b(?:ensures|ghost) (\w+) (?:\{|=)")
 RECORD = re.compile(r"^pub record (\w+).*? where\n((?:  [^\n]*\n)+)", re.DOTALL | re.MULTILINE)
@@ -157,7 +157,7 @@ def differences(top):
     if not numbered or EXTRACT.findall(readme) != numbered:
         found.append("README.md has other promises than those with a number")
     built, listed = crates_in((top / "crates.txt").read_text(encoding="utf-8")), rows_of(page)
-    wanted = {it for it in all_below(built, PROGRAM) if it != PROGRAM} | {"toy"}
+    wanted = {it for it in all_below(built, PROGRAM) if it != PROGRAM} | {"al_laws", "toy"}
     found += [f"no row of {it}" for it in sorted(wanted - set(listed))]
     found += [f"no crate {it}" for it in sorted(set(listed) - set(built))]
     program = (top / "prebuilt/actionlint").read_bytes()

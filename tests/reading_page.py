@@ -57,6 +57,10 @@ class Theorem(NamedTuple):
 THEOREMS = (
     Theorem("W", "2", "what the arguments ask for", (Contracts("al_cli_words", "words.rt", ("pub fn parse_words",)),)),
     Theorem("D", "4", "the files that a run takes", (Contracts("al_cli", "gathering.rt", ("pub fn load",)),)),
+    Theorem("A", "2 4 6", "a whole run, from its arguments to how it ends, and its exit status", (
+        Contracts("al_cli", "program.rt", ("pub fn run",)),
+        Contracts("al_cli", "ending.rt", ("pub fn status",)),
+    )),
     Theorem("F", "2 4 6", "the report and status of these files", (
         Contracts("al_session", "builder.rt", ("pub fn put", "pub fn build")),
         Contracts("al_cli", "linted.rt", ("pub fn write_report", "pub fn lint_all")),
@@ -80,6 +84,11 @@ THEOREMS = (
         Contracts("al_expr_grammar", "law.rt", ("pub fn grammar",)),
         Contracts("al_types", "law.rt", ("pub fn objects_fuse", "pub fn types_fuse")),
         Contracts("al_graph", "laws.rt", ("pub fn walk_laws",)),
+    )),
+    Theorem("B", "2", "laws: that the bounds of definitions are enough", (
+        Contracts("al_laws", "documents.rt", ("pub fn document_bound",)),
+        Contracts("al_laws", "expressions.rt", ("pub fn expression_bounds",)),
+        Contracts("al_laws", "walks.rt", ("pub fn walk_bound",)),
     )),
     Theorem("R", "", "library: a scalar, and the tree of a file's bytes, or the one fault", (
         Contracts("al_scalar", "reader.rt", ("pub fn read_scalar",)),

@@ -95,6 +95,8 @@ PARTS = (
     cases("faults", LINTER, "faults.cases", "--session", "--oneline"),
     test("clean_examples", "."),
     test("pages", "."),
+    test("public_docs", "."),
+    test("dependent", "."),
     *(test(name, LINTER) for name in ("program", "system_limits", "hostile", "edits", "pipes", "command_line_page", "page_commands",
                                       "report_picture", "own_repository", "release", "packages")),
     test("facts", LINTER, "{al_facts}"),

@@ -57,8 +57,11 @@ impl Args {
         }
     }
 
-    /// Copies of two texts, in the order in which the message names them. Fails with `AllocError`
-    /// when out of memory.
+    /// Copies of two texts, in the order in which the message names them.
+    ///
+    /// # Errors
+    ///
+    /// `AllocError` if memory runs out.
     pub fn two(alloc: Global, first: &str, second: &str) -> Result<Args, AllocError>
         ensures { IfOk result (λ args. args ≡ first.now ∷ second.now ∷ []) }
     {
@@ -70,8 +73,11 @@ impl Args {
         })
     }
 
-    /// A copy of one text. Bytes of it that aren't UTF-8 become U+FFFD. Fails with `AllocError`
-    /// when out of memory.
+    /// A copy of one text. Bytes of it that aren't UTF-8 become U+FFFD.
+    ///
+    /// # Errors
+    ///
+    /// `AllocError` if memory runs out.
     pub fn one_lossy(alloc: Global, text: &[u8]) -> Result<Args, AllocError>
         ensures { IfOk result (λ args. args ≡ utf8_lossy text.now ∷ []) }
     {
@@ -79,6 +85,10 @@ impl Args {
     }
 
     /// Like [`Args::two`], but bytes of the texts that aren't UTF-8 become U+FFFD.
+    ///
+    /// # Errors
+    ///
+    /// `AllocError` if memory runs out.
     pub fn two_lossy(alloc: Global, first: &[u8], second: &[u8]) -> Result<Args, AllocError>
         ensures { IfOk result (λ args. args ≡ utf8_lossy first.now ∷ utf8_lossy second.now ∷ []) }
     {
@@ -114,7 +124,11 @@ impl Args {
         }
     }
 
-    /// A copy, with memory of its own. Fails with `AllocError` when out of memory.
+    /// A copy, with memory of its own.
+    ///
+    /// # Errors
+    ///
+    /// `AllocError` if memory runs out.
     pub fn copy(&self, alloc: Global) -> Result<Args, AllocError>
         ensures { IfOk result (λ args. args ≡ self.now) }
     {
@@ -126,7 +140,8 @@ impl Args {
         Ok(Args { texts })
     }
 
-    /// `true` only if each text is printed unchanged; `false` promises nothing. Doesn't allocate.
+    /// `true` only if each text is printed unchanged, that is, has no control byte; `false`
+    /// promises nothing. Doesn't allocate.
     #[tactic(auto, using(crate::proofs::PrintableTexts::printable_unchanged, crate::proofs::TwoTexts::parts_printable))]
     pub fn is_plain(&self) -> bool
         ensures { IsTrue result → map printable self.now ≡ self.now }
@@ -137,8 +152,12 @@ impl Args {
         }
     }
 
-    /// The texts as they are printed, with a `?` for each control byte. Fails with `AllocError`
-    /// when out of memory.
+    /// The texts as they are printed, with a `?` for each control byte (0 to 31, and 127). These
+    /// texts are unchanged.
+    ///
+    /// # Errors
+    ///
+    /// `AllocError` if memory runs out.
     #[tactic(auto, using(crate::proofs::PrintableTexts::printable_boundary, crate::proofs::TwoTexts::parts_printed))]
     pub fn printable(&self, alloc: Global) -> Result<Args, AllocError>
         ensures { IfOk result (λ args. args ≡ map printable self.now) }

@@ -180,7 +180,9 @@ pub enum CallCode {
 /// Who calls. Between faults that are otherwise equal, a job's comes before a step's.
 #[derive(Clone, Copy, PartialEq, Eq, PartialOrd, Ord, Debug)]
 pub enum Caller {
+    /// A job, which calls a workflow.
     Job,
+    /// A step, which calls an action.
     Step,
 }
 
@@ -188,9 +190,14 @@ pub enum Caller {
 /// variants.
 #[derive(Clone, Copy, PartialEq, Eq, PartialOrd, Ord, Debug)]
 pub enum Code {
+    /// Y1 to Y18: the file isn't YAML, as far as it is read.
     Yaml(YamlCode),
+    /// K1 to K7: keys and values that GitHub's syntax doesn't allow.
     Key(KeyCode),
+    /// G1 to G22: a rule about a single file.
     Rule(RuleCode),
+    /// X1 to X20: a fault of an expression.
     Expression(ExpressionCode),
+    /// C1 to C9: a fault of a call, by a job or by a step.
     Call(CallCode, Caller),
 }

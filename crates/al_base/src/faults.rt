@@ -6,7 +6,9 @@ use crate::codes::Code;
 /// most `end`.
 #[derive(Clone, Copy, PartialEq, Eq, PartialOrd, Ord, Debug)]
 pub struct Span {
+    /// The offset of the first byte.
     pub start: u32,
+    /// The offset after the last byte.
     pub end: u32,
 }
 
@@ -16,7 +18,10 @@ pub struct Span {
 /// then their arguments, text by text and byte by byte.
 #[derive(Drop, PartialEq, Eq, PartialOrd, Ord)]
 pub struct Fault {
+    /// The bytes of the file that are wrong.
     pub span: Span,
+    /// What is wrong with them.
     pub code: Code,
+    /// The texts that the message names, in its order; how many there are depends on the code.
     pub args: Args,
 }

@@ -13,8 +13,8 @@ use std::marker::Model;
 /// A table of the byte offsets at which a file's lines begin, so that a position needs no walk from
 /// the file's start.
 ///
-/// It belongs to the bytes that it was made from: its methods take just these, and offsets of at
-/// most their number. Contracts see the list of offsets, in their order.
+/// It belongs to the bytes that it was made from: its methods take just these. Contracts see the
+/// list of offsets, in ascending order; the first is 0.
 #[derive(Drop)]
 pub struct Lines {
     starts: Vec<u32>,
@@ -29,8 +29,15 @@ impl Model for Lines {
 }
 
 impl Lines {
-    /// The table of a file's bytes, of which there are at most 1,048,576. Fails with `AllocError`
-    /// when out of memory.
+    /// The table of a file's bytes. Takes one pass over them.
+    ///
+    /// # Requires
+    ///
+    /// At most 1,048,576 bytes.
+    ///
+    /// # Errors
+    ///
+    /// `AllocError` if memory runs out.
     pub fn of(alloc: Global, bytes: &[u8]) -> Result<Lines, AllocError>
         requires { length bytes.now ≤ largest_file }
         ensures { IfOk result (λ lines. lines ≡ line_starts bytes.now) }
@@ -48,6 +55,11 @@ impl Lines {
 
     /// The line and the column of a byte offset, both from 1, as [`position`](crate::position)
     /// counts them. Doesn't allocate.
+    ///
+    /// # Requires
+    ///
+    /// The table was made from `bytes`, of which there are at most 1,048,576, and `offset` is at
+    /// most their number.
     pub fn position(&self, bytes: &[u8], offset: u32) -> (u32, u32)
         requires made { self.now ≡ line_starts bytes.now }
         requires within { offset ≤ length bytes.now }
@@ -59,7 +71,12 @@ impl Lines {
         (location.line, location.column)
     }
 
-    /// The location of a byte offset. Doesn't allocate.
+    /// The location of a byte offset. Takes time logarithmic in the number of lines, and linear in
+    /// the length of the line. Doesn't allocate.
+    ///
+    /// # Requires
+    ///
+    /// As for [`Lines::position`].
     pub fn location(&self, bytes: &[u8], offset: u32) -> Location
         requires made { self.now ≡ line_starts bytes.now }
         requires within { offset ≤ length bytes.now }
@@ -80,6 +97,10 @@ impl Lines {
 
     /// The location of a byte offset. If the offset `from`, whose location is `known`, is at or
     /// before it on the same line, the column is counted on from there. Doesn't allocate.
+    ///
+    /// # Requires
+    ///
+    /// As for [`Lines::position`]; and `known` is the location of `from` in these bytes.
     pub fn location_after(&self, bytes: &[u8], from: u32, known: Location, offset: u32) -> Location
         requires made { self.now ≡ line_starts bytes.now }
         requires within { offset ≤ length bytes.now }

@@ -18,7 +18,7 @@ pub fn fault_list(mut faults: Vec<Fault>) -> Vec<Fault>
     faults
 }
 
-/// The laws of lists of faults. Does nothing at run time.
+/// The laws of lists of faults, for proofs; does nothing at run time.
 ///
 /// The order of reports is total and tells different faults apart. A list of faults is sorted by
 /// it, has no fault twice, and has exactly the faults that it was made from, so it depends only on
@@ -31,8 +31,12 @@ pub fn fault_lists()
     ensures one { OneListForSameFaults }
 {}
 
-/// Appends copies of faults. Fails with `AllocError` when out of memory; the list then still begins
-/// with what it held.
+/// Appends copies of faults to a list.
+///
+/// # Errors
+///
+/// `AllocError` if memory runs out. The list then still begins with what it held, and may have some
+/// of the copies after that.
 pub fn add_copies(alloc: Global, faults: &[Fault], out: &mut Vec<Fault>) -> Result<(), AllocError>
     ensures all { OnOk result (out.new.items ≡ out.old.items ++ faults.now) }
     ensures begins { BeginsWith out.new.items out.old.items }

@@ -6,8 +6,11 @@ ghost use Rattle.al_base.specs.SortedTexts.{AreSorted};
 use super::sorted_texts::{Entry, places_by, position_by, sort_entries};
 use std::alloc::{AllocError, Global};
 
-/// A name in lower case: the same for names that differ only in ASCII case. Fails with `AllocError`
-/// when out of memory.
+/// A name with its ASCII letters in lower case: the same for names that differ only in ASCII case.
+///
+/// # Errors
+///
+/// `AllocError` if memory runs out.
 pub fn in_lower_case(alloc: Global, name: &[u8]) -> Result<Vec<u8>, AllocError>
     ensures { IfOk result (λ v. v.items ≡ lower_case name.now) }
 {
@@ -28,7 +31,11 @@ impl<'a> TextPositions<'a> {
     ghost use Rattle.std.specs.Prelude.{map};
     ghost use Rattle.al_base.specs.NamePlaces.{TellsFirsts, is_first_text, text_place, text_position};
 
-    /// The positions of these texts. Fails with `AllocError` when out of memory.
+    /// The positions of these texts.
+    ///
+    /// # Errors
+    ///
+    /// `AllocError` if memory runs out.
     pub fn of(alloc: Global, texts: &[&'a [u8]]) -> Result<TextPositions<'a>, AllocError>
         ensures position { IfOk result
             (λ p. text_position p ≡ text_place (map (λ t. t.now) texts.now)) }
@@ -44,14 +51,14 @@ impl<'a> TextPositions<'a> {
         Ok(TextPositions { entries, places })
     }
 
-    /// Whether no earlier position has the text at a position.
+    /// Whether no earlier position has the text at position `i`, from 0; `false` beyond the list.
     pub fn is_first(&self, i: usize) -> bool
         ensures { result ≡ is_first_text self.now i }
     {
         i < self.places.len() && self.places[i] == i
     }
 
-    /// Where a text first occurs.
+    /// The position from 0 at which a text first occurs; `None` if it isn't in the list.
     pub fn get(&self, text: &[u8]) -> Option<usize>
         ensures { result ≡ text_position self.now text.now }
     {
@@ -59,8 +66,8 @@ impl<'a> TextPositions<'a> {
     }
 }
 
-/// Where each name of a list first occurs, ignoring ASCII case. Building it and lookups take as
-/// long as those of `TextPositions`.
+/// Where each name of a list first occurs, ignoring ASCII case. Building it sorts the names; a
+/// lookup takes time logarithmic in their number.
 #[derive(Drop)]
 pub struct NamePositions {
     /// The names in lower case.
@@ -74,7 +81,11 @@ impl NamePositions {
     ghost use Rattle.std.specs.Prelude.{map};
     ghost use Rattle.al_base.specs.NamePlaces.{TellsFirsts, is_first_name, name_place, name_position};
 
-    /// The positions of these names. Fails with `AllocError` when out of memory.
+    /// The positions of these names.
+    ///
+    /// # Errors
+    ///
+    /// `AllocError` if memory runs out.
     pub fn of(alloc: Global, names: &[&[u8]]) -> Result<NamePositions, AllocError>
         ensures position { IfOk result
             (λ p. name_position p ≡ name_place (map (λ n. n.now) names.now)) }
@@ -90,14 +101,18 @@ impl NamePositions {
         Ok(NamePositions { entries, places })
     }
 
-    /// Whether no earlier position has the name at a position.
+    /// Whether no earlier position has the name at position `i`, from 0; `false` beyond the list.
     pub fn is_first(&self, i: usize) -> bool
         ensures { result ≡ is_first_name self.now i }
     {
         i < self.places.len() && self.places[i] == i
     }
 
-    /// Where a name first occurs. Fails with `AllocError` when out of memory.
+    /// The position from 0 at which a name first occurs; `None` if it isn't in the list.
+    ///
+    /// # Errors
+    ///
+    /// `AllocError` if memory runs out.
     pub fn get(&self, name: &[u8]) -> Result<Option<usize>, AllocError>
         ensures { IfOk result (λ i. i ≡ name_position self.now name.now) }
     {

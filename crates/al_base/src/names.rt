@@ -10,8 +10,8 @@ pub fn is_among(text: &[u8], others: &[&str]) -> bool
     others.iter().any(|other| text == other.as_bytes())
 }
 
-/// Whether two names or texts are equal, ignoring ASCII case. Most equal names are written alike,
-/// which takes less time to find.
+/// Whether two names or texts are equal, ignoring the case of ASCII letters; other bytes are
+/// compared exactly. Doesn't allocate.
 pub fn is_same_name(a: &[u8], b: &[u8]) -> bool
     ensures { result ≡ same_name a.now b.now }
 {

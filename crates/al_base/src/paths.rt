@@ -29,6 +29,7 @@ pub enum PathFault {
     /// P5: the text has more than 1,024 bytes.
     #[error("too long")]
     TooLong,
+    /// The text is a path, but memory ran out.
     #[error("out of memory")]
     Memory,
 }
@@ -41,7 +42,8 @@ impl From<AllocError> for PathFault {
     }
 }
 
-/// The path of a file of a folder: parts with single slashes between them. Contracts see its bytes.
+/// The path of a file of a folder: UTF-8, at most 1,024 bytes, with single slashes between its
+/// parts, and none of the faults P1 to P5 ([`PathFault`]). Contracts see its bytes.
 #[derive(Drop)]
 pub struct Path {
     text: String,
@@ -59,8 +61,12 @@ impl Model for Path {
 }
 
 impl Path {
-    /// The path with this text. Fails with the reason that [`path_fault`] gives if the text isn't a
-    /// path, and with `PathFault::Memory` if it is one, but memory runs out.
+    /// The path with a copy of this text.
+    ///
+    /// # Errors
+    ///
+    /// The first reason by [`path_fault`] if the text isn't a path; [`PathFault::Memory`] if it is
+    /// one, but memory runs out.
     pub fn new(alloc: Global, text: &str) -> Result<Path, PathFault>
         ensures path { IfOk result (λ path. path ≡ text.now) }
         ensures accepted { OnOk result (path_fault_of text.now ≡ None) }
@@ -74,7 +80,7 @@ impl Path {
         }
     }
 
-    /// Its text.
+    /// The path's text. Doesn't allocate.
     pub fn as_str(&self) -> &str
         ensures text { result.now ≡ self.now }
         ensures valid { path_fault_of result.now ≡ None }

@@ -7,16 +7,23 @@ ghost use Rattle.al_base.specs.Positions.{line_at, column_at, ends_break, begins
 /// begins.
 #[derive(Clone, Copy)]
 pub struct Location {
+    /// The line, from 1.
     pub line: u32,
+    /// The column in characters, from 1.
     pub column: u32,
+    /// The byte offset at which the line begins.
     pub start: u32,
 }
 
 /// The line and the column of a byte offset, both from 1.
 ///
-/// The line is 1 plus the number of breaks (LF, CRLF or CR) that end at or before the offset; the
-/// column is 1 plus the number of characters of that line before it. Doesn't allocate. The offset
-/// is at most the number of bytes.
+/// The line is 1 plus the number of line breaks (LF, CRLF or CR; YAML 1.2.2, 5.4) that end at or
+/// before the offset; the column is 1 plus the number of characters of that line before it. Walks
+/// over the bytes from the start of the file up to the offset. Doesn't allocate.
+///
+/// # Requires
+///
+/// At most 1,048,576 bytes, and an offset of at most their number.
 pub fn position(bytes: &[u8], offset: u32) -> (u32, u32)
     requires within { offset ≤ length bytes.now }
     requires small { length bytes.now ≤ largest_file }
@@ -27,7 +34,11 @@ pub fn position(bytes: &[u8], offset: u32) -> (u32, u32)
     (location.line, location.column)
 }
 
-/// The location of a byte offset, which is at most the number of bytes. Doesn't allocate.
+/// The location of a byte offset, which [`position`] counts. Doesn't allocate.
+///
+/// # Requires
+///
+/// At most 1,048,576 bytes, and an offset of at most their number.
 pub fn location_of(bytes: &[u8], offset: u32) -> Location
     requires within { offset ≤ length bytes.now }
     requires small { length bytes.now ≤ largest_file }
@@ -67,7 +78,7 @@ pub(crate) fn is_break_end(bytes: &[u8], at: usize) -> bool
     }
 }
 
-/// Whether a byte of UTF-8 begins a character.
+/// Whether a byte of UTF-8 begins a character: any but 0x80 to 0xBF.
 pub fn is_char_start(byte: u8) -> bool
     ensures { result ≡ begins_char byte }
 {

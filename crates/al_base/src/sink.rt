@@ -13,8 +13,8 @@ use std::marker::Model;
 /// The faults found so far, in the order in which they were found, with the allocator for more.
 /// Contracts see the list.
 ///
-/// Each report fails with `AllocError` when out of memory. What the sink holds then is unspecified:
-/// its maker drops it, and the list that the faults were meant for is unchanged.
+/// A report that fails leaves the sink with an unspecified content: its maker drops it, and the
+/// list that the faults were meant for is unchanged.
 #[derive(Drop)]
 pub struct FaultSink {
     alloc: Global,
@@ -47,6 +47,10 @@ impl FaultSink {
     }
 
     /// Adds a fault.
+    ///
+    /// # Errors
+    ///
+    /// `AllocError` if memory runs out.
     pub fn push(&mut self, fault: Fault) -> Result<(), AllocError>
         ensures { OnOk result (self.new ≡ self.old ++ fault ∷ []) }
     {
@@ -55,6 +59,10 @@ impl FaultSink {
     }
 
     /// Adds a fault whose message names these texts.
+    ///
+    /// # Errors
+    ///
+    /// `AllocError` if memory runs out.
     pub fn report(&mut self, span: Span, code: Code, args: Args) -> Result<(), AllocError>
         ensures { OnOk result (self.new ≡ self.old ++ fault_from span code args ∷ []) }
     {
@@ -62,6 +70,10 @@ impl FaultSink {
     }
 
     /// Adds a fault whose message names no text.
+    ///
+    /// # Errors
+    ///
+    /// `AllocError` if memory runs out.
     pub fn report_plain(&mut self, span: Span, code: Code) -> Result<(), AllocError>
         ensures { OnOk result (self.new ≡ self.old ++ fault_from span code [] ∷ []) }
     {
@@ -69,6 +81,10 @@ impl FaultSink {
     }
 
     /// Adds a fault whose message names one text. Bytes of it that aren't UTF-8 become U+FFFD.
+    ///
+    /// # Errors
+    ///
+    /// `AllocError` if memory runs out.
     pub fn report_text(&mut self, span: Span, code: Code, text: &[u8]) -> Result<(), AllocError>
         ensures { OnOk result
             (self.new ≡ self.old ++ fault_from span code (utf8_lossy text.now ∷ []) ∷ []) }
@@ -79,6 +95,10 @@ impl FaultSink {
 
     /// Adds a fault whose message names two texts, in this order. Bytes of them that aren't UTF-8
     /// become U+FFFD.
+    ///
+    /// # Errors
+    ///
+    /// `AllocError` if memory runs out.
     pub fn report_two(
         &mut self,
         span: Span,
@@ -102,8 +122,11 @@ impl FaultSink {
         self.faults
     }
 
-    /// Appends the faults to a list. Fails with `AllocError` when out of memory; the list is then
-    /// unchanged.
+    /// Appends the faults to a list.
+    ///
+    /// # Errors
+    ///
+    /// `AllocError` if memory runs out; the list is then unchanged.
     pub fn append_to(mut self, out: &mut Vec<Fault>) -> Result<(), AllocError>
         ensures { out.new.items ≡ (if is_ok result then out.old.items ++ self else out.old.items) }
     {

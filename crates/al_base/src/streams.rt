@@ -11,7 +11,7 @@ use super::stops::Stop;
 use std::io::{Read, Write};
 
 /// A reader that counts its reads and those that failed, and remembers the length of the largest
-/// buffer. Both counts saturate.
+/// buffer that it was given. Both counts saturate at 2^64 - 1.
 #[derive(Drop)]
 pub struct Input<R> {
     inner: R,
@@ -20,8 +20,8 @@ pub struct Input<R> {
     largest_ask: usize,
 }
 
-/// A writer that counts, saturating, the writes that failed: those that returned an error, and
-/// those that took none of some bytes.
+/// A writer that counts the writes that failed: those that returned an error, and those that took
+/// none of some bytes. The count saturates at 2^64 - 1.
 #[derive(Drop)]
 pub struct Output<W> {
     inner: W,
@@ -29,7 +29,7 @@ pub struct Output<W> {
 }
 
 impl<R: Read> Input<R> {
-    /// Wraps a reader, with both counts and the length at 0.
+    /// Wraps a reader, with both counts and the length at 0. Reads nothing.
     pub fn new(inner: R) -> Input<R>
         ensures bytes { bytes_left R.remaining result ≡ R.remaining inner }
         ensures turns { turns_of result ≡ 0 }
@@ -65,9 +65,13 @@ impl<R: Read> Input<R> {
         self.largest_ask
     }
 
-    /// Makes one read, and returns how many bytes it gave: 0 at the end, or if the buffer is empty.
-    /// Fails with `Stop::ReadFault` if the inner read returns an error, interruption by a signal
-    /// included.
+    /// Makes one read of at most the buffer's length, and returns how many bytes it gave: 0 at the
+    /// end, or if the buffer is empty.
+    ///
+    /// # Errors
+    ///
+    /// [`Stop::ReadFault`] if the inner read returns an error, interruption by a signal included;
+    /// this counts as a failure.
     pub fn read(&mut self, buf: &mut [u8]) -> Result<usize, Stop>
         ensures bound { ReadsAtMost result buf.new }
         ensures bytes { ReadConsumes (bytes_left R.remaining self.old)
@@ -89,7 +93,7 @@ impl<R: Read> Input<R> {
 }
 
 impl<W: Write> Output<W> {
-    /// Wraps a writer, with the count at 0.
+    /// Wraps a writer, with the count at 0. Writes nothing.
     pub fn new(inner: W) -> Output<W>
         ensures bytes { bytes_written W.contents result ≡ W.contents inner }
         ensures failures { write_failures result ≡ 0 }
@@ -104,8 +108,11 @@ impl<W: Write> Output<W> {
         self.failures
     }
 
-    /// Writes all of the bytes. Fails with `Stop::WriteFault` if a write failed; a prefix of the
-    /// bytes has then been written.
+    /// Writes all of the bytes, in as many writes as the inner writer needs.
+    ///
+    /// # Errors
+    ///
+    /// [`Stop::WriteFault`] if a write failed; a prefix of the bytes has then been written.
     pub fn write_all(&mut self, bytes: &[u8]) -> Result<(), Stop>
         ensures { WritesOrFails W.contents self.old self.new result bytes.now }
     {
@@ -122,8 +129,11 @@ impl<W: Write> Output<W> {
         Ok(())
     }
 
-    /// Flushes the inner writer. Fails with `Stop::WriteFault` if that failed, which counts as a
-    /// failed write.
+    /// Flushes the inner writer.
+    ///
+    /// # Errors
+    ///
+    /// [`Stop::WriteFault`] if that failed, which counts as a failed write.
     pub fn flush(&mut self) -> Result<(), Stop>
         ensures bytes { Keeps (bytes_written W.contents self.old)
             (bytes_written W.contents self.new) }

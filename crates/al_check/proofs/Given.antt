@@ -95,7 +95,7 @@ faults_kept file kind bytes is = faults_in kind bytes file.tree file.calls.items
 pub calls_kept_of : (unit : Unit) (kind : FileKind) (bytes : List ℕ) → IsUnit unit kind bytes → HasCalls (calls_kept unit) kind bytes
 calls_kept_of (unit.Whole file) kind bytes is = record { targets = targets_kept file kind bytes is; sites = faults_kept file kind bytes is }
 calls_kept_of (unit.Brief brief) kind bytes is = is.calls
-calls_kept_of (unit.Clean interface) kind bytes is = is.1.calls
+calls_kept_of (unit.Checked checked) kind bytes is = is.calls
 
 -- a file that was read without a call of a file in the folder
 pub none_called : (file : ReadFile) (kind : FileKind) (bytes : List ℕ) → IsRead file kind bytes → length file.calls.items ≡ 0 → HasCalls [] kind bytes

@@ -7,6 +7,7 @@ use Rattle.al_check.specs.FileFaults.{file_faults}
 use Rattle.al_check.specs.Reading.{IsRead}
 use Rattle.al_check.specs.Sites.{file_sites}
 use Rattle.al_check.specs.declared.units.Brief.{Brief}
+use Rattle.al_check.specs.declared.units.Checked.{Checked}
 use Rattle.al_check.specs.declared.units.Unit.{Unit}
 use Rattle.al_check.specs.declared.units.Unit.TheVariants as unit
 
@@ -19,17 +20,19 @@ pub record IsBriefOf (brief : Brief) (kind : FileKind) (bytes : List ℕ) : Type
   pub interface : brief.interface ≡ file_interface kind bytes
   pub calls : HasCalls brief.calls.items kind bytes
 
--- a file of this kind with these bytes calls no file in the folder and has no faults
-pub record IsClean (kind : FileKind) (bytes : List ℕ) : Type 0 where
+-- these are the interface and the faults of a file of this kind with these bytes, and it calls no
+-- file in the folder
+pub record IsCheckedOf (checked : Checked) (kind : FileKind) (bytes : List ℕ) : Type 0 where
+  pub interface : checked.interface ≡ file_interface kind bytes
   pub calls : HasCalls [] kind bytes
-  pub faults : file_faults kind bytes [] ≡ []
+  pub faults : checked.faults.items ≡ file_faults kind bytes []
 
 abbrev pub IsUnit : Unit → FileKind → List ℕ → Type 0
 IsUnit (unit.Whole file) kind bytes = IsRead file kind bytes
 IsUnit (unit.Brief brief) kind bytes = IsBriefOf brief kind bytes
-IsUnit (unit.Clean interface) kind bytes = (interface ≡ file_interface kind bytes) × IsClean kind bytes
+IsUnit (unit.Checked checked) kind bytes = IsCheckedOf checked kind bytes
 
 abbrev pub calls_kept : Unit → List FolderCall
 calls_kept (unit.Whole file) = file.calls.items
 calls_kept (unit.Brief brief) = brief.calls.items
-calls_kept (unit.Clean interface) = []
+calls_kept (unit.Checked checked) = []

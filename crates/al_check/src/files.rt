@@ -16,7 +16,7 @@ ghost use Rattle.al_check.specs.Calling.{shown_by};
 ghost use Rattle.al_tree.specs.declared.files.FileKind.{FileKind};
 ghost use Rattle.al_check.specs.Reading.{IsRead};
 
-use crate::printing::with_printed_args;
+use crate::printed_args::with_printed_args;
 use al_base::{Code, Fault, FaultSink, add_copies, fault_list};
 use al_check_calls::{Calling, faults_with_answers};
 use al_check_interfaces::{FolderCall, Interface, calls_in, folder_calls, interface_of};
@@ -34,8 +34,8 @@ pub(crate) struct Source<'a> {
     pub(crate) bytes: &'a [u8],
 }
 
-/// A file as it was read: a workflow or an action, or its YAML fault; its faults that depend on no other file (syntax,
-/// rules, and every invalid `uses`); and its calls of files in the folder.
+/// A file as it was read: a workflow or an action, or its YAML fault; its faults that depend on no
+/// other file (syntax, rules, and every invalid `uses`); and its calls of files in the folder.
 #[derive(Drop)]
 pub struct ReadFile {
     pub(crate) tree: Result<Tree, YamlFault>,
@@ -104,8 +104,8 @@ pub(crate) fn read_file(alloc: Global, source: Source<'_>) -> Result<ReadFile, A
     })
 }
 
-/// The faults of a file that was read from this source, given the answers of its calls of files in the folder: its one
-/// YAML fault, or else all faults of the document, in report order, each once.
+/// The faults of a file that was read from this source, given the answers of its calls of files in
+/// the folder: its one YAML fault, or else all faults of the document, in report order, each once.
 pub(crate) fn file_faults(
     alloc: Global,
     source: Source<'_>,

@@ -7,8 +7,8 @@ ghost use Rattle.al_check_interfaces.proofs.Exact.{exact};
 ghost use Rattle.al_check.specs.Proofs.Laws.{each_sited, faults_inside, faults_ordered, sites_inside};
 
 use crate::files::{Source, file_faults, file_interface, read_file};
-use crate::units::{Unit, brief_of, calls_of, is_clean};
-use al_base::Fault;
+use crate::units::{Unit, brief_of, calls_of, check_alone};
+use al_base::{Fault, add_copies};
 use al_check_interfaces::Interface;
 use al_lint::{Lint, Site, Target};
 use al_tree::{file_kind, is_action, is_workflow};
@@ -17,7 +17,12 @@ use std::alloc::{AllocError, Global};
 // A linter for one report keeps the trees of files up to this many bytes in total.
 const KEPT_BYTES: usize = 2_097_152;
 
-/// The linter of workflows and actions, with its counts of reads and checks.
+// It keeps the faults of a file beside the report if there are at most this many.
+const KEPT_FAULTS: usize = 1_024;
+
+/// The linter of workflows and actions, with its counts of reads and checks. It is used by a
+/// session or a builder of `al_session`, or through its methods of [`Lint`]: `read` a file, then
+/// `check` it with the interfaces that answer its calls.
 #[derive(Drop)]
 pub struct Actions {
     checks: u64,
@@ -27,8 +32,8 @@ pub struct Actions {
 }
 
 impl Actions {
-    /// A linter that has read and checked nothing. It keeps everything it reads, as a session that takes edits needs.
-    /// Doesn't allocate.
+    /// A linter that has read and checked nothing. It keeps everything it reads, as a session that
+    /// takes edits needs. Doesn't allocate.
     pub fn new() -> Actions
         ensures checks { result.checks ≡ 0 }
         ensures reads { result.reads ≡ 0 }
@@ -40,10 +45,12 @@ impl Actions {
         }
     }
 
-    /// A linter that has read and checked nothing, for one report on a folder. Of a file that calls no file in the folder
-    /// and has no faults, it keeps no tree. It keeps the trees of the first other files it reads, up to 2,097,152 bytes of
-    /// files. Of later files it keeps only what a report and their callers need, and reads them again to check them; these
-    /// reads aren't counted. Doesn't allocate.
+    /// A linter that has read and checked nothing, for one report on a folder. It checks a file that
+    /// calls no file in the folder when it reads it, and keeps no tree of it, but its faults, up to
+    /// 1,024. Of the first other files with at most 1,024 faults that depend on no other file it
+    /// keeps the trees, up to 2,097,152 bytes of files. Of all others it keeps only what a report
+    /// and their callers need, and reads them again to check them; these reads aren't counted.
+    /// Doesn't allocate.
     pub fn for_one_report() -> Actions
         ensures checks { result.checks ≡ 0 }
         ensures reads { result.reads ≡ 0 }
@@ -55,7 +62,8 @@ impl Actions {
         }
     }
 
-    // Whether the tree of a file with this many bytes is kept; if so, they are subtracted from the remaining room.
+    // Whether the tree of a file with this many bytes is kept; if so, they are subtracted from the
+    // remaining room.
     fn keeps_tree(&mut self, bytes: usize) -> bool
         ensures checks { self.new.checks ≡ self.old.checks }
         ensures reads { self.new.reads ≡ self.old.reads }
@@ -93,10 +101,16 @@ impl Lint for Actions {
         let kind = file_kind(path.as_bytes());
         let source = Source { kind, bytes };
         let file = read_file(alloc, source)?;
-        if self.room.is_some() && is_clean(alloc, source, &file)? {
-            return Ok(Unit::Clean(file_interface(alloc, &file)?));
+        if self.room.is_none() {
+            return Ok(Unit::Whole(file));
         }
-        if self.keeps_tree(bytes.len()) {
+        if file.calls.is_empty() {
+            let checked = check_alone(alloc, source, &file)?;
+            if checked.faults.len() <= KEPT_FAULTS {
+                return Ok(Unit::Checked(checked));
+            }
+        }
+        if file.own.len() <= KEPT_FAULTS && self.keeps_tree(bytes.len()) {
             return Ok(Unit::Whole(file));
         }
         Ok(Unit::Brief(brief_of(alloc, file)?))
@@ -106,7 +120,7 @@ impl Lint for Actions {
         match unit {
             Unit::Whole(file) => file_interface(alloc, file),
             Unit::Brief(brief) => brief.interface.copy(alloc),
-            Unit::Clean(interface) => interface.copy(alloc),
+            Unit::Checked(checked) => checked.interface.copy(alloc),
         }
     }
 
@@ -135,7 +149,11 @@ impl Lint for Actions {
                 let file = read_file(alloc, source)?;
                 file_faults(alloc, source, &file, answers)
             }
-            Unit::Clean(_) => Ok(Vec::new(alloc)),
+            Unit::Checked(checked) => {
+                let mut faults = Vec::new(alloc);
+                add_copies(alloc, &checked.faults, &mut faults)?;
+                Ok(faults)
+            }
         }
     }
 

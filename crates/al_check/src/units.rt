@@ -1,10 +1,11 @@
 //! What is kept of files after they were read.
-ghost use Rattle.std.specs.Prelude.{◌≡◌, ℕ, List, IfOk, IsTrue};
+ghost use Rattle.std.specs.Prelude.{◌≡◌, ℕ, List, IfOk, length};
 ghost use Rattle.al_tree.specs.declared.files.FileKind.{FileKind};
 ghost use Rattle.al_check.specs.Reading.{IsRead};
-ghost use Rattle.al_check.specs.Units.{calls_kept, IsBriefOf, IsClean};
+ghost use Rattle.al_check.specs.Units.{calls_kept, IsBriefOf, IsCheckedOf};
 
 use crate::files::{ReadFile, Source, file_faults, file_interface};
+use al_base::Fault;
 use al_check_interfaces::{FolderCall, Interface};
 use std::alloc::{AllocError, Global};
 
@@ -15,15 +16,22 @@ pub struct Brief {
     pub(crate) calls: Vec<FolderCall>,
 }
 
-/// What is kept of a file after it was read.
+/// The interface of a file that calls no file in the folder, and all of its faults.
+#[derive(Drop)]
+pub struct Checked {
+    pub(crate) interface: Interface,
+    pub(crate) faults: Vec<Fault>,
+}
+
+/// What is kept of a file after it was read. Only the linter that made it knows what to do with it.
 #[derive(Drop)]
 pub enum Unit {
     /// Everything that was read.
     Whole(ReadFile),
     /// Only what a report and the file's callers need; to check the file, it is read again.
     Brief(Brief),
-    /// Only the interface of a file that calls no file in the folder and has no faults.
-    Clean(Interface),
+    /// What was found in a file whose faults depend on no other file.
+    Checked(Checked),
 }
 
 /// The part of this file that a report and its callers need.
@@ -36,22 +44,20 @@ pub(crate) fn brief_of(alloc: Global, file: ReadFile) -> Result<Brief, AllocErro
     Ok(Brief { interface, calls })
 }
 
-/// Whether a file that was read from this source calls no file in the folder and has no faults. If it has faults of its
-/// own, its expressions aren't checked.
-pub(crate) fn is_clean(
+/// Checks a file that was read from this source and calls no file in the folder.
+pub(crate) fn check_alone(
     alloc: Global,
     source: Source<'_>,
     file: &ReadFile,
-) -> Result<bool, AllocError>
-    requires { IsRead file.now source.kind source.bytes.now }
+) -> Result<Checked, AllocError>
+    requires read { IsRead file.now source.kind source.bytes.now }
+    requires alone { length file.now.calls.items ≡ 0 }
     ensures { IfOk result
-        (λ clean. IsTrue clean → IsClean (source.entry).kind (source.entry).bytes.now) }
+        (λ checked. IsCheckedOf checked (source.entry).kind (source.entry).bytes.now) }
 {
-    if !file.calls.is_empty() || !file.own.is_empty() {
-        return Ok(false);
-    }
+    let interface = file_interface(alloc, file)?;
     let faults = file_faults(alloc, source, file, &[])?;
-    Ok(faults.is_empty())
+    Ok(Checked { interface, faults })
 }
 
 /// The calls of files in the folder.
@@ -61,6 +67,6 @@ pub(crate) fn calls_of(unit: &Unit) -> &[FolderCall]
     match unit {
         Unit::Whole(file) => file.calls.as_slice(),
         Unit::Brief(brief) => brief.calls.as_slice(),
-        Unit::Clean(_) => &[],
+        Unit::Checked(_) => &[],
     }
 }

@@ -1,4 +1,5 @@
--- Which answer belongs to which call, and the faults of all calls of files in the folder that a file has.
+-- Which answer belongs to which call, and the faults of all calls of files in the folder that a
+-- file has.
 use Rattle.std.specs.Prelude.{List, [], ◌∷◌, drop, Option, None, option_map, slice_index_or}
 use Rattle.std.specs.List.{cons_option, flat_map}
 use Rattle.std.specs.Option.{option_map_or}
@@ -12,7 +13,8 @@ use Rattle.al_check_interfaces.specs.declared.interfaces.ParameterKind.TheVarian
 use Rattle.al_check_interfaces.specs.Uses.{Call, Site, calls_in, target_in}
 use Rattle.al_check_calls.specs.CallFaults.{Given, call_faults, given_by, values_of}
 
--- a call of a file in the folder with its answer: the next of the answers, which are in the order of these calls
+-- a call of a file in the folder with its answer: the next of the answers, which are in the order
+-- of these calls
 pub record Answered : Type 0 where
   pub call : Call
   pub answer : Option Interface

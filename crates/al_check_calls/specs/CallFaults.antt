@@ -55,8 +55,8 @@ uses_faults c None = absent_faults c (site_caller c.site)
 uses_faults c (Some Unreadable) = []
 uses_faults c (Some (Readable s)) = if is_callable (site_caller c.site) s.role then [] else that_uses code.NotCallable c ∷ []
 
--- the signature of a file for a step or a job that can call it; None if the call has C1 or C8, or the file can't be
--- read
+-- the signature of a file for a step or a job that can call it; None if the call has C1 or C8, or
+-- the file can't be read
 abbrev pub callable_signature : Caller → Option Interface → Option Signature
 callable_signature by (Some (Readable s)) = if is_callable by s.role then Some s else None
 callable_signature by answer = None
@@ -65,7 +65,8 @@ callable_signature by answer = None
 abbrev pub called_name : Call → Signature → List ℕ
 called_name c s = option_map_or (λ n. n) s.name c.text
 
--- the parameters of each kind that a call passes, and their faults: a name that isn't declared is C2 or C5, one that is missing C3 or C6
+-- the parameters of each kind that a call passes, and their faults: a name that isn't declared is
+-- C2 or C5, one that is missing C3 or C6
 abbrev pub given_by : ParameterKind → Node → List (Scalar × Node)
 given_by kind.Input n = entries_at (codes "with") n
 given_by kind.Secret n = entries_at (codes "secrets") n
@@ -152,6 +153,7 @@ values_against caller.Job c values o = option_map_or (λ s. flat_map (wrong_inpu
 abbrev pub value_faults : Call → List Given → Option Interface → List Fault
 value_faults c values answer = values_against (site_caller c.site) c values (callable_signature (site_caller c.site) answer)
 
--- The faults of a call of a file in the folder, given the values under `with` with their types, and its answer.
+-- The faults of a call of a file in the folder, given the values under `with` with their types, and
+-- its answer.
 abbrev pub call_faults : Call → List Given → Option Interface → List Fault
 call_faults c values answer = uses_faults c answer ++ value_faults c values answer ++ name_faults c answer

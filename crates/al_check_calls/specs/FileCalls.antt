@@ -41,8 +41,8 @@ value_type_in_job kind known root job key s = type_of_given (scope_at kind known
 abbrev pub typing : FileKind → OutputNames → Node → Typing
 typing kind known root site = value_type_in_job kind known root (unwrap_or site.job [])
 
--- The faults that depend on the answers of a file's calls: those of its expressions, which see the outputs known from the answers, and
--- those of its calls.
+-- The faults that depend on the answers of a file's calls: those of its expressions, which see the
+-- outputs known from the answers, and those of its calls.
 abbrev pub faults_by : FileKind → Node → List Answered → List Fault
 faults_by kind root found =
     expression_faults kind (known_from_calls found) root

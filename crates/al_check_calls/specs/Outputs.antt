@@ -1,4 +1,5 @@
--- The outputs known from answers: those of a composite action for a step, those of a callable workflow for a job.
+-- The outputs known from answers: those of a composite action for a step, those of a callable
+-- workflow for a job.
 use Rattle.std.specs.Prelude.{ℕ, List, Bool, true, false, Option, option_and_then}
 use Rattle.std.specs.Bool.{then_some}
 use Rattle.al_check_interfaces.specs.Uses.{site_caller}

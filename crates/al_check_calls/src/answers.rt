@@ -14,14 +14,16 @@ use al_base::Caller;
 use al_check_interfaces::{Call, FolderCall, Interface, Role, Signature, caller_of};
 use std::alloc::{AllocError, Global};
 
-/// A call of a file in the folder with its answer: the interface of its first candidate that exists, or `None`.
+/// A call of a file in the folder with its answer: the interface of its first candidate that
+/// exists, or `None`.
 #[derive(Clone, Copy)]
 pub(crate) struct Answered<'a> {
     pub(crate) call: Call<'a>,
     pub(crate) answer: Option<&'a Interface>,
 }
 
-/// The kept calls of files in the folder, with their answers in order. `calls` are all calls of the file.
+/// The kept calls of files in the folder, with their answers in order. `calls` are all calls of the
+/// file.
 ///
 /// Fails with `AllocError` when out of memory.
 pub(crate) fn with_answers<'a>(

@@ -37,7 +37,8 @@ fn check_uses(answered: Answered<'_>, faults: &mut FaultSink) -> Result<(), Allo
     }
 }
 
-/// Adds the faults of a call, except those of names: C1, C4 and C8. The values of a step aren't checked.
+/// Adds the faults of a call, except those of names: C1, C4 and C8. The values of a step aren't
+/// checked.
 fn check_call<'a>(
     env: &mut Env<'a>,
     answered: Answered<'a>,
@@ -59,9 +60,9 @@ fn check_call<'a>(
     }
 }
 
-/// Adds the faults of some calls of the environment's file, and moves the environment to them. Of equal faults, as of calls by aliases,
-/// at least one is added. Finding the faults of names takes time proportional to what the calls give, and to the mandatory parameters once
-/// for each `uses`.
+/// Adds the faults of some calls of the environment's file, and moves the environment to them. Of
+/// equal faults, as of calls by aliases, at least one is added. Finding the faults of names takes
+/// time proportional to what the calls give, and to the mandatory parameters once for each `uses`.
 pub(crate) fn check_calls<'a>(
     env: &mut Env<'a>,
     answered: &[Answered<'a>],

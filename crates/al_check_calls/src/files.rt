@@ -30,12 +30,14 @@ pub struct Calling<'a> {
     pub calls: &'a [FolderCall],
 }
 
-/// Adds the faults of a file that depend on the answers of its calls, X1 to X20, C1 to C6 and C8: those of its expressions, which see the
-/// outputs known from the answers, and those of its calls. The answers are those of the calls of files in the folder, in order: the
-/// interface of the file that answers, or `None` if no candidate of the call exists. Calls with the same candidates have the same answer.
-/// Of equal faults, as of calls behind aliases, at least one is added.
+/// Adds the faults of a file that depend on the answers of its calls, X1 to X20, C1 to C6 and C8:
+/// those of its expressions, which see the outputs known from the answers, and those of its calls.
+/// The answers are those of the calls of files in the folder, in order: the interface of the file
+/// that answers, or `None` if no candidate of the call exists. Calls with the same candidates have
+/// the same answer. Of equal faults, as of calls behind aliases, at least one is added.
 ///
-/// Offsets of the file's nodes are at most 1,048,576, and its texts are UTF-8. Fails with `AllocError` when out of memory.
+/// Offsets of the file's nodes are at most 1,048,576, and its texts are UTF-8. Fails with
+/// `AllocError` when out of memory.
 pub fn faults_with_answers<'a>(
     file: Calling<'a>,
     answers: &[Option<&'a Interface>],

@@ -18,8 +18,8 @@ use al_yaml_tree::Node;
 use std::alloc::{AllocError, Global};
 use std::collections::BTreeMap;
 
-/// The names of the outputs of the step or job that calls, by its answer: those of a composite action for a step, those of a callable
-/// workflow for a job. `None` if nothing is known of them.
+/// The names of the outputs of the step or job that calls, by its answer: those of a composite
+/// action for a step, those of a callable workflow for a job. `None` if nothing is known of them.
 fn outputs_of<'a>(answered: Answered<'a>) -> Option<&'a NameList>
     ensures { option_copied result ≡ called_outputs (answered_of answered.entry) }
 {
@@ -28,7 +28,8 @@ fn outputs_of<'a>(answered: Answered<'a>) -> Option<&'a NameList>
     (signature.role != Role::Action).then_some(&signature.outputs)
 }
 
-/// The lists of names of the outputs of calls. Steps that call by the same text share a list, and so do jobs.
+/// The lists of names of the outputs of calls. Steps that call by the same text share a list, and
+/// so do jobs.
 #[derive(Drop)]
 struct Lists<'a> {
     /// The positions of the lists, by whether a step calls, and by which text.
@@ -46,7 +47,8 @@ impl<'a> Lists<'a> {
         }
     }
 
-    /// The position of the outputs of a call; `None` if nothing is known of them. Fails with `AllocError` when out of memory.
+    /// The position of the outputs of a call; `None` if nothing is known of them. Fails with
+    /// `AllocError` when out of memory.
     fn position(&mut self, answered: Answered<'a>) -> Result<Option<usize>, AllocError>
         ensures { let a = answered_of answered.entry in IfOk result
             (λ position. Takes self.old self.new (is_some a.call.site.step) a.call.text
@@ -87,8 +89,8 @@ impl KnownOutputs<'_> {
     }
 }
 
-/// What is known of the outputs of some calls, in order. Steps, or jobs, that call by the same text have the same answer, and so the
-/// same position.
+/// What is known of the outputs of some calls, in order. Steps, or jobs, that call by the same text
+/// have the same answer, and so the same position.
 pub(crate) fn known_outputs<'a>(
     alloc: Global,
     answered: &[Answered<'a>],

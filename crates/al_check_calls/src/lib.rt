@@ -1,5 +1,6 @@
-//! The faults of a file that depend on the files that it calls: those of its calls, given the interfaces of the called files and the
-//! types of the values that jobs give, and those of its expressions, which see the outputs known from the answers.
+//! The faults of a file that depend on the files that it calls: those of its calls, given the
+//! interfaces of the called files and the types of the values that jobs give, and those of its
+//! expressions, which see the outputs known from the answers.
 #![tactic(auto)]
 
 mod answers;

@@ -1,5 +1,6 @@
-//! Mandatory parameters that calls don't give: C3 and C6. The fault is at `uses` and names only the parameter. So for calls behind
-//! aliases of one `uses`, a parameter is looked up until one of them doesn't give it, and reported once.
+//! Mandatory parameters that calls don't give: C3 and C6. The fault is at `uses` and names only the
+//! parameter. So for calls behind aliases of one `uses`, a parameter is looked up until one of them
+//! doesn't give it, and reported once.
 ghost use Rattle.std.specs.Prelude.{◌≡◌, ◌++◌, map, IfOk, IfSome, OnOk};
 ghost use Rattle.std.specs.List.{flat_map};
 ghost use Rattle.al_base.specs.Growth.{SameSet};
@@ -24,8 +25,8 @@ fn missing_code(kind: ParameterKind) -> CallCode
     }
 }
 
-/// Adds C3 and C6 of these parameters, and returns those that the call gives. If there are no parameters, what the call gives isn't
-/// looked at.
+/// Adds C3 and C6 of these parameters, and returns those that the call gives. If there are no
+/// parameters, what the call gives isn't looked at.
 fn check_parameters<'a>(
     call: Comparison<'_>,
     parameters: &[&'a Parameter],
@@ -65,8 +66,8 @@ fn is_by_same_uses(one: Comparison<'_>, other: Comparison<'_>) -> bool
     call_alike(one, other) && one.call.uses.span() == other.call.uses.span()
 }
 
-/// Adds C3 and C6 of a call. After a call by the same `uses`, only the parameters that are left are looked up. Returns those that are
-/// left now.
+/// Adds C3 and C6 of a call. After a call by the same `uses`, only the parameters that are left are
+/// looked up. Returns those that are left now.
 fn check_next<'a>(
     previous: Option<Comparison<'a>>,
     left: &[&'a Parameter],
@@ -90,8 +91,8 @@ fn check_next<'a>(
     }
 }
 
-/// Adds C3 and C6 of calls, of equal faults at least one. Takes time proportional to what the calls give, and to the mandatory parameters
-/// once for each `uses`.
+/// Adds C3 and C6 of calls, of equal faults at least one. Takes time proportional to what the calls
+/// give, and to the mandatory parameters once for each `uses`.
 pub(crate) fn check_missing(
     mut comparisons: Vec<Comparison<'_>>,
     faults: &mut FaultSink,

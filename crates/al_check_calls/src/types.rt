@@ -1,4 +1,5 @@
-//! The type of a scalar that is given to an input: that of its expression if it is one, otherwise by its class.
+//! The type of a scalar that is given to an input: that of its expression if it is one, otherwise
+//! by its class.
 ghost use Rattle.std.specs.Prelude.{◌≡◌, ◌≤◌, List, length, map, All, IfOk, IsUtf8};
 ghost use Rattle.std.specs.Option.{option_copied};
 ghost use Rattle.al_base.specs.Growth.{BeginsWith};
@@ -22,7 +23,8 @@ use al_scalar::Scalar;
 use al_tree::contains_chunk;
 use std::alloc::AllocError;
 
-/// The type of an expression: any type if the expression has a fault, which is reported at the expression.
+/// The type of an expression: any type if the expression has a fault, which is reported at the
+/// expression.
 #[tactic(auto, using(al_base::proofs::Growing::growth))]
 fn content_type(types: &mut Types<'_>, scope: &Scope, content: &str) -> Result<Ty, AllocError>
     requires { IsShown types.old scope.now }
@@ -37,7 +39,8 @@ fn content_type(types: &mut Types<'_>, scope: &Scope, content: &str) -> Result<T
     type_of(types, scope, &expr, &mut faults)
 }
 
-/// The type of a text that isn't one expression: a string if it has expressions, otherwise by its class.
+/// The type of a text that isn't one expression: a string if it has expressions, otherwise by its
+/// class.
 fn text_type(scalar: &Scalar) -> Ty
     ensures { (ms : List Parts) → type_in ms result ≡ meant.text_type scalar.now }
 {

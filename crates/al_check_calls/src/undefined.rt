@@ -1,5 +1,6 @@
-//! Names that calls give but the called files don't declare: C2 and C5. The fault is at the name. So calls that give one name at one
-//! place, as behind an alias, have the same fault, and it is reported once.
+//! Names that calls give but the called files don't declare: C2 and C5. The fault is at the name.
+//! So calls that give one name at one place, as behind an alias, have the same fault, and it is
+//! reported once.
 ghost use Rattle.std.specs.Prelude.{◌≡◌, ◌++◌, map, IfOk, IfSome, OnOk};
 ghost use Rattle.std.specs.List.{flat_map};
 ghost use Rattle.al_base.specs.Growth.{SameSet};

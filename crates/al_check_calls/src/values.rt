@@ -1,4 +1,5 @@
-//! The values under `with` of a job, which have to be of the types of the inputs that they are given to: C4.
+//! The values under `with` of a job, which have to be of the types of the inputs that they are
+//! given to: C4.
 ghost use Rattle.std.specs.Prelude.{◌≡◌, ◌++◌, IfOk, OnOk};
 ghost use Rattle.std.specs.List.{flat_map};
 ghost use Rattle.al_check_calls.specs.CallFaults as meant;
@@ -44,7 +45,8 @@ fn place_of_value<'a>(job: &'a [u8], key: &'a Scalar, scalar: &'a Scalar) -> Pla
     }
 }
 
-/// The type of a value under `with` of a job, whose key has this text: any type if it isn't a scalar.
+/// The type of a value under `with` of a job, whose key has this text: any type if it isn't a
+/// scalar.
 #[tactic(auto, using(al_base::proofs::Growing::growth))]
 fn value_type<'a>(env: &mut Env<'a>, job: &'a [u8], member: Member<'a>) -> Result<Ty, AllocError>
     requires at { IsAtPosition env.old }
@@ -100,7 +102,8 @@ fn check_value<'a>(
     faults.report_two(span, code, input.name.as_bytes(), type_name(input.takes))
 }
 
-/// Adds C4 of the values that a job gives to a workflow with these inputs. Moves the environment to the values.
+/// Adds C4 of the values that a job gives to a workflow with these inputs. Moves the environment to
+/// the values.
 pub(crate) fn check_values<'a>(
     env: &mut Env<'a>,
     call: Call<'a>,

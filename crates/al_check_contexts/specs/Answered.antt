@@ -6,7 +6,8 @@ use Rattle.al_check_contexts.specs.Contexts.{OutputNames}
 use Rattle.al_check_contexts.specs.declared.known.Answer.{Answer}
 use Rattle.al_check_contexts.specs.declared.known.Answers.{Answers}
 
--- the names of the outputs of a job or, with its index, of a step of a job or of an action; None if nothing is known of them
+-- the names of the outputs of a job or, with its index, of a step of a job or of an action; None if
+-- nothing is known of them
 pub record OutputsOfCall : Type 0 where
   pub job : Option (List ℕ)
   pub step : Option ℕ

@@ -25,8 +25,8 @@ use Rattle.al_types.specs.Strings.{named_strings}
 use Rattle.al_check_objects.specs.Objects.{strictly, loose_strings, loose_any}
 use Rattle.al_types.specs.Puts.{TypedName, firsts}
 
--- What is known of the names of the outputs of calls: of a job by its key, of a step by its index and the key of its job, or without a
--- key in an action. None if nothing is known.
+-- What is known of the names of the outputs of calls: of a job by its key, of a step by its index
+-- and the key of its job, or without a key in an action. None if nothing is known.
 abbrev pub OutputNames : Type 0
 OutputNames = Option (List ℕ) → Option ℕ → Option (List (List ℕ))
 
@@ -55,7 +55,8 @@ abbrev pub steps_type : OutputNames → Option Owner → Seen → Type'
 steps_type known owner seen =
     option_map_or (λ o. strictly (firsts (filter_map (step_field known o.0) (enumerate_from 0 (seen_of seen o.1))))) owner Any
 
--- a job as others see it: its result, and its outputs, which are those of the called workflow if it calls one
+-- a job as others see it: its result, and its outputs, which are those of the called workflow if it
+-- calls one
 abbrev pub job_outputs : OutputNames → Scalar × Node → Type'
 job_outputs known j =
     if has_value (codes "uses") j.1 then option_map_or named_strings (known (Some (key_of j)) None) loose_any
@@ -68,7 +69,8 @@ job_field known j =
 abbrev pub jobs_type : OutputNames → List (Scalar × Node) → Type'
 jobs_type known jobs = strictly (firsts (map (job_field known) jobs))
 
--- `needs`: the direct dependencies that exist; a name refers to the first job with it, ignoring ASCII case
+-- `needs`: the direct dependencies that exist; a name refers to the first job with it, ignoring
+-- ASCII case
 abbrev pub dependency : OutputNames → List (Scalar × Node) → List ℕ → Option TypedName
 dependency known jobs name = option_map (job_field known) (find (λ j. same_name (key_of j) name) jobs)
 
@@ -91,7 +93,8 @@ abbrev pub jobs_in : OutputNames → List (Scalar × Node) → Section → Type'
 jobs_in known jobs apart = Any
 jobs_in known jobs _ = jobs_type known jobs
 
--- The table of contexts. Some are the same in every file; the others are any where they aren't available. An action has only the section
+-- The table of contexts. Some are the same in every file; the others are any outside of what they
+-- belong to, a job or the steps of a job or of a composite action. An action has only the section
 -- `apart`.
 abbrev pub context_type_at : FileKind → OutputNames → Node → Position → Context → Type'
 context_type_at k known root p context.Github = github_type

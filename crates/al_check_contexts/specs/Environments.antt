@@ -31,8 +31,8 @@ types_at f p = context_type_at f.kind (known_of f.known) (view f.root.now) p
 abbrev pub owner_in : File → Section → Option Owner
 owner_in f s = owner_of f.kind (view f.root.now) (job_in (jobs_of (view f.root.now)) s)
 
--- its jobs are the file's; its contexts have the types of its section, where as many steps are seen as it has counted; and the types that
--- it keeps are right
+-- its jobs are the file's; its contexts have the types of its section, where as many steps are seen
+-- as it has counted; and the types that it keeps are right
 pub record IsAtPosition (e : Env) : Type 0 where
   pub jobs : jobs_from e.basis ≡ jobs_of (view (file_of e).root.now)
   pub shows : Shows e.types e.scope.types (types_at (file_of e) (position (section_view e.section) (before e.seen)))

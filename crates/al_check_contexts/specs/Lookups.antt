@@ -13,7 +13,8 @@ use Rattle.al_check_contexts.specs.Contexts.{OutputNames, job_field, step_type}
 use Rattle.al_check_objects.specs.Objects.{loose_any, loose_strings, strictly}
 use Rattle.al_check_contexts.specs.declared.known.Outputs.{Outputs}
 
--- the names in the answer for a job or a step, if there is one; Some None if nothing is known of them
+-- the names in the answer for a job or a step, if there is one; Some None if nothing is known of
+-- them
 abbrev pub Found : Type 0
 Found = Option (List ℕ) → Option ℕ → Option (Option (List (List ℕ)))
 

@@ -1,2 +1,3 @@
--- Terms that only contracts of private functions need. No definition of what the product means uses them.
+-- Terms that only contracts of private functions need. No definition of what the product means uses
+-- them.
 pub mod Owners

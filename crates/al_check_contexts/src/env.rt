@@ -30,12 +30,16 @@ use std::alloc::{AllocError, Global};
 /// A file: its kind, its tree, and what is known of the outputs of its calls.
 #[derive(Clone, Copy)]
 pub struct File<'a> {
+    /// What the file is read as.
     pub kind: FileKind,
+    /// The root of its tree.
     pub root: &'a Node,
+    /// The outputs of its calls; with two empty lists nothing is known of them.
     pub known: Answers<'a>,
 }
 
-/// The types of contexts at a position, and the table that they refer to. From one position to the next, only what changes is made anew.
+/// The types of contexts at a position, and the table that they refer to. From one position to the
+/// next, only what changes is made anew.
 #[derive(Drop)]
 pub struct Env<'a> {
     basis: Basis<'a>,
@@ -64,9 +68,12 @@ fn is_same_section(a: Section<'_>, b: Section<'_>) -> bool
 }
 
 impl<'a> Env<'a> {
-    /// The environment at the start of a file: outside its jobs, where no step is seen and nothing is available.
+    /// The environment at the start of a file: outside its jobs, where no step is seen and nothing
+    /// is available.
     ///
-    /// Fails with `AllocError` when out of memory.
+    /// # Errors
+    ///
+    /// `AllocError` if memory runs out.
     pub fn new(alloc: Global, file: File<'a>) -> Result<Env<'a>, AllocError>
         ensures at { IfOk result (λ e. IsAtPosition e) }
         ensures file { IfOk result (λ e. file_of e ≡ file.entry) }
@@ -164,10 +171,19 @@ impl<'a> Env<'a> {
         Ok(())
     }
 
-    /// Moves to a place of the file: `scope` is then what an expression can refer to there. Only what changes is made anew, which is
-    /// least if places come in the order of the file. Types made before stay valid.
+    /// Moves to a place of the file: `scope` is then what an expression can refer to there. Only
+    /// what changes is made anew, which is least if places come in the order of the file. Types
+    /// made before stay valid. The place is one of [`places`](al_check_places::places), for the
+    /// kind and the root of the file.
     ///
-    /// Fails with `AllocError` when out of memory; the environment can't be used any more then.
+    /// # Requires
+    ///
+    /// The environment is as [`Env::new`] or the last `go_to` left it: it has the types of a
+    /// position of the file. `types` may have more objects since.
+    ///
+    /// # Errors
+    ///
+    /// `AllocError` if memory runs out; the environment can't be used any more then.
     #[tactic(auto, using(crate::proofs::Environments::moved_further))]
     pub fn go_to(&mut self, place: Place<'a>) -> Result<(), AllocError>
         requires { IsAtPosition self.old }

@@ -72,7 +72,8 @@ impl<'a> JobList<'a> {
         }
     }
 
-    /// The position of the first job with a name, ignoring ASCII case. Fails with `AllocError` when out of memory.
+    /// The position of the first job with a name, ignoring ASCII case. Fails with `AllocError` when
+    /// out of memory.
     pub(crate) fn position_of(&self, name: &[u8]) -> Result<Option<usize>, AllocError>
         ensures { IfOk result (λ i. i ≡ first_at (λ j. same_name (key_of j) name.now)
             (map member_of self.now.members.items)) }

@@ -1,4 +1,5 @@
-//! The types of jobs as others see them, each made once per file, and the types of `jobs` and `needs`.
+//! The types of jobs as others see them, each made once per file, and the types of `jobs` and
+//! `needs`.
 ghost use Rattle.std.specs.Prelude.{◌≡◌, ◌<◌, [], IfOk, OnOk, List, length, true};
 ghost use Rattle.al_check_contexts.specs.Contexts.{job_field, jobs_type, needs_type};
 ghost use Rattle.al_check_contexts.specs.Lookups.{called_at, shown_at, shown_with};
@@ -36,7 +37,8 @@ pub(crate) struct JobTypes {
     pub(crate) all: Option<Ty>,
 }
 
-/// The type of a job with these outputs. Fails with `AllocError` when out of memory, as everything here does.
+/// The type of a job with these outputs. Fails with `AllocError` when out of memory, as everything
+/// here does.
 fn shown_with(types: &mut Types<'_>, outputs: Ty) -> Result<Ty, AllocError>
     requires { is_known types.old outputs ≡ true }
     ensures { Makes types.old types.new result (shown_with (type_at types.old outputs)) }

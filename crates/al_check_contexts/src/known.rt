@@ -8,21 +8,22 @@ use al_expr_types::NameList;
 use std::alloc::{AllocError, Global};
 use std::collections::BTreeMap;
 
-/// What is known of the outputs of a call: of a job, by its key; of a step of a job, by the job's key and the step's index; of a step
-/// of an action, by its index. Of several answers at one place the first counts.
+/// What is known of the outputs of a call: of a job, by its key; of a step of a job, by the job's
+/// key and the step's index; of a step of an action, by its index. Of several answers at one place
+/// the first counts.
 #[derive(Clone, Copy)]
 pub struct Answer<'a> {
     /// The key of the job; `None` for a step of an action.
     pub job: Option<&'a [u8]>,
     /// The index of the step, from 0; `None` if the job itself calls.
     pub step: Option<usize>,
-    /// The position of the names of the outputs in `Answers::lists`, from 0; `None` if nothing is known of them. A position without a
-    /// list means the same.
+    /// The position of the names of the outputs in `Answers::lists`, from 0; `None` if nothing is
+    /// known of them. A position without a list means the same.
     pub names: Option<usize>,
 }
 
-/// What is known of the outputs of the calls of a file. Calls with the same position in `lists` have the same outputs, whose type is
-/// made once.
+/// What is known of the outputs of the calls of a file. Calls with the same position in `lists`
+/// have the same outputs, whose type is made once.
 #[derive(Clone, Copy)]
 pub struct Answers<'a> {
     /// The answers; only the order of those at the same place matters.
@@ -64,7 +65,8 @@ impl<'a> Outputs<'a> {
         self.lists.len()
     }
 
-    /// The position of the list of the outputs of a call, or `unknown`. Calls with the same position have the same outputs.
+    /// The position of the list of the outputs of a call, or `unknown`. Calls with the same
+    /// position have the same outputs.
     pub(crate) fn position(&self, job: Option<&'a [u8]>, step: Option<usize>) -> usize
         ensures { list_at self.now result ≡ known_by self.now (option_copied job.entry) step }
     {

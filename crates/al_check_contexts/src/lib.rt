@@ -1,5 +1,6 @@
-//! What an expression can refer to at each place of a workflow or an action: the types of contexts, which refer to the file's table of
-//! types, and which contexts and special functions are available.
+//! What an expression can refer to at each place of a workflow or an action: the types of contexts,
+//! which refer to the file's table of types, and which contexts and special functions are
+//! available.
 #![tactic(auto)]
 
 mod basis;

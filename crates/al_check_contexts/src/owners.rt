@@ -9,7 +9,8 @@ pub(crate) struct Owner<'a> {
     pub(crate) steps: &'a [Node],
 }
 
-/// A step: the key of the job that it belongs to, or `None` for an action; its index among the steps; and its node.
+/// A step: the key of the job that it belongs to, or `None` for an action; its index among the
+/// steps; and its node.
 #[derive(Clone, Copy)]
 pub(crate) struct Step<'a> {
     pub(crate) job: Option<&'a [u8]>,

@@ -23,8 +23,10 @@ const OF_ACTION: &[Context] = &[
     Context::Inputs,
 ];
 
-/// What a place with a row of the table makes available. In an action the functions that tell the status of the job so far are available
-/// only in conditions.
+/// What a place with a row of the table makes available (GitHub, "Contexts reference", "Context
+/// availability"): in a workflow the contexts and special functions of the row, and without a row
+/// all contexts and no special function. In an action it doesn't depend on the row: the contexts of
+/// actions and `hashFiles`, and in conditions the functions that tell the status of the job so far.
 pub fn available_at(kind: FileKind, row: Option<&'static Row>, is_condition: bool) -> Available
     ensures { available_of result
         ≡ scopes.available_at kind (option_map (λ r. row_view r.now) row.entry) is_condition }

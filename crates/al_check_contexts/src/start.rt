@@ -16,7 +16,8 @@ use al_expr_types::{Ty, Types};
 use al_expr_typing::ContextTypes;
 use std::alloc::AllocError;
 
-/// The types of contexts at the start of a file, with that of `steps`. Fails with `AllocError` when out of memory.
+/// The types of contexts at the start of a file, with that of `steps`. Fails with `AllocError` when
+/// out of memory.
 #[tactic(auto, using(al_base::proofs::Growing::growth))]
 pub(crate) fn first_types<'a>(
     types: &mut Types<'a>,

@@ -1,4 +1,5 @@
-//! The type of `steps`: its fields are made once for all steps of a job or an action, and each step sees some first of them.
+//! The type of `steps`: its fields are made once for all steps of a job or an action, and each step
+//! sees some first of them.
 ghost use Rattle.std.specs.Prelude.{◌≡◌, ◌-◌, ◌≤◌, [], IfOk, List, None, Option, OnOk, length, option_map, true};
 ghost use Rattle.std.specs.Option.{option_copied, option_map_or, option_to_list};
 ghost use Rattle.al_base.specs.Growth.{BeginsWith};
@@ -26,7 +27,8 @@ use al_expr_types::{FieldMap, NameList, Prefixes, Ty, Types};
 use al_tree::text_under;
 use std::alloc::AllocError;
 
-/// The fields of `steps` if all steps of a job or an action are seen, and how many of them are if fewer steps are.
+/// The fields of `steps` if all steps of a job or an action are seen, and how many of them are if
+/// fewer steps are.
 #[derive(Drop)]
 pub(crate) struct StepFields<'a> {
     prefixes: Prefixes<'a>,
@@ -34,8 +36,8 @@ pub(crate) struct StepFields<'a> {
     counts: Vec<usize>,
 }
 
-/// The type of the outputs of a step or a job, by what is known of them. If nothing is, it is an object whose fields
-/// have this type.
+/// The type of the outputs of a step or a job, by what is known of them. If nothing is, it is an
+/// object whose fields have this type.
 pub(crate) fn outputs_type<'a>(
     types: &mut Types<'a>,
     outputs: Option<&'a NameList>,

@@ -30,7 +30,8 @@ is_one_chunk bytes = is_whole_span (length bytes) (chunks_of bytes).chunks
 abbrev pub HasRoom : Scalar → Type 0
 HasRoom s = (i : ℕ) → offset_of s i + 1 < 2 ^ 32
 
--- the span in the file of the bytes of a scalar's text between two indexes; an empty one is at the first
+-- the span in the file of the bytes of a scalar's text between two indexes; an empty one is at the
+-- first
 abbrev pub span_in_file : Scalar → ℕ → ℕ → Span
 span_in_file s i j =
     if i == j then record { start = offset_of s i; end = offset_of s i }

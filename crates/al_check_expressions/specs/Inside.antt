@@ -13,7 +13,8 @@ pub record IsReadable (p : Place) : Type 0 where
   pub small : length (text_of p.word) ≤ longest_text
   pub room : HasRoom p.word
 
--- the scalar of a place lies in a file with this many bytes, and each byte of its text comes from there
+-- the scalar of a place lies in a file with this many bytes, and each byte of its text comes from
+-- there
 pub record IsThere (size : ℕ) (p : Place) : Type 0 where
   pub span : LiesIn size p.word.span
   pub placed : IsPlaced largest_file p.word

@@ -55,8 +55,8 @@ struct Text<'s> {
     is_scalar_only: bool,
 }
 
-/// Adds the faults of an expression's tree: those of its meaning, then that it is an object or array where neither is
-/// allowed.
+/// Adds the faults of an expression's tree: those of its meaning, then that it is an object or
+/// array where neither is allowed.
 fn check_tree(
     types: &mut Types<'_>,
     text: &Text<'_>,
@@ -106,7 +106,8 @@ fn move_fault(scalar: &Scalar, by: usize, fault: Fault) -> Fault
     Fault { span, ..fault }
 }
 
-/// Adds the faults of an expression that begins at an index of a text, with their spans in the file.
+/// Adds the faults of an expression that begins at an index of a text, with their spans in the
+/// file.
 fn check_expression(
     types: &mut Types<'_>,
     text: &Text<'_>,
@@ -131,7 +132,8 @@ fn check_expression(
     Ok(())
 }
 
-/// Whether a text of `len` bytes with these chunks is one expression: it has a single chunk, which extends over all bytes.
+/// Whether a text of `len` bytes with these chunks is one expression: it has a single chunk, which
+/// extends over all bytes.
 pub fn is_one_expression(len: usize, chunks: &[Chunk<'_>]) -> bool
     ensures { result ≡ is_whole_span len (map span_of_chunk chunks.now) }
 {
@@ -170,7 +172,8 @@ fn check_chunks(
     }
 }
 
-/// Whether the whole text at a place is one expression: the place is a condition, and the text has no chunk.
+/// Whether the whole text at a place is one expression: the place is a condition, and the text has
+/// no chunk.
 pub(crate) fn is_whole(place: &Place<'_>) -> bool
     ensures { result ≡ contents.is_whole (place_of place.now) }
 {

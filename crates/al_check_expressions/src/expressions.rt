@@ -14,11 +14,12 @@ use al_check_contexts::Env;
 use al_check_places::places;
 use std::alloc::AllocError;
 
-/// Adds the faults of all expressions of the environment's file, X1 to X20, with spans in the file, given what is known of the outputs
-/// of its calls. Moves the environment to the last place with an expression.
+/// Adds the faults of all expressions of the environment's file, X1 to X20, with spans in the file,
+/// given what is known of the outputs of its calls. Moves the environment to the last place with an
+/// expression.
 ///
-/// Offsets of the file's nodes are at most 1,048,576, and its texts are UTF-8. Fails with `AllocError` when out of memory; what the sink
-/// holds then is unspecified.
+/// Offsets of the file's nodes are at most 1,048,576, and its texts are UTF-8. Fails with
+/// `AllocError` when out of memory; what the sink holds then is unspecified.
 pub fn expression_faults(env: &mut Env<'_>, faults: &mut FaultSink) -> Result<(), AllocError>
     requires at { IsAtPosition env.old }
     requires laid { IsLaid largest_file (view (file_of env.old).root.now) }

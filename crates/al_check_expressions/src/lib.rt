@@ -1,4 +1,5 @@
-//! The faults of the expressions in workflows and actions. Types refer to the file's table of types.
+//! The faults of the expressions in workflows and actions. Types refer to the file's table of
+//! types.
 #![tactic(auto)]
 
 mod contents;

@@ -1,4 +1,5 @@
--- What the text of a `uses` names (GitHub, "Workflow syntax", `jobs.<job_id>.steps[*].uses` and `jobs.<job_id>.uses`).
+-- What the text of a `uses` names (GitHub, "Workflow syntax", `jobs.<job_id>.steps[*].uses` and
+-- `jobs.<job_id>.uses`).
 use Rattle.std.specs.Prelude.{ℕ, List, [], ◌∷◌, ◌++◌, ◌+◌, ◌-◌, ◌==◌, nat_lt, nat_eq, Bool, false, ◌&&◌, codes, drop, take, length}
 use Rattle.std.specs.Prelude.{Option, Some, None, is_none, if◌then◌else◌}
 use Rattle.std.specs.List.{enumerate_from, list_all, list_any, starts_with, ends_with}
@@ -17,7 +18,8 @@ use Rattle.al_check_interfaces.specs.declared.forms.Form.TheVariants.{Local, Oth
 abbrev pub is_some_text : List ℕ → Bool
 is_some_text bs = nat_lt 0 (length bs)
 
--- a byte that separates a REF from the parts before it, which have to pass a test: an `@` with something after it
+-- a byte that separates a REF from the parts before it, which have to pass a test: an `@` with
+-- something after it
 abbrev pub is_cut : (List (List ℕ) → Bool) → List (List ℕ) → ℕ → List ℕ → Bool
 is_cut test before b ref = b == ascii "@" && is_some_text ref && test before
 

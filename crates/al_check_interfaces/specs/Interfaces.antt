@@ -1,5 +1,5 @@
--- The interface of a file, which its callers see (GitHub, "Workflow syntax", `on.workflow_call`; "Metadata syntax", `inputs`, `outputs`,
--- `runs`). It has no spans and no descriptions.
+-- The interface of a file, which its callers see (GitHub, "Workflow syntax", `on.workflow_call`;
+-- "Metadata syntax", `inputs`, `outputs`, `runs`). It has no spans and no descriptions.
 use Rattle.std.specs.Prelude.{ℕ, List, [], ◌∷◌, Bool, false, ◌||◌, codes, map, Option, option_map, if◌then◌else◌}
 use Rattle.std.specs.List.{list_any}
 use Rattle.std.specs.Option.{option_map_or}

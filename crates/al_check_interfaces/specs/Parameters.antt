@@ -1,4 +1,5 @@
--- The parameters of a file: which of them have a name, ignoring ASCII case, and which are mandatory.
+-- The parameters of a file: which of them have a name, ignoring ASCII case, and which are
+-- mandatory.
 use Rattle.std.specs.Prelude.{ℕ, List, Bool, ◌&&◌, not, map}
 use Rattle.std.specs.List.{filter}
 use Rattle.al_base.specs.Names.{same_name}

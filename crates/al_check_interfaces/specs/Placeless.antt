@@ -1,4 +1,5 @@
--- Trees without spans, and the laws that an interface depends neither on spans nor, under an input, on what calls don't see.
+-- Trees without spans, and the laws that an interface depends neither on spans nor, under an input,
+-- on what calls don't see.
 use Rattle.std.specs.Prelude.{◌≡◌, codes, map}
 use Rattle.al_scalar.specs.Line.{Cell}
 use Rattle.al_scalar.specs.Scalar.{Scalar}

@@ -1,4 +1,5 @@
--- The calls of a file: the steps and jobs that call, what the text of their `uses` names, and which name a file in the folder.
+-- The calls of a file: the steps and jobs that call, what the text of their `uses` names, and which
+-- name a file in the folder.
 use Rattle.std.specs.Prelude.{ℕ, List, [], ◌∷◌, codes, map, Option, Some, None, is_some, option_map, if◌then◌else◌}
 use Rattle.std.specs.List.{flat_map, filter_map, enumerate_from}
 use Rattle.std.specs.Str.Lossy.{utf8_lossy}

@@ -22,7 +22,8 @@ pub struct FolderCall {
     pub fault: Fault,
 }
 
-/// Adds a call to those that are kept, if it names a file in the folder, or the fault of an invalid `uses`.
+/// Adds a call to those that are kept, if it names a file in the folder, or the fault of an invalid
+/// `uses`.
 fn add_call(
     number: usize,
     call: Call<'_>,
@@ -58,7 +59,8 @@ fn add_call(
     }
 }
 
-/// Of all calls of a file, those of files in the folder, in order. Adds the faults of invalid `uses`, C7, which depend on no other file.
+/// Of all calls of a file, those of files in the folder, in order. Adds the faults of invalid
+/// `uses`, C7, which depend on no other file.
 ///
 /// Fails with `AllocError` when out of memory.
 pub fn folder_calls(

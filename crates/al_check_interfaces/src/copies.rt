@@ -30,7 +30,11 @@ fn copy_of_parameters(alloc: Global, parameters: &Parameters) -> Result<Paramete
 }
 
 impl Interface {
-    /// A copy. Fails with `AllocError` when out of memory.
+    /// A copy, with memory of its own.
+    ///
+    /// # Errors
+    ///
+    /// `AllocError` if memory runs out.
     pub fn copy(&self, alloc: Global) -> Result<Interface, AllocError>
         ensures { IfOk result (λ copy. copy ≡ self.now) }
     {

@@ -13,7 +13,8 @@ use std::alloc::{AllocError, Global};
 pub(crate) enum Form {
     /// A file in the folder, by candidate paths, of which the first that exists answers.
     Local(Target),
-    /// Something else: an image, an action or a workflow of another repository, or a folder that can't contain a file.
+    /// Something else: an image, an action or a workflow of another repository, or a folder that
+    /// can't contain a file.
     Other,
     /// Nothing: the `uses` is invalid.
     Wrong,
@@ -25,7 +26,8 @@ fn is_workflow_path(first: &[u8], second: &[u8], file: &[u8]) -> bool
     first == b".github".as_slice() && second == b"workflows".as_slice() && is_workflow_name(file)
 }
 
-/// What is before a byte of a text: the parts that slashes end, whether all of these are non-empty, and the part after the last slash.
+/// What is before a byte of a text: the parts that slashes end, whether all of these are non-empty,
+/// and the part after the last slash.
 #[derive(Clone, Copy)]
 struct Before<'d, 'a> {
     done: &'d [&'a [u8]],
@@ -34,7 +36,8 @@ struct Before<'d, 'a> {
     ghost known: { whole ≡ list_all forms.is_some_text (map (λ p. p.now) done.now) },
 }
 
-/// Whether the text before a byte names an action of another repository, for a step, or a workflow of one, for a job.
+/// Whether the text before a byte names an action of another repository, for a step, or a workflow
+/// of one, for a job.
 #[tactic(auto, using(crate::proofs::Cuts::all_more))]
 fn is_remote(caller: Caller, before: Before<'_, '_>) -> bool
     ensures { result
@@ -95,7 +98,8 @@ fn is_some_cut(alloc: Global, caller: Caller, text: &[u8]) -> Result<bool, Alloc
     Ok(false)
 }
 
-/// The path with these bytes, if they are one. Bytes that aren't UTF-8, which no text of a file has, aren't a path.
+/// The path with these bytes, if they are one. Bytes that aren't UTF-8, which no text of a file
+/// has, aren't a path.
 #[tactic(auto, using(crate::proofs::Paths::no_text, crate::proofs::Paths::as_text))]
 fn path_in(alloc: Global, bytes: &[u8]) -> Result<Option<Path>, AllocError>
     ensures { IfOk result (λ p. p ≡ forms.path_in bytes.now) }

@@ -1,4 +1,5 @@
-//! The interfaces of files. They have no spans and no descriptions, so an edit that callers can't see leaves the interface the same.
+//! The interfaces of files. They have no spans and no descriptions, so an edit that callers can't
+//! see leaves the interface the same.
 ghost use Rattle.std.specs.Prelude.{◌≡◌};
 ghost use Rattle.al_check_interfaces.specs.Kinds.{parameters_of};
 
@@ -32,23 +33,29 @@ pub struct Parameter {
     pub takes: InputType,
 }
 
-/// The kind of a parameter: inputs, which a call gives under `with`, or secrets, which it gives under `secrets`.
+/// The kind of a parameter: inputs, which a call gives under `with`, or secrets, which it gives
+/// under `secrets`.
 #[derive(Clone, Copy, PartialEq, Eq, PartialOrd, Ord)]
 pub enum ParameterKind {
+    /// An input.
     Input,
+    /// A secret.
     Secret,
 }
 
-/// The interface of a file whose root is a mapping. Of names that differ only in ASCII case, each list has only the first.
+/// The interface of a file whose root is a mapping. Of names that differ only in ASCII case, each
+/// list has only the first.
 #[derive(Drop, PartialEq, Eq)]
 pub struct Signature {
     /// The text of `name`, if it is a scalar and not null.
     pub name: Option<Name>,
+    /// What the file is to its callers.
     pub role: Role,
+    /// The inputs, in order.
     pub inputs: Parameters,
-    /// Empty for an action.
+    /// The secrets, in order; empty for an action.
     pub secrets: Parameters,
-    /// The names of the outputs.
+    /// The names of the outputs, in order.
     pub outputs: NameList,
 }
 
@@ -64,10 +71,11 @@ impl Signature {
     }
 }
 
-/// What callers see of a file.
+/// What callers see of a file. Two interfaces that compare equal are the same to every caller.
 #[derive(Drop, PartialEq, Eq)]
 pub enum Interface {
     /// The file isn't YAML, or its root isn't a mapping.
     Unreadable,
+    /// The root is a mapping, which declares this.
     Readable(Signature),
 }

@@ -1,5 +1,6 @@
-//! What files in the folder see of one another: a file's interface, whose equality is exact, and its calls: where each `uses` is, what
-//! its text names, and which of them name a file in the folder.
+//! What files in the folder see of one another: a file's interface, whose equality is exact, and
+//! its calls: where each `uses` is, what its text names, and which of them name a file in the
+//! folder.
 #![tactic(auto)]
 
 mod calls;

@@ -1,4 +1,5 @@
-//! The parameters of an interface. The positions of their names, and which of them are mandatory, are found once for all calls.
+//! The parameters of an interface. The positions of their names, and which of them are mandatory,
+//! are found once for all calls.
 ghost use Rattle.std.specs.Prelude.{◌≡◌, find, map, IfOk};
 ghost use Rattle.std.specs.Option.{option_copied};
 ghost use Rattle.al_base.specs.NamePlaces.{name_place, name_position};
@@ -10,8 +11,9 @@ use al_base::NamePositions;
 use std::alloc::{AllocError, Global};
 use std::marker::Model;
 
-/// Parameters in order, with different names; the position of each name; and those that are mandatory. Contracts see the list. Finding
-/// one by name takes time logarithmic in their number, and linear in the name's length.
+/// Parameters in order, with different names; the position of each name; and those that are
+/// mandatory. Contracts see the list. Finding one by name takes time logarithmic in their number,
+/// and linear in the name's length.
 #[derive(Drop)]
 pub struct Parameters {
     parameters: Vec<Parameter>,
@@ -80,14 +82,22 @@ impl Parameters {
         self.parameters.as_slice()
     }
 
-    /// The mandatory ones. Fails with `AllocError` when out of memory.
+    /// The mandatory ones, in order: those that are required and have no default.
+    ///
+    /// # Errors
+    ///
+    /// `AllocError` if memory runs out.
     pub fn mandatory(&self) -> Result<Vec<&Parameter>, AllocError>
         ensures { IfOk result (λ v. map (λ p. p.now) v.items ≡ mandatory_of self.now) }
     {
         self.mandatory.iter().collect(*self.mandatory.allocator())
     }
 
-    /// The first parameter with a name, ignoring ASCII case. Fails with `AllocError` when out of memory.
+    /// The first parameter with a name, ignoring ASCII case; `None` if there is none.
+    ///
+    /// # Errors
+    ///
+    /// `AllocError` if memory runs out.
     pub fn find(&self, name: &[u8]) -> Result<Option<&Parameter>, AllocError>
         ensures { IfOk result (λ p. option_copied p ≡ find (is_parameter name.now) self.now) }
     {
@@ -97,7 +107,11 @@ impl Parameters {
         }
     }
 
-    /// Whether a parameter has a name, ignoring ASCII case. Fails with `AllocError` when out of memory.
+    /// Whether a parameter has a name, ignoring ASCII case.
+    ///
+    /// # Errors
+    ///
+    /// `AllocError` if memory runs out.
     pub fn has(&self, name: &[u8]) -> Result<bool, AllocError>
         ensures { IfOk result (λ b. b ≡ has_parameter self.now name.now) }
     {

@@ -30,7 +30,8 @@ enum Declaring {
     Secrets,
 }
 
-/// Whether the parameter that a node declares is required: the text of `required` is `true`, ignoring ASCII case.
+/// Whether the parameter that a node declares is required: the text of `required` is `true`,
+/// ignoring ASCII case.
 fn is_required(node: &Node) -> bool
     ensures { result ≡ interfaces.is_required (view node.now) }
 {

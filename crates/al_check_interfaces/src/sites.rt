@@ -81,7 +81,8 @@ fn add_job<'a>(job: Member<'a>, out: &mut Vec<Call<'a>>) -> Result<(), AllocErro
     add_steps(job, items_under(node, "steps"), out)
 }
 
-/// The calls of the jobs of a workflow, each before those of its steps, or those of the steps of a composite action.
+/// The calls of the jobs of a workflow, each before those of its steps, or those of the steps of a
+/// composite action.
 ///
 /// Fails with `AllocError` when out of memory.
 pub fn calls_in(alloc: Global, kind: FileKind, root: &Node) -> Result<Vec<Call<'_>>, AllocError>

@@ -19,7 +19,8 @@ use Rattle.al_tree.specs.Values.{entries_in, items_in, value_at, value_below}
 use Rattle.al_check_objects.specs.Objects.{loose_any, strictly}
 use Rattle.al_types.specs.Puts.{TypedName, firsts, put_or_fuse, put_all}
 
--- the type of a scalar, by its class; one with `${{` is any if it is one expression, otherwise a string
+-- the type of a scalar, by its class; one with `${{` is any if it is one expression, otherwise a
+-- string
 abbrev pub class_type : Class → Type'
 class_type class.Null = Null
 class_type class.Bool = Bool'
@@ -30,8 +31,8 @@ class_type class.Str = String
 abbrev pub matrix_scalar_type : Scalar → Type'
 matrix_scalar_type s = if has_chunk (text_of s) then (if is_lone_chunk Nothing (text_of s) then Any else String) else class_type s.class
 
--- The type of a value: a sequence is an array of what its items have in common, a mapping a strict object, where the first of equal names
--- counts.
+-- The type of a value: a sequence is an array of what its items have in common, a mapping a strict
+-- object, where the first of equal names counts.
 abbrev mutual
   pub node_type : Node → Type'
   node_type (scalar s) = matrix_scalar_type s

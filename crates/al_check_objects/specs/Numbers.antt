@@ -14,7 +14,8 @@ pub record Means (types : Types) (t : Ty) (m : Type') : Type 0 where
   pub known : is_known types t ≡ true
   pub is : type_at types t ≡ m
 
--- A call that returns this result makes a type that means this one, and only adds objects to the table.
+-- A call that returns this result makes a type that means this one, and only adds objects to the
+-- table.
 pub record Makes {E : Type 0} (old new : Types) (result : Result Ty E) (m : Type') : Type 0 where
   pub ty : IfOk result (λ t. Means new t m)
   pub kept : OnOk result (BeginsWith (objects_of new) (objects_of old))

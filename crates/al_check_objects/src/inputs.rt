@@ -15,7 +15,8 @@ use al_tree::{FileKind, declared_at, input_of, value, value_below_three};
 use al_yaml_tree::Node;
 use std::alloc::AllocError;
 
-/// The object of the inputs that an event of a workflow declares. Fails with `AllocError` when out of memory, as everything here does.
+/// The object of the inputs that an event of a workflow declares. Fails with `AllocError` when out
+/// of memory, as everything here does.
 fn event_inputs<'a>(types: &mut Types<'a>, root: &'a Node, event: &str) -> Result<Ty, AllocError>
     ensures { Makes types.old types.new result
         (strictly (firsts (inputs.event_inputs event.now (view root.entry.now)))) }
@@ -32,7 +33,8 @@ fn event_inputs<'a>(types: &mut Types<'a>, root: &'a Node, event: &str) -> Resul
     fields.into_type(types, None)
 }
 
-/// The type of `inputs` in a file: in a workflow, what the object of its call inputs and that of its dispatch inputs have in common.
+/// The type of `inputs` in a file: in a workflow, what the object of its call inputs and that of
+/// its dispatch inputs have in common.
 #[tactic(auto, using(al_base::proofs::Growing::growth, al_expr_types::proofs::Returned::begins_ok))]
 pub fn inputs_type<'a>(
     types: &mut Types<'a>,

@@ -1,5 +1,6 @@
-//! The types of objects that don't depend on the rest of a file: those of a matrix and of inputs, which depend on one node, and of the
-//! contexts that are the same in every file. Also lists of fields, from which objects are made.
+//! The types of objects that don't depend on the rest of a file: those of a matrix and of inputs,
+//! which depend on one node, and of the contexts that are the same in every file. Also lists of
+//! fields, from which objects are made.
 #![tactic(auto)]
 
 mod field_lists;

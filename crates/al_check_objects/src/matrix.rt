@@ -94,7 +94,8 @@ fn rows_type<'a>(types: &mut Types<'a>, node: &'a Node) -> Result<Ty, AllocError
     rows.into_type(types, None)
 }
 
-/// What the object of the rows and those of the combinations have in common. A combination that isn't a mapping has no fields.
+/// What the object of the rows and those of the combinations have in common. A combination that
+/// isn't a mapping has no fields.
 fn include<'a>(types: &mut Types<'a>, rows: Ty, nodes: &'a [Node]) -> Result<Ty, AllocError>
     requires { is_known types.old rows ≡ true }
     ensures ty { IfOk result (λ t. (ts : List TypedName) → Means types.old rows (strictly ts)

@@ -16,8 +16,8 @@ use al_expr_types::{FieldMap, Ty, Types};
 use al_tree::Member;
 use std::alloc::AllocError;
 
-/// The object with these fields, which must have different names, and with others of the type `rest`, if given. Fails with `AllocError`
-/// when out of memory, as everything here does.
+/// The object with these fields, which must have different names, and with others of the type
+/// `rest`, if given. Fails with `AllocError` when out of memory, as everything here does.
 pub fn object_of<'a>(
     types: &mut Types<'a>,
     fields: &[(&'a [u8], Ty)],

@@ -11,22 +11,31 @@ use al_tree::FileKind;
 /// Below `on`, in a job with a key, or anywhere else.
 #[derive(Clone, Copy)]
 pub enum Section<'a> {
+    /// Neither below `on` nor in a job; anywhere in an action.
     Apart,
+    /// Below `on` of a workflow.
     On,
+    /// In the job with this key.
     Job(&'a [u8]),
 }
 
 /// The steps that an expression sees: none, those before a step, or all.
 #[derive(Clone, Copy)]
 pub enum Seen {
+    /// None.
     Nothing,
+    /// Those with an index, from 0, below this one.
     Before(usize),
+    /// All.
     Everything,
 }
 
+/// A position in a file, as far as the types of contexts depend on it.
 #[derive(Clone, Copy)]
 pub struct Position<'a> {
+    /// The section it is in.
     pub section: Section<'a>,
+    /// The steps of the section that an expression there sees.
     pub seen: Seen,
 }
 

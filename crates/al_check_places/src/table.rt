@@ -10,15 +10,21 @@ use al_expr_names::{Context, Function};
 /// A key of a path: a name, or any key.
 #[derive(Clone, Copy)]
 pub enum Key {
+    /// This key, compared exactly.
     Named(&'static str),
+    /// Any key, as the id of a job or an input is.
     Id,
 }
 
-/// What is available at the places whose keys begin with a path.
+/// What is available at the places whose keys begin with a path; the indices of sequences aren't
+/// keys (GitHub, "Contexts reference", "Context availability").
 #[derive(Clone, Copy)]
 pub struct Row {
+    /// The path from the root of a workflow.
     pub path: &'static [Key],
+    /// The contexts that are available.
     pub contexts: &'static [Context],
+    /// The special functions that are available.
     pub special: &'static [Function],
 }
 
@@ -121,7 +127,8 @@ const TABLE: &[Row] = &[
     ),
 ];
 
-/// The rows of the table. Doesn't allocate.
+/// The rows of the table of availability in workflows. Doesn't allocate. Of several rows whose
+/// paths a place begins with, the one with the longest path counts.
 pub fn rows() -> &'static [Row]
     ensures { map row_view result.now ≡ table }
 {

@@ -29,13 +29,18 @@ use std::alloc::{AllocError, Global};
 /// A scalar with expressions, and what their checks depend on.
 #[derive(Clone, Copy)]
 pub struct Place<'a> {
+    /// The scalar.
     pub scalar: &'a Scalar,
     /// Whether only a scalar is accepted there.
     pub is_scalar_only: bool,
-    /// Which contexts and special functions are available; `None` if all are, or in an action.
+    /// The row of the contexts and special functions that are available there; `None` in a workflow
+    /// where all contexts and no special functions are, and in an action.
     pub available: Option<&'static Row>,
+    /// Whether it is a condition: without `${{`, its whole text is an expression.
     pub is_condition: bool,
+    /// Whether it is a step's script, of which untrusted text would become part.
     pub is_script: bool,
+    /// Where it is, as far as the types of contexts depend on that.
     pub position: Position<'a>,
 }
 
@@ -236,9 +241,11 @@ fn find_entry<'a>(
 }
 
 /// The scalars of a file that have expressions, in the order of the file: conditions, and texts
-/// with `${{`. Other texts have no fault.
+/// with `${{`. Other texts have no fault of an expression.
 ///
-/// Fails with `AllocError` when out of memory.
+/// # Errors
+///
+/// `AllocError` if memory runs out.
 pub fn places(alloc: Global, kind: FileKind, root: &Node) -> Result<Vec<Place<'_>>, AllocError>
     ensures { IfOk result (λ v. map place_of v.items ≡ places_of kind (view root.now)) }
 {

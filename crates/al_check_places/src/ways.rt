@@ -79,7 +79,7 @@ impl<'a> Way<'a> {
     }
 }
 
-/// Below `on` of a workflow, only what begins with these is checked.
+/// Below `on` of a workflow, only what is at these paths or below them has expressions.
 pub const OF_CALL: &[&[Key]] = &[
     &[
         Named("on"),
@@ -97,7 +97,7 @@ pub const OF_CALL: &[&[Key]] = &[
     ],
 ];
 
-/// What begins with these has no expressions, elsewhere in a workflow.
+/// What is at these paths of a workflow, or below them, has no expressions.
 pub const NOT_IN_WORKFLOW: &[&[Key]] = &[
     &[Named("jobs"), Id, Named("needs")],
     &[Named("jobs"), Id, Named("uses")],
@@ -105,20 +105,21 @@ pub const NOT_IN_WORKFLOW: &[&[Key]] = &[
     &[Named("jobs"), Id, Named("steps"), Named("uses")],
 ];
 
-/// Outside `runs` of an action, only these have expressions.
+/// Outside `runs` of an action, only what is at these paths or below them has expressions.
 pub const OF_INTERFACE: &[&[Key]] = &[
     &[Named("inputs"), Id, Named("default")],
     &[Named("outputs"), Id, Named("value")],
 ];
 
-/// What begins with these has no expressions, in `runs` of an action.
+/// What is at these paths of an action, in its `runs`, or below them, has no expressions.
 pub const NOT_IN_RUNS: &[&[Key]] = &[
     &[Named("runs"), Named("using")],
     &[Named("runs"), Named("steps"), Named("id")],
     &[Named("runs"), Named("steps"), Named("uses")],
 ];
 
-/// Conditions: their whole text is an expression, if it has no `${{`.
+/// The paths of conditions: their whole text is an expression, if it has no `${{` (GitHub,
+/// "Evaluate expressions in workflows and actions").
 pub const CONDITIONS: &[&[Key]] = &[
     &[Named("jobs"), Id, Named("if")],
     &[Named("jobs"), Id, Named("steps"), Named("if")],
@@ -127,7 +128,8 @@ pub const CONDITIONS: &[&[Key]] = &[
     &[Named("runs"), Named("post-if")],
 ];
 
-/// The scripts of steps, of which untrusted text would become part.
+/// The paths of the scripts of steps, of which untrusted text would become part (GitHub, "Script
+/// injections").
 pub const SCRIPTS: &[&[Key]] = &[
     &[Named("jobs"), Id, Named("steps"), Named("run")],
     &[Named("runs"), Named("steps"), Named("run")],

@@ -1,5 +1,6 @@
 -- Files that a run took, in the order in which it put them.
-use Rattle.std.specs.Prelude.{◌≡◌, ℕ, true, nat_eq, codes, drop, fold, if◌then◌else◌, map, List, [], ◌∷◌, ◌++◌, None, Vec}
+use Rattle.std.specs.Prelude.{◌≡◌, ◌&&◌, ℕ, true, nat_eq, codes, drop, fold, if◌then◌else◌, map, List, [], ◌∷◌, ◌++◌}
+use Rattle.std.specs.Prelude.{Option, None, Some, Vec}
 use Rattle.std.specs.Cmp.Lexicographic.{slice_cmp}
 use Rattle.std.specs.Global.{Global}
 use Rattle.std.specs.List.{flat_map, starts_with}
@@ -9,6 +10,7 @@ use Rattle.al_session.specs.Affected.{is_among}
 use Rattle.al_session.specs.Folder.{Folder, bytes_at, paths_of, with_file}
 use Rattle.al_session.specs.Meaning.{candidates}
 use Rattle.al_check.specs.Linting.{linting}
+use Rattle.al_cli.specs.Disk.{Holding, IsHeld, is_file}
 use Rattle.al_cli.specs.Linted.{AreTaken, folder_with}
 
 -- at its turn, none of these has the path of a file put before
@@ -16,7 +18,8 @@ abbrev pub AreNew : Folder → List (List ℕ × List ℕ) → Type 0
 AreNew folder [] = Unit {0}
 AreNew folder (e ∷ es) = (bytes_at folder e.0 ≡ None) × AreNew (with_file folder e.0 e.1) es
 
--- Files that can be put one after another into an empty folder: none of them is refused, and none replaces another.
+-- Files that can be put one after another into an empty folder: none of them is refused, and none
+-- replaces another.
 pub record AreGathered (files : List (List ℕ × List ℕ)) : Type 0 where
   pub taken : AreTaken [] files
   pub new : AreNew [] files
@@ -35,10 +38,22 @@ each_once paths = fold with_path [] paths
 abbrev pub path_named : List ℕ → List ℕ
 path_named file = if starts_with nat_eq file (codes "./") then drop 2 file else file
 
--- the paths that FILEs ask for: their own, in order, each once; if there are no FILEs, ascending ones
-abbrev pub AreAsked : List (List ℕ) → List (List ℕ) → Type 0
-AreAsked [] paths = IsStrictlySortedBy (slice_cmp nat_cmp) paths
-AreAsked (file ∷ files) paths = paths ≡ each_once (map path_named (file ∷ files))
+-- the folder has each of these files
+abbrev pub AreHeld : Option Holding → List (List ℕ × List ℕ) → Type 0
+AreHeld holding [] = Unit {0}
+AreHeld holding (e ∷ es) = IsHeld holding e.0 e.1 × AreHeld holding es
+
+-- these are the paths that the folder lists and has a file at
+abbrev pub AreListedFiles : Option Holding → List (List ℕ) → Type 0
+AreListedFiles None paths = Unit {0}
+AreListedFiles (Some folder) paths = (listed : List (List ℕ)) × (folder.listed ≡ Some listed)
+    × ((p : List ℕ) → is_among p paths ≡ (is_among p listed && is_file (folder.has p)))
+
+-- the paths that FILEs ask for: their own, in order, each once; if there are no FILEs, those of the
+-- files that the folder lists, ascending
+abbrev pub AreAsked : Option Holding → List (List ℕ) → List (List ℕ) → Type 0
+AreAsked holding [] paths = IsStrictlySortedBy (slice_cmp nat_cmp) paths × AreListedFiles holding paths
+AreAsked holding (file ∷ files) paths = paths ≡ each_once (map path_named (file ∷ files))
 
 -- the candidates of the calls of these files
 abbrev pub called_by : List (List ℕ × List ℕ) → List (List ℕ)
@@ -49,19 +64,21 @@ abbrev pub AreCalled : List (List ℕ × List ℕ) → List (List ℕ × List �
 AreCalled first [] = Unit {0}
 AreCalled first (e ∷ es) = (is_among e.0 (called_by first) ≡ true) × AreCalled (first ++ e ∷ []) es
 
--- Files in order: first those that these FILEs ask for, then others, each called by a file before it.
-pub record AreInOrder (words : List (List ℕ)) (files : List (List ℕ × List ℕ)) : Type 0 where
+-- Files of a folder in order: first those that these FILEs ask for, then others, each called by a
+-- file before it.
+pub record AreInOrder (holding : Option Holding) (words : List (List ℕ)) (files : List (List ℕ × List ℕ)) : Type 0 where
   pub first : List (List ℕ × List ℕ)
   pub after : List (List ℕ × List ℕ)
   pub all : files ≡ first ++ after
-  pub asked : AreAsked words (paths_of first)
+  pub asked : AreAsked holding words (paths_of first)
   pub called : AreCalled first after
+  pub held : AreHeld holding files
 
 -- the folder of the files that these FILEs ask for, and of those that they call
-pub record IsGathered (words : List (List ℕ)) (folder : Folder) : Type 0 where
+pub record IsGathered (holding : Option Holding) (words : List (List ℕ)) (folder : Folder) : Type 0 where
   pub files : List (List ℕ × List ℕ)
   pub gathered : AreGathered files
-  pub ordered : AreInOrder words files
+  pub ordered : AreInOrder holding words files
   pub made : folder ≡ folder_with [] files
 
 -- a file's path and bytes

@@ -1,6 +1,6 @@
 //! The files that a run without a script lints: those that it is given, and those that they call.
 
-ghost use Rattle.std.specs.Prelude.{◌≡◌, ◌≤◌, [], IfOk, OnOk, None, length, map, string_bytes, true};
+ghost use Rattle.std.specs.Prelude.{◌≡◌, ◌≤◌, [], IfOk, OnOk, Ok, None, length, map, string_bytes, true};
 ghost use Rattle.std.specs.List.{AllByRecursion};
 ghost use Rattle.std.specs.List.Sorted.{IsStrictlySortedBy};
 ghost use Rattle.std.specs.Ordering.{nat_cmp};
@@ -8,11 +8,13 @@ ghost use Rattle.std.specs.Cmp.Lexicographic.{slice_cmp};
 ghost use Rattle.al_base.specs.Limits.{largest_file};
 ghost use Rattle.al_session.specs.Affected.{is_among};
 ghost use Rattle.al_session.specs.Folder.{paths_of};
-ghost use Rattle.al_cli.specs.Private.Turns.{AreAmong, IsCalling, IsTakenAs, IsTakenIfThere};
-ghost use Rattle.al_cli.specs.Taken.{AreGathered, AreInOrder, IsGathered, owned_entry};
-ghost use Rattle.al_cli.specs.Taken.{called_by, each_once, path_named};
+ghost use Rattle.al_cli.specs.Disk.{TellsListing};
+ghost use Rattle.al_cli.specs.Private.Turns.{AreAmong, IsCalling, IsFoundAt, IsTakenAs};
+ghost use Rattle.al_cli.specs.Private.Turns.{IsTakenIfThere, KeepsHeld};
+ghost use Rattle.al_cli.specs.Taken.{AreAsked, AreGathered, AreHeld, AreInOrder, AreListedFiles};
+ghost use Rattle.al_cli.specs.Taken.{IsGathered, called_by, each_once, owned_entry, path_named};
 
-use crate::disk::{Disk, DiskError, Entry, SystemFolder, WORKFLOWS};
+use crate::disk::{Disk, DiskError, Entry, SystemDisk, WORKFLOWS};
 use crate::taken::TakenFiles;
 use al_base::{Path, path_fault, printable};
 use al_check::Actions;
@@ -32,12 +34,13 @@ pub type Loaded = SessionBuilder<Actions>;
 pub struct Gathered {
     /// The files, read but not yet checked.
     pub files: Loaded,
-    /// The paths at which links lead out of the folder, in the order in which they were tried, as a line of standard error has
-    /// them, with a `?` for each control character.
+    /// The paths at which links point outside the folder, in the order in which they were tried,
+    /// with a `?` for each control character.
     pub outside: Vec<String>,
 }
 
-/// Why files were not gathered. A path is as a fatal line has it, with a `?` for each control character.
+/// Why files were not gathered. A path is as a fatal line has it, with a `?` for each control
+/// character.
 #[derive(Debug, Drop, Error)]
 pub enum Unread {
     /// The file or folder at this path can't be read.
@@ -63,17 +66,22 @@ impl<T: Drop> From<AllocFailed<T>> for Unread {
     }
 }
 
-/// The files that a run without a script lints, each with its path and its bytes: those that the words name, or else all
-/// workflows of the folder in order of path; and then, one after another, each file that those before it call and that is
-/// there. Of what the folder lists only regular files are taken, with links followed; anything else of a name can't be read. A
-/// listed or called file whose symbolic links point outside the folder is skipped, and can't be read where the words name it. Each path
-/// is in the list once, and [`lint_all`](crate::lint_all) refuses none of the files; the folder that they make there is the one that
-/// [`load`] answers.
+/// The files that a run without a script lints, each with its path and its bytes.
+///
+/// First come those that the command line names, in its order, or without any the workflows of the
+/// folder in byte order of their paths; then, one after another, each file that those before it
+/// call and that is there. Each path is in the list once. Only regular files are taken, with links
+/// followed. A listed or called file whose symbolic links point outside the folder is skipped, and
+/// can't be read if the command line names it.
+///
+/// [`lint_all`](crate::lint_all) accepts each of the files; the folder that they make there is the
+/// one of [`load`]. The contract says how the files follow from one another; that they and their
+/// bytes are those of the disk is only tested.
 ///
 /// # Errors
 ///
-/// [`Unread`], for the first file that can't be read or is refused, or where memory ran out. A path is refused before it is read, and of a
-/// file at most 1,048,577 bytes are asked for.
+/// [`Unread`], for the first file that can't be read or is refused, or if memory runs out. A path
+/// is refused before it is read, and of a file at most 1,048,577 bytes are asked for.
 #[tactic(auto, using(crate::proofs::Turns::all_small))]
 pub fn gather<R: Files + RandomSource + AllocGlobal + Clone + Drop>(
     rt: &R,
@@ -82,40 +90,25 @@ pub fn gather<R: Files + RandomSource + AllocGlobal + Clone + Drop>(
 ) -> Result<Vec<(Path, Vec<u8>)>, Unread>
     ensures gathered { IfOk result (λ files. AreGathered (map owned_entry files.items)) }
     ensures ordered { IfOk result (λ files.
-        AreInOrder (map (λ file. file.now) words.now.files.items)
+        AreInOrder None (map (λ file. file.now) words.now.files.items)
         (map owned_entry files.items)) }
     ensures small { IfOk result (λ files.
         AllByRecursion (λ e. length e.1 ≤ largest_file) (map owned_entry files.items)) }
 {
-    let gathering = gather_from(alloc, &mut SystemFolder::new(rt, words.root), words)?;
+    let gathering = gather_from(alloc, &mut SystemDisk::new(rt), words)?;
     Ok(gathering.files.into_list()?)
 }
 
-/// The same files, read and not checked yet, and the paths that were skipped.
+/// The files of a disk that such a run lints, as a builder that has read them and checked none, and
+/// the paths that were skipped.
 ///
 /// # Errors
 ///
 /// Those of [`gather`].
-pub fn load<R: Files + RandomSource + AllocGlobal + Clone + Drop>(
-    rt: &R,
-    alloc: Global,
-    words: &Words,
-) -> Result<Gathered, Unread>
+pub fn load<D: Disk>(alloc: Global, disk: &mut D, words: &Words) -> Result<Gathered, Unread>
     ensures gathered { IfOk result (λ loaded.
-        IsGathered (map (λ file. file.now) words.now.files.items) loaded.files.folder) }
-    ensures unchecked { IfOk result (λ loaded. loaded.files.checks ≡ 0) }
-{
-    load_from(alloc, &mut SystemFolder::new(rt, words.root), words)
-}
-
-/// The same for any disk.
-///
-/// # Errors
-///
-/// Those of [`gather`].
-pub fn load_from<D: Disk>(alloc: Global, disk: &mut D, words: &Words) -> Result<Gathered, Unread>
-    ensures gathered { IfOk result (λ loaded.
-        IsGathered (map (λ file. file.now) words.now.files.items) loaded.files.folder) }
+        IsGathered (D.holds disk.old words.now.root.now)
+        (map (λ file. file.now) words.now.files.items) loaded.files.folder) }
     ensures unchecked { IfOk result (λ loaded. loaded.files.checks ≡ 0) }
 {
     let gathering = gather_from(alloc, disk, words)?;
@@ -128,7 +121,8 @@ pub fn load_from<D: Disk>(alloc: Global, disk: &mut D, words: &Words) -> Result<
 // Takes the files that the command line asks for, and then those that they call.
 fn gather_from<D: Disk>(alloc: Global, disk: &mut D, words: &Words) -> Result<Gathering, Unread>
     ensures { IfOk result (λ gathering.
-        AreInOrder (map (λ file. file.now) words.now.files.items) gathering.files) }
+        AreInOrder (D.holds disk.old words.now.root.now)
+        (map (λ file. file.now) words.now.files.items) gathering.files) }
 {
     let mut gathering = Gathering {
         files: TakenFiles::new(alloc, disk.seed()),
@@ -138,12 +132,8 @@ fn gather_from<D: Disk>(alloc: Global, disk: &mut D, words: &Words) -> Result<Ga
         },
         outside: Vec::new(alloc),
     };
-    if words.files.is_empty() {
-        gathering.take_listed(disk)?;
-    } else {
-        gathering.take_named(disk, &words.files)?;
-    }
-    gathering.take_called(disk)?;
+    gathering.take_asked(disk, words)?;
+    gathering.take_called(disk, words.root)?;
     Ok(gathering)
 }
 
@@ -215,21 +205,63 @@ struct Gathering {
 }
 
 impl Gathering {
-    // Takes the files that the folder lists.
-    fn take_listed<D: Disk>(&mut self, disk: &mut D) -> Result<(), Unread>
+    // Takes the files that the command line names, or else those that the folder lists.
+    fn take_asked<D: Disk>(&mut self, disk: &mut D, words: &Words) -> Result<(), Unread>
         requires files { (self.old).files ≡ [] }
-        ensures files { OnOk result
-            (IsStrictlySortedBy (slice_cmp nat_cmp) (paths_of (self.new).files)) }
+        ensures asked { OnOk result (AreAsked (D.holds disk.old words.now.root.now)
+            (map (λ file. file.now) words.now.files.items) (paths_of (self.new).files)) }
+        ensures held { OnOk result
+            (AreHeld (D.holds disk.old words.now.root.now) (self.new).files) }
+        ensures stays { OnOk result
+            (D.holds disk.new words.now.root.now ≡ D.holds disk.old words.now.root.now) }
         ensures waiting { OnOk result
             ((self.new).candidates.waiting.keys ≡ (self.old).candidates.waiting.keys) }
     {
-        let listed = match disk.workflows(self.files.alloc()) {
-            Ok(listed) => listed,
-            Err(error) => return Err(self.disk_failure(WORKFLOWS, error)),
-        };
-        for path in &listed {
+        if words.files.is_empty() {
+            return self.take_listed(disk, words.root);
+        }
+        self.take_named(disk, words.root, &words.files)
+    }
+
+    // Takes the files that the folder lists.
+    fn take_listed<D: Disk>(&mut self, disk: &mut D, root: &str) -> Result<(), Unread>
+        requires files { (self.old).files ≡ [] }
+        ensures files { OnOk result
+            (IsStrictlySortedBy (slice_cmp nat_cmp) (paths_of (self.new).files)) }
+        ensures listed { OnOk result
+            (AreListedFiles (D.holds disk.old root.now) (paths_of (self.new).files)) }
+        ensures held { OnOk result (AreHeld (D.holds disk.old root.now) (self.new).files) }
+        ensures stays { OnOk result (D.holds disk.new root.now ≡ D.holds disk.old root.now) }
+        ensures waiting { OnOk result
+            ((self.new).candidates.waiting.keys ≡ (self.old).candidates.waiting.keys) }
+    {
+        match disk.workflows(self.files.alloc(), root) {
+            Ok(listed) => self.take_each(disk, root, &listed),
+            Err(error) => Err(self.disk_failure(WORKFLOWS, error)),
+        }
+    }
+
+    // Takes the files at the paths that the folder lists.
+    fn take_each<D: Disk>(
+        &mut self,
+        disk: &mut D,
+        root: &str,
+        listed: &BTreeSet<String>,
+    ) -> Result<(), Unread>
+        requires files { (self.old).files ≡ [] }
+        requires listed { TellsListing (D.holds disk.old root.now) (Ok listed.now) }
+        ensures files { OnOk result
+            (IsStrictlySortedBy (slice_cmp nat_cmp) (paths_of (self.new).files)) }
+        ensures listed { OnOk result
+            (AreListedFiles (D.holds disk.old root.now) (paths_of (self.new).files)) }
+        ensures held { OnOk result (AreHeld (D.holds disk.old root.now) (self.new).files) }
+        ensures stays { OnOk result (D.holds disk.new root.now ≡ D.holds disk.old root.now) }
+        ensures waiting { OnOk result
+            ((self.new).candidates.waiting.keys ≡ (self.old).candidates.waiting.keys) }
+    {
+        for path in listed {
             let path = path.as_str();
-            match self.take(disk, path)? {
+            match self.take(disk, root, path)? {
                 Found::File => {}
                 Found::Outside => self.pass_over(path)?,
                 Found::Absent => return Err(self.disk_failure(path, DiskError::Unreadable)),
@@ -239,16 +271,23 @@ impl Gathering {
     }
 
     // Takes the files that the command line names, which must exist.
-    fn take_named<D: Disk>(&mut self, disk: &mut D, files: &[&str]) -> Result<(), Unread>
+    fn take_named<D: Disk>(
+        &mut self,
+        disk: &mut D,
+        root: &str,
+        files: &[&str],
+    ) -> Result<(), Unread>
         requires files { (self.old).files ≡ [] }
         ensures files { OnOk result (paths_of (self.new).files
             ≡ each_once (map path_named (map (λ file. file.now) files.now))) }
+        ensures held { OnOk result (AreHeld (D.holds disk.old root.now) (self.new).files) }
+        ensures stays { OnOk result (D.holds disk.new root.now ≡ D.holds disk.old root.now) }
         ensures waiting { OnOk result
             ((self.new).candidates.waiting.keys ≡ (self.old).candidates.waiting.keys) }
     {
         for file in files {
             let path = without_dot(file);
-            match self.take(disk, path)? {
+            match self.take(disk, root, path)? {
                 Found::File => {}
                 _ => return Err(self.disk_failure(path, DiskError::Unreadable)),
             }
@@ -257,17 +296,19 @@ impl Gathering {
     }
 
     // Takes each called file that exists: each time the first path that hasn't been tried.
-    fn take_called<D: Disk>(&mut self, disk: &mut D) -> Result<(), Unread>
-        requires { (self.old).candidates.waiting.keys ≡ [] }
-        ensures { OnOk result (IsCalling (self.old).files (self.new).files
+    fn take_called<D: Disk>(&mut self, disk: &mut D, root: &str) -> Result<(), Unread>
+        requires waiting { (self.old).candidates.waiting.keys ≡ [] }
+        requires held { AreHeld (D.holds disk.old root.now) (self.old).files }
+        ensures calling { OnOk result (IsCalling (self.old).files (self.new).files
             (self.new).candidates.waiting.keys) }
+        ensures held { OnOk result (AreHeld (D.holds disk.old root.now) (self.new).files) }
     {
         for number in 0..self.files.len() {
             self.candidates.add_calls(&self.files, number)?;
         }
         for _ in 0..u64::MAX {
             match self.candidates.waiting.pop_first() {
-                Some(path) => self.take_candidate(disk, path)?,
+                Some(path) => self.take_candidate(disk, root, path)?,
                 None => break,
             }
         }
@@ -275,17 +316,25 @@ impl Gathering {
     }
 
     // Takes a called file, if it exists.
-    fn take_candidate<D: Disk>(&mut self, disk: &mut D, path: String) -> Result<(), Unread>
+    fn take_candidate<D: Disk>(
+        &mut self,
+        disk: &mut D,
+        root: &str,
+        path: String,
+    ) -> Result<(), Unread>
         requires waiting { AreAmong (called_by (self.old).files)
             (self.old).candidates.waiting.keys }
         requires called { is_among (string_bytes path) (called_by (self.old).files) ≡ true }
         ensures taken { OnOk result (IsTakenIfThere (string_bytes path)
             (self.old).files (self.new).files) }
+        ensures held { OnOk result (KeepsHeld (D.holds disk.old root.now)
+            (self.old).files (self.new).files) }
+        ensures stays { OnOk result (D.holds disk.new root.now ≡ D.holds disk.old root.now) }
         ensures waiting { OnOk result (AreAmong (called_by (self.new).files)
             (self.new).candidates.waiting.keys) }
     {
         let number = self.files.len();
-        match self.take(disk, path.as_str())? {
+        match self.take(disk, root, path.as_str())? {
             Found::File => self.candidates.add_calls(&self.files, number),
             Found::Outside => {
                 self.pass_over(path.as_str())?;
@@ -312,9 +361,13 @@ impl Gathering {
     }
 
     // Takes a file unless it was taken before; returns whether it exists.
-    fn take<D: Disk>(&mut self, disk: &mut D, path: &str) -> Result<Found, Unread>
+    fn take<D: Disk>(&mut self, disk: &mut D, root: &str, path: &str) -> Result<Found, Unread>
         ensures taken { IfOk result (λ found.
             IsTakenAs found path.now (self.old).files (self.new).files) }
+        ensures told { IfOk result (λ found. IsFoundAt (D.holds disk.old root.now) path.now found) }
+        ensures held { OnOk result (KeepsHeld (D.holds disk.old root.now)
+            (self.old).files (self.new).files) }
+        ensures stays { OnOk result (D.holds disk.new root.now ≡ D.holds disk.old root.now) }
         ensures waiting { (self.new).candidates.waiting.keys
             ≡ (self.old).candidates.waiting.keys }
     {
@@ -327,7 +380,7 @@ impl Gathering {
         if self.files.has(path) {
             return Ok(Found::File);
         }
-        match disk.read(self.files.alloc(), path) {
+        match disk.read(self.files.alloc(), root, path) {
             Ok(Entry::File(bytes)) => match self.files.put(path, bytes) {
                 Ok(()) => Ok(Found::File),
                 Err(reason) => Err(self.refusal(path, reason)),

@@ -15,8 +15,8 @@ use al_session::{Refused, Seed, Target};
 use std::alloc::{AllocError, Global};
 use std::marker::Model;
 
-/// Files that were read and put one after another, each path once, but not yet checked. Contracts see their paths and bytes, in the order
-/// in which they were put.
+/// Files that were read and put one after another, each path once, but not yet checked. Contracts
+/// see their paths and bytes, in the order in which they were put.
 #[derive(Drop)]
 pub(crate) struct TakenFiles {
     files: Loaded,
@@ -83,7 +83,8 @@ impl TakenFiles {
     ///
     /// # Errors
     ///
-    /// Those of [`SessionBuilder::put`](al_session::SessionBuilder::put). The files are then unchanged.
+    /// Those of [`SessionBuilder::put`](al_session::SessionBuilder::put). The files are then
+    /// unchanged.
     pub(crate) fn put(&mut self, path: &str, bytes: Vec<u8>) -> Result<(), Refused>
         requires { bytes_at (folder_with [] self.old) path.now ≡ None }
         ensures put { OnOk result (self.new ≡ self.old ++ (path.now, bytes.items) ∷ []) }
@@ -110,7 +111,7 @@ impl TakenFiles {
     ///
     /// # Errors
     ///
-    /// [`AllocError`] if memory runs out.
+    /// `AllocError` if memory runs out.
     pub(crate) fn into_list(self) -> Result<Vec<(Path, Vec<u8>)>, AllocError>
         ensures gathered { AreGathered self }
         ensures list { IfOk result (λ files. map owned_entry files.items ≡ self) }
@@ -120,7 +121,8 @@ impl TakenFiles {
     }
 }
 
-// Puts a file after those at these paths, none of which is its own. On failure the files and the paths are unchanged.
+// Puts a file after those at these paths, none of which is its own. On failure the files and the
+// paths are unchanged.
 fn put_after(
     files: &mut Loaded,
     order: &mut Vec<Path>,

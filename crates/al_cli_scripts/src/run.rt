@@ -245,7 +245,7 @@ fn reply_to_edit<W: Write>(writer: &mut Output<W>, reply: Result<Edit, Refused>)
     }
 }
 
-/// The number of a refusal (E1 to E6).
+/// The number of a refusal: 1 to 6, for E1 to E6.
 pub fn number_of(refused: Refused) -> u64
     ensures { result ≡ replies.refusal_number refused }
 {

@@ -7,9 +7,9 @@ use Rattle.clap.specs.Words.{one_of, matches_of, new_app, new_rule}
 use Rattle.clap.specs.Words.{with_rule}
 use Rattle.clap.specs.Simple.{on_top}
 use Rattle.clap.specs.declared.builder.action.ArgAction.{ArgAction}
-use Rattle.clap.specs.declared.builder.action.ArgAction.TheVariants.{Append, Help, Set, SetTrue}
+use Rattle.clap.specs.declared.builder.action.ArgAction.TheVariants.{Append, Set, SetTrue}
 use Rattle.clap.specs.declared.error.kind.ErrorKind.{ErrorKind}
-use Rattle.clap.specs.declared.error.kind.ErrorKind.TheVariants.{DisplayHelp, OutOfMemory}
+use Rattle.clap.specs.declared.error.kind.ErrorKind.TheVariants.{OutOfMemory}
 use Rattle.al_cli_words.specs.declared.words.Words.{Words}
 use Rattle.al_cli_words.specs.declared.words.Usage.{Usage}
 use Rattle.al_cli_words.specs.declared.words.Usage.TheVariants as usage
@@ -24,7 +24,7 @@ root_rule = record (option_rule (codes "root") Set) { value_names = 1 }
 abbrev pub file_rule : Rule
 file_rule = record (new_rule (codes "file")) { action = Some Append; value_names = 1 }
 
--- there is no `-h`, and `--help` is an ordinary option
+-- there is no `-h`, and `--help` is a flag
 abbrev pub bare_app : App
 bare_app = on_top (λ s. record s { disable_help_flag = true }) (new_app (codes "actionlint"))
 
@@ -32,7 +32,7 @@ bare_app = on_top (λ s. record s { disable_help_flag = true }) (new_app (codes 
 unfoldable pub linter_app : App
 linter_app = fold with_rule bare_app
     (option_rule (codes "oneline") SetTrue ∷ root_rule ∷ option_rule (codes "session") SetTrue
-    ∷ option_rule (codes "help") Help ∷ file_rule ∷ [])
+    ∷ option_rule (codes "help") SetTrue ∷ file_rule ∷ [])
 
 -- what clap finds in these words, the first of which is the program's name
 unfoldable pub rows_in : List Text → List Row
@@ -50,9 +50,14 @@ root_in rows = first_of (codes "root") rows
 abbrev pub files_in : List Row → List Text
 files_in rows = unwrap_or (all_of (codes "file") rows) []
 
--- the matches ask for these words: the flags, DIR and FILEs are theirs, and a script has neither
--- FILEs nor DIR
+-- `--help` is given or not
+abbrev pub HasHelp : List Row → Bool → Type 0
+HasHelp rows given = IsFlag (one_of (codes "help") rows) given
+
+-- the matches ask for these words, and not for help: the flags, DIR and FILEs are theirs, and a
+-- script has neither FILEs nor DIR
 pub record AsksFor (rows : List Row) (words : Words) : Type 0 where
+  pub no_help : HasHelp rows false
   pub oneline : IsFlag (one_of (codes "oneline") rows) words.oneline
   pub session : IsFlag (one_of (codes "session") rows) words.session
   pub root : words.root.now ≡ unwrap_or (root_in rows) (codes ".")
@@ -64,28 +69,36 @@ pub record AreBeside (rows : List Row) : Type 0 where
   pub session : IsFlag (one_of (codes "session") rows) true
   pub beside : (root_in rows ≢ None) ⊎ (files_in rows ≢ [])
 
--- the kinds of errors that clap may return in place of matches; none if the words ask for a run
+-- the kinds of errors that clap may return in place of matches; none if nothing is wrong with the
+-- words by themselves
 unfoldable pub kinds_in : List Text → Kinds
 kinds_in words = fault_of linter_app words
 
 -- how an error of this kind is reported
 abbrev pub IsSaidAs : ErrorKind → Usage → Type 0
 IsSaidAs kind usage.Session = ⊥
-IsSaidAs kind (usage.Help text) = kind ≡ DisplayHelp
-IsSaidAs kind (usage.Clap text) = (kind ≢ DisplayHelp) × (kind ≢ OutOfMemory)
+IsSaidAs kind (usage.Help text) = ⊥
+IsSaidAs kind (usage.Clap text) = kind ≢ OutOfMemory
 IsSaidAs kind usage.Memory = Unit {0}
+
+-- help, unless memory ran out
+abbrev pub IsHelp : Usage → Type 0
+IsHelp usage.Session = ⊥
+IsHelp (usage.Help text) = Unit {0}
+IsHelp (usage.Clap text) = ⊥
+IsHelp usage.Memory = Unit {0}
 
 -- why matches don't ask for a run
 abbrev pub IsNoRun : List Row → Usage → Type 0
 IsNoRun rows usage.Session = AreBeside rows
-IsNoRun rows (usage.Help text) = ⊥
+IsNoRun rows (usage.Help text) = HasHelp rows true
 IsNoRun rows (usage.Clap text) = ⊥
 IsNoRun rows usage.Memory = Unit {0}
 
--- why words don't ask for a run: they combine what can't be combined; they ask for help; they are
--- wrong in another way; or memory ran out
+-- why words don't ask for a run: they combine what can't be combined; nothing is wrong with them,
+-- and they ask for help; they are wrong in another way; or memory ran out
 abbrev pub IsUsage : List Text → Usage → Type 0
 IsUsage words usage.Session = (kinds_in words ≡ []) × AreBeside (rows_in words)
-IsUsage words (usage.Help text) = IsAmong DisplayHelp (kinds_in words)
-IsUsage words (usage.Clap text) = (kind : ErrorKind) × (kind ≢ DisplayHelp) × IsAmong kind (kinds_in words)
+IsUsage words (usage.Help text) = (kinds_in words ≡ []) × HasHelp (rows_in words) true
+IsUsage words (usage.Clap text) = (kind : ErrorKind) × IsAmong kind (kinds_in words)
 IsUsage words usage.Memory = Unit {0}

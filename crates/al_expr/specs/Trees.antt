@@ -9,8 +9,8 @@ use Rattle.al_expr.specs.declared.trees.Ty as code
 use Rattle.al_expr.specs.declared.trees.Field.{Field}
 use Rattle.al_expr.specs.declared.trees.Ty.{Row_of-Field, end_of-Field, more_of-Field, Held-Ty-Object-1, None', Some'}
 
--- an object with these fields, where the first with each name counts, and with others of a type if others are
--- possible
+-- an object with these fields, where the first with each name counts, and with others of a type if
+-- others are possible
 abbrev pub listed_parts : List TypedName → Optional → Parts
 listed_parts ts rest = parts_with (firsts ts) rest
 

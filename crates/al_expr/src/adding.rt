@@ -15,8 +15,8 @@ use crate::trees::{Field, Ty};
 use al_expr_types::{FieldMap, Scalar, Types};
 use std::alloc::AllocError;
 
-/// Adds the objects of a tree to a table, and returns the type that the tree stands for. Fails with `AllocError` when out of memory, as
-/// everything here does.
+/// Adds the objects of a tree to a table, and returns the type that the tree stands for. Fails with
+/// `AllocError` when out of memory, as everything here does.
 #[tactic(auto, using(al_base::proofs::Growing::growth))]
 #[cycle(adding)]
 fn add<'a>(types: &mut Types<'a>, ty: &'a Ty) -> Result<al_expr_types::Ty, AllocError>

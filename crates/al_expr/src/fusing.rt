@@ -15,9 +15,14 @@ use crate::trees::{Field, Ty};
 use al_expr_types::Scalar;
 use std::alloc::{AllocError, Global};
 
-/// What two types have in common: any with any or null, a type with itself, a string for two other scalars, an array of what the elements
-/// have in common, and an object with all fields of both, where those with one name are fused, as are the types of other fields if both
-/// have one. Everything else is any. Fails with `AllocError` when out of memory.
+/// What two types have in common: any with any or null, a type with itself, a string for two other
+/// scalars, an array of what the elements have in common, and an object with all fields of both,
+/// where those with one name are fused, as are the types of other fields if both have one.
+/// Everything else is any. The result depends neither on the order of the two nor on repetitions.
+///
+/// # Errors
+///
+/// `AllocError` if memory runs out.
 pub fn fuse(alloc: Global, a: Ty, b: Ty) -> Result<Ty, AllocError>
     ensures { IfOk result (λ t. ty_of t ≡ fuse_type (ty_of a) (ty_of b)) }
 {

@@ -10,7 +10,8 @@ use crate::trees::{Field, Ty};
 use al_base::is_same_name;
 use std::alloc::{AllocError, Global};
 
-/// Fields with different names, ignoring ASCII case, and the type of others, if others are possible.
+/// Fields with different names, ignoring ASCII case, and the type of others, if others are
+/// possible.
 #[derive(Drop)]
 pub(crate) struct Listing {
     pub fields: Vec<Field>,
@@ -46,7 +47,8 @@ impl Listing {
         }
     }
 
-    /// A copy of an object's fields: of those with one name, the first. Fails with `AllocError` when out of memory.
+    /// A copy of an object's fields: of those with one name, the first. Fails with `AllocError`
+    /// when out of memory.
     pub(crate) fn of(
         alloc: Global,
         fields: &[Field],

@@ -6,8 +6,9 @@ ghost use Rattle.al_expr.specs.Trees.{ty_of};
 
 use crate::trees::Ty;
 
-/// Whether a value of the type `from` can be used where one of the type `to` is expected: any and every type, a
-/// scalar as itself, null, number and bool as a string, arrays by their elements, and an object as an object.
+/// Whether a value of the type `from` can be used where one of the type `to` is expected: any and
+/// every type, a scalar as itself, null, number and bool as a string, arrays by their elements, and
+/// an object as an object. Doesn't allocate; recursion is as deep as the arrays.
 pub fn assignable(from: &Ty, to: &Ty) -> bool
     ensures { result ≡ assignable_type (ty_of from.now) (ty_of to.now) }
 {

@@ -13,7 +13,16 @@ use crate::trees::{Field, Ty};
 use al_expr_types::{Base, Fields, NameList, Object, Scalar, Types};
 use std::alloc::{AllocError, Global};
 
-/// The tree of a type of a table. Fails with `AllocError` when out of memory, as everything here does.
+/// The tree of a type of a table, such as that of [`type_of`](al_expr_typing::type_of).
+///
+/// # Requires
+///
+/// `ty` is a type of `types`: its object, if it has one, is in the table.
+///
+/// # Errors
+///
+/// `AllocError` if memory runs out, or if the type has an object that extends another, which only
+/// the contexts of files have.
 pub fn tree_of(types: &Types<'_>, ty: al_expr_types::Ty) -> Result<Ty, AllocError>
     requires { is_known types.now ty ≡ true }
     ensures { IfOk result (λ t. ty_of t ≡ type_at types.now ty) }
@@ -122,7 +131,8 @@ fn rest_tree(
     }
 }
 
-// A field with a name and a type. Names come from trees or from a file that was read, so they are UTF-8.
+// A field with a name and a type. Names come from trees or from a file that was read, so they are
+// UTF-8.
 fn field_with(alloc: Global, name: &[u8], ty: Ty) -> Result<Field, AllocError>
     ensures { IfOk result (λ f. field_of f ≡ (name.now, ty_of ty)) }
 {

@@ -10,17 +10,23 @@ use al_types::Form;
 #[derive(Drop)]
 #[cycle(trees)]
 pub enum Ty {
+    /// Nothing is known of the value.
     Any,
+    /// Null.
     Null,
+    /// A number.
     Number,
+    /// A boolean.
     Bool,
+    /// A string.
     String,
     /// An array, with the type of its elements.
     Array(Box<Ty>),
     /// An object. Of fields whose names differ only in ASCII case, the first counts.
     Object {
+        /// The fields, in order.
         fields: Vec<Field>,
-        /// The type of all other fields, if others are possible.
+        /// The type of all other fields; `None` if there are no others.
         rest: Option<Box<Ty>>,
     },
 }
@@ -29,7 +35,9 @@ pub enum Ty {
 #[derive(Drop)]
 #[cycle(trees)]
 pub struct Field {
+    /// The name, as it is spelled.
     pub name: String,
+    /// The type of the value.
     pub ty: Ty,
 }
 

@@ -35,8 +35,8 @@ fn available() -> Available {
     }
 }
 
-/// A step's `run`, where these are available. `github` is an object with the string `head_ref` and the field `event` of
-/// type any; every other context is any.
+/// A step's `run`, where these are available. `github` is an object with the string `head_ref` and
+/// the field `event` of type any; every other context is any.
 fn step_run(alloc: Global) -> Result<Scope, AllocError> {
     let mut fields = Vec::new(alloc);
     fields.push(field(alloc, "head_ref", Ty::String)?)?;
@@ -61,7 +61,8 @@ fn step_run(alloc: Global) -> Result<Scope, AllocError> {
     })
 }
 
-/// An expression, the form of its type, and its one fault, if it has one, with the place and texts of the fault.
+/// An expression, the form of its type, and its one fault, if it has one, with the place and texts
+/// of the fault.
 struct Row {
     content: &'static str,
     form: Form,

@@ -16,10 +16,17 @@ use al_expr_grammar::Expr;
 use al_expr_types::Types;
 use std::alloc::{AllocError, Global};
 
-/// The type of an expression under a scope. Adds the faults in it, X7 to X17 and X19, to `out` in the order in which
-/// it is read. Spans are byte offsets in the expression's content. Fails with `AllocError` when out of memory; `out`
-/// then still begins with what it held. Recursion is at most as deep as the expression's nesting or the types of the
-/// scope.
+/// The type of an expression under a scope. Adds the faults in it, X7 to X17 and X19, to `out` in
+/// the order in which it is read (GitHub, "Evaluate expressions in workflows and actions" and
+/// "Contexts reference"). Spans are byte offsets in the expression's content, and arguments of
+/// faults are texts of the content, control bytes included.
+///
+/// Recursion is at most as deep as the expression's nesting, which is at most 50 in a tree of
+/// [`parse_expr`](al_expr_grammar::parse_expr), or as the types of the scope.
+///
+/// # Errors
+///
+/// `AllocError` if memory runs out; `out` then still begins with what it held.
 pub fn type_of(
     alloc: Global,
     env: &Scope,

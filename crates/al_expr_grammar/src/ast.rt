@@ -6,7 +6,9 @@ use al_base::Span;
 /// A name or literal as written, and its span in the content.
 #[derive(Clone, Copy)]
 pub struct Word<'a> {
+    /// The text as written.
     pub text: &'a str,
+    /// Its bytes in the content.
     pub span: Span,
 }
 
@@ -53,7 +55,10 @@ pub enum PathStep<'a> {
 #[derive(Drop)]
 #[cycle(ast)]
 pub struct Operand<'a> {
+    /// The operator before the operand.
     pub operator: Operator,
+    /// The operator's bytes in the content.
     pub at: Span,
+    /// The operand.
     pub expr: Expr<'a>,
 }

@@ -10,10 +10,12 @@ use crate::lexer::last_quote;
 use al_base::{ExpressionCode, Fault, Span};
 use std::alloc::{AllocError, Global};
 
-/// The content between the braces of a `${{ .. }}`, and its span in the text.
+/// The content between the braces of a `${{ .. }}`, without them.
 #[derive(Clone, Copy)]
 pub struct Chunk<'a> {
+    /// The content, with the blanks around the expression.
     pub content: &'a str,
+    /// The content's bytes in the text.
     pub span: Span,
 }
 
@@ -78,12 +80,20 @@ fn open_fault(start: usize, content: &[u8]) -> Option<Fault>
     last_quote(content).map(|quote| unclosed_text(start + quote))
 }
 
-/// The closed chunks of a text, in order, and the fault at its end, if there is one. Spans are byte
-/// offsets in the text.
+/// The closed chunks of a text, in order, and the fault at its end, if there is one (GitHub,
+/// "Evaluate expressions in workflows and actions"). Spans are byte offsets in the text, from 0.
 ///
 /// `${{` opens a chunk; in it a single quote switches quoting, and the first `}}` outside quotes
 /// closes it. The fault is X2 at the last quote if the text ends in quotes, otherwise X20 at the
-/// `${{` of a chunk that isn't closed. Fails with `AllocError` when out of memory.
+/// `${{` of a chunk that isn't closed. The chunks before it are given too.
+///
+/// # Requires
+///
+/// At most 4,194,304 bytes. No text of a file that `read_yaml` takes is longer.
+///
+/// # Errors
+///
+/// `AllocError` if memory runs out.
 pub fn chunks(alloc: Global, text: &str) -> Result<(Vec<Chunk>, Option<Fault>), AllocError>
     requires { length text.now ≤ longest_text }
     ensures spans { IfOk result (λ r. map span_of_chunk r.0.items ≡ (chunks_of text.now).chunks) }

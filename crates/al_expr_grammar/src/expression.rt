@@ -52,13 +52,18 @@ fn parse_fault(
     }
 }
 
-/// The tree of a content, or the fault because of which it has none. Spans are byte offsets in the
-/// content.
+/// The tree of a content, or the fault because of which it has none (GitHub, "Evaluate expressions
+/// in workflows and actions"). Spans are byte offsets in the content, from 0. Takes a content of
+/// any length.
 ///
 /// The fault is X5 if the content is longer than 21,000 bytes; otherwise X1 or X2 of its tokens;
 /// otherwise X3 at the first unexpected token, or X6 at the token at which the nesting reaches 51;
-/// otherwise X4 at the content's end, if its tokens end too early. Fails with `AllocError` when out
-/// of memory.
+/// otherwise X4 at the content's end, if its tokens end too early. An argument of a fault is a
+/// token as written, control bytes included.
+///
+/// # Errors
+///
+/// `AllocError` if memory runs out. The inner `Err` is the content's fault.
 pub fn parse_expr(alloc: Global, content: &str) -> Result<Result<Expr<'_>, Fault>, AllocError>
     ensures tree { IfOk result (λ r. IfOk r (λ e. Spells content.now (expr_view e))) }
     ensures none { IfOk result (λ r. IfOk r (λ e. fault_of_content content.now ≡ None)) }

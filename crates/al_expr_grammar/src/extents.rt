@@ -10,7 +10,8 @@ ghost use Rattle.al_expr_grammar.specs.View.{expr_view, step_of, operand_of};
 use crate::ast::{Expr, Operand, PathStep};
 use al_base::Span;
 
-/// The span of an expression, its outer brackets included.
+/// The bytes of an expression in its content, from its first token to its last, outer brackets
+/// included. Takes time linear in its nesting.
 #[tactic(auto, using(crate::proofs::TreeViews::tree_views))]
 #[cycle(extents)]
 pub fn extent(expr: &Expr<'_>) -> Span

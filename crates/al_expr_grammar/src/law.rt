@@ -5,12 +5,12 @@ ghost use Rattle.al_expr_grammar.specs.Inside.{ExtentLies, TokenFaultLies};
 ghost use Rattle.al_expr_grammar.specs.Law.{FaultsSpellNothing, NoWayOn, OneTree, SomeTree};
 ghost use Rattle.al_expr_grammar.specs.Law.{TreeIsSpelled};
 
-/// The law of the grammar and the table of next steps.
+/// The law of the grammar and the table of next steps, for proofs; does nothing at run time.
 ///
 /// A list of tokens in which the table finds no fault spells exactly one tree. One with an
 /// unexpected token, or that ends too early, spells none, and neither does any list that begins
 /// with the tokens up to and including that one. The tree by which a content without a fault is
-/// checked is the one that it spells. Does nothing at run time.
+/// checked is the one that it spells.
 pub fn grammar()
     ensures refused { FaultsSpellNothing }
     ensures nothing { NoWayOn }

@@ -151,8 +151,16 @@ pub fn last_quote(bytes: &[u8]) -> Option<usize>
 
 /// The tokens of a content, in order, with their texts and spans in it.
 ///
-/// The fault is X1 at the first character that begins no token, or X2 at the content's last quote
-/// if a string is never closed. Fails with `AllocError` when out of memory.
+/// The inner `Err` is the content's fault: X1 at the first character that begins no token, or X2 at
+/// the content's last quote if a string is never closed.
+///
+/// # Requires
+///
+/// At most 4,194,304 bytes.
+///
+/// # Errors
+///
+/// `AllocError` if memory runs out.
 #[tactic(auto, using(crate::proofs::Lexing::past_blank))]
 pub fn lex(alloc: Global, content: &str) -> Result<Result<Vec<Token>, Fault>, AllocError>
     requires { length content.now ≤ longest_text }

@@ -5,41 +5,66 @@ ghost use Rattle.al_expr_names.specs.Names as names;
 
 use al_base::is_same_name;
 
-/// A context of GitHub Actions, such as `github` or `steps`.
+/// A context of GitHub Actions, such as `github` or `steps` (GitHub, "Contexts reference").
 #[derive(Clone, Copy, PartialEq, Eq, Debug)]
 pub enum Context {
+    /// `github`: the run, and the event that triggered it.
     Github,
+    /// `env`: environment variables.
     Env,
+    /// `vars`: configuration variables.
     Vars,
+    /// `secrets`.
     Secrets,
+    /// `runner`: the machine that runs the job.
     Runner,
+    /// `job`: the job that runs.
     Job,
+    /// `strategy`: how the jobs of the matrix run.
     Strategy,
+    /// `needs`: the jobs that the job waits for, with their outputs.
     Needs,
+    /// `jobs`: all jobs, for the outputs of a workflow that is called.
     Jobs,
+    /// `steps`: the steps with an id that have run in the job.
     Steps,
+    /// `matrix`: the job's values of the matrix.
     Matrix,
+    /// `inputs` of a workflow or an action.
     Inputs,
 }
 
-/// A function that an expression can call, such as `contains`.
+/// A function that an expression can call, such as `contains` (GitHub, "Evaluate expressions in
+/// workflows and actions").
 #[derive(Clone, Copy, PartialEq, Eq, Debug)]
 pub enum Function {
+    /// `contains(search, item)`.
     Contains,
+    /// `startsWith(searchString, searchValue)`.
     StartsWith,
+    /// `endsWith(searchString, searchValue)`.
     EndsWith,
+    /// `format(string, value0, ..)`.
     Format,
+    /// `join(array, separator)`; the separator is optional.
     Join,
+    /// `toJSON(value)`.
     ToJson,
+    /// `fromJSON(value)`.
     FromJson,
+    /// `hashFiles(path, ..)`; special.
     HashFiles,
+    /// `success()`; special.
     Success,
+    /// `always()`; special.
     Always,
+    /// `cancelled()`; special.
     Cancelled,
+    /// `failure()`; special.
     Failure,
 }
 
-/// All contexts.
+/// All contexts, in the order of the variants.
 pub const CONTEXTS: [Context; 12] = [
     Context::Github,
     Context::Env,
@@ -91,7 +116,7 @@ impl Context {
         }
     }
 
-    /// The context with a name, ignoring ASCII case.
+    /// The context with a name, ignoring ASCII case; `None` if there is none.
     pub fn from_name(name: &str) -> Option<Context>
         ensures { result ≡ names.context_of name.now }
     {
@@ -124,7 +149,7 @@ impl Function {
         }
     }
 
-    /// The function with a name, ignoring ASCII case.
+    /// The function with a name, ignoring ASCII case; `None` if there is none.
     pub fn from_name(name: &str) -> Option<Function>
         ensures { result ≡ names.function_of name.now }
     {

@@ -5,7 +5,8 @@ ghost use Rattle.al_expr_names.specs.Scopes.{can_call};
 
 use crate::names::{Context, Function};
 
-/// The functions that are available only at some places.
+/// The functions that are available only at some places (GitHub, "Contexts reference", "Context
+/// availability").
 pub const SPECIAL_FUNCTIONS: [Function; 5] = [
     Function::HashFiles,
     Function::Always,
@@ -14,11 +15,13 @@ pub const SPECIAL_FUNCTIONS: [Function; 5] = [
     Function::Failure,
 ];
 
-/// What a place makes available.
+/// What a place makes available. A place that makes everything available has
+/// [`CONTEXTS`](crate::CONTEXTS) and [`SPECIAL_FUNCTIONS`].
 #[derive(Clone, Copy)]
 pub struct Available {
+    /// The contexts that it may name, in any order.
     pub contexts: &'static [Context],
-    /// Special functions.
+    /// The functions of [`SPECIAL_FUNCTIONS`] that it may call.
     pub special: &'static [Function],
 }
 

@@ -9,6 +9,7 @@ use crate::names::Function;
 /// Which types an argument can have.
 #[derive(Clone, Copy, PartialEq, Eq, Debug)]
 pub enum Wanted {
+    /// Anything.
     Any,
     /// Anything but an object.
     NotObject,
@@ -23,32 +24,40 @@ pub enum Wanted {
 /// How many arguments a function takes, and of which types.
 #[derive(Clone, Copy, PartialEq, Eq, Debug)]
 pub enum Parameters {
+    /// None.
     Zero,
+    /// One.
     One(Wanted),
+    /// Two.
     Two(Wanted, Wanted),
-    /// The second is optional.
+    /// One or two: the second is optional.
     OneOrTwo(Wanted, Wanted),
-    /// Any number of further arguments, each of which may be the second.
+    /// The first, and any number of further arguments, each of which may be the second.
     OneOrMore(Wanted, Wanted),
 }
 
 /// What a function returns.
 #[derive(Clone, Copy, PartialEq, Eq, Debug)]
 pub enum Returned {
+    /// A value of any type.
     Any,
+    /// A boolean.
     Bool,
+    /// A string.
     String,
 }
 
 /// What a function takes and returns.
 #[derive(Clone, Copy, PartialEq, Eq, Debug)]
 pub struct Signature {
+    /// The arguments that it takes.
     pub parameters: Parameters,
+    /// The type that it returns.
     pub returned: Returned,
 }
 
 /// The signature of the function with a name, ignoring ASCII case; `None` if there is no such
-/// function.
+/// function (GitHub, "Evaluate expressions in workflows and actions").
 pub fn signature_of(name: &str) -> Option<Signature>
     ensures { result ≡ option_map signature (function_of name.now) }
 {
@@ -102,7 +111,8 @@ impl Parameters {
         }
     }
 
-    /// Which types the argument at an index, from 0, can have.
+    /// Which types the argument at an index, from 0, can have; of an argument too many, what the
+    /// last parameter can, or anything if there is none.
     pub fn parameter_at(self, index: usize) -> Wanted
         ensures { result ≡ parameter_at self index }
     {

@@ -1,5 +1,5 @@
--- What a table keeps of objects: what all fields of one, and the type of others, have in common; and its fields by
--- name.
+-- What a table keeps of objects: what all fields of one, and the type of others, have in common;
+-- and its fields by name.
 use Rattle.std.specs.Prelude.{◌≡◌, ◌<◌, ℕ, List, length, true, Option, Some}
 use Rattle.std.specs.BTreeMap.{BTreeMap, get}
 use Rattle.std.specs.Coded.{×_prop, Π_prop, →_prop, le_prop}

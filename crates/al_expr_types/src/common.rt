@@ -1,4 +1,5 @@
-//! What several objects have in common, as an object: one object for each list, however it came about.
+//! What several objects have in common, as an object: one object for each list, however it came
+//! about.
 
 ghost use Rattle.std.specs.Prelude.{◌≡◌, ◌<◌, ◌≤◌, IfOk, IfSome, IsTrue, length, map, true};
 ghost use Rattle.al_base.specs.Growth.{BeginsWith};
@@ -27,7 +28,8 @@ impl<'a> Types<'a> {
         }
     }
 
-    /// The object that is common to those of a list, found or made. Fails with `AllocError` when out of memory, as everything here does.
+    /// The object that is common to those of a list, found or made. Fails with `AllocError` when
+    /// out of memory, as everything here does.
     fn object_of(&mut self, list: Vec<u32>) -> Result<u32, AllocError>
         requires { are_below (length self.old.objects.items) list.items ≡ true }
         ensures object { IfOk result (λ n. object_in (objects_of self.new) n
@@ -51,8 +53,9 @@ impl<'a> Types<'a> {
         matches!(self.objects.get(n as usize), Some(Object::Common(_)))
     }
 
-    /// The objects that take the place of an object in a list: those that it is common to, unless they are a block or more and the first
-    /// of them is common to no others. Such a list is a part of others.
+    /// The objects that take the place of an object in a list: those that it is common to, unless
+    /// they are a block or more and the first of them is common to no others. Such a list is a part
+    /// of others.
     fn in_its_place(&self, n: u32) -> Result<Option<Rc<Vec<u32>>>, AllocError>
         requires { n < length self.now.objects.items }
         ensures common { IfOk result (λ of. IfSome of (λ list. object_in (objects_of self.now) n
@@ -114,7 +117,8 @@ impl<'a> Types<'a> {
         list.len()
     }
 
-    /// A list of objects, with blocks of those after the leading common ones as one object: lists that grow share their blocks.
+    /// A list of objects, with blocks of those after the leading common ones as one object: lists
+    /// that grow share their blocks.
     fn grouped(&mut self, flat: Vec<u32>) -> Result<Vec<u32>, AllocError>
         requires { are_below (length self.old.objects.items) flat.items ≡ true }
         ensures common { IfOk result (λ list. fuse_all (map (object_in (objects_of self.new)) list.items)
@@ -135,8 +139,8 @@ impl<'a> Types<'a> {
         Ok(list)
     }
 
-    /// The object that is common to these. It is found again by each list that has the same objects in the same order, each once, with
-    /// others in place of those that are common to them.
+    /// The object that is common to these. It is found again by each list that has the same objects
+    /// in the same order, each once, with others in place of those that are common to them.
     pub(crate) fn common_object(&mut self, objects: &[u32]) -> Result<u32, AllocError>
         requires { are_below (length self.old.objects.items) objects.now ≡ true }
         ensures object { IfOk result (λ n. object_in (objects_of self.new) n

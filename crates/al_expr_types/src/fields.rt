@@ -34,8 +34,8 @@ impl<'a> FieldMap<'a> {
         }
     }
 
-    /// These fields, which must have different names. Fails with `AllocError` when out of memory, as everything here
-    /// does.
+    /// These fields, which must have different names. Fails with `AllocError` when out of memory,
+    /// as everything here does.
     pub fn of(alloc: Global, fields: &[(&'a [u8], Ty)]) -> Result<FieldMap<'a>, AllocError>
         requires { are_once (map (λ f. f.0.now) fields.now) ≡ true }
         ensures names { IfOk result (λ m. names_in m.names ≡ map (λ f. f.0.now) fields.now) }
@@ -101,7 +101,8 @@ impl<'a> FieldMap<'a> {
         self.types.get(i).copied()
     }
 
-    /// The type of the field with a name, ignoring ASCII case, if it is among the first `count` fields.
+    /// The type of the field with a name, ignoring ASCII case, if it is among the first `count`
+    /// fields.
     pub fn get(&self, name: &[u8], count: usize) -> Result<Option<Ty>, AllocError>
         ensures ty { IfOk result (λ found. (ms : List Parts) → option_map (type_in ms) found
             ≡ field_at name.now

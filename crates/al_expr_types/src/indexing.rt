@@ -70,6 +70,14 @@ impl<'a> Types<'a> {
     }
 
     /// The fields of an object by name, and the type of others, as one list.
+    ///
+    /// # Requires
+    ///
+    /// `n` is the number of an object of this table.
+    ///
+    /// # Errors
+    ///
+    /// `AllocError` if memory runs out.
     pub fn index(&mut self, n: u32) -> Result<Fields<'a>, AllocError>
         requires { n < length self.old.objects.items }
         ensures index { IfOk result (λ f. IsFieldIndex self.new.objects.items n f) }
@@ -98,8 +106,8 @@ impl<'a> Types<'a> {
         }
     }
 
-    /// How many objects a search for a field of an object goes through, and how many fields these have. Makes the index of each object
-    /// that was searched often enough to pay for it.
+    /// How many objects a search for a field of an object goes through, and how many fields these
+    /// have. Makes the index of each object that was searched often enough to pay for it.
     pub(crate) fn prepare(&mut self, n: u32) -> Result<(usize, usize), AllocError>
         requires { n < length self.old.objects.items }
         ensures kept { BeginsWith (objects_of self.new) (objects_of self.old) }

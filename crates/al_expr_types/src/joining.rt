@@ -39,7 +39,8 @@ fn any_in_arrays(arrays: u32) -> Ty
     }
 }
 
-/// What two types have in common. Fails with `AllocError` when out of memory, as everything here does.
+/// What two types have in common. Fails with `AllocError` when out of memory, as everything here
+/// does.
 fn join_types(alloc: Global, a: Ty, b: Ty) -> Result<Join, AllocError>
     ensures ty { IfOk result
         (λ j. (ms : List Parts)

@@ -1,6 +1,7 @@
-//! The types of expressions. A type is a scalar or an object, nested in some arrays. The objects of a file are in one table, each made
-//! once, and types refer to them by number. What several objects have in common is an object too, given by their numbers, and so is a
-//! prefix of an object's fields.
+//! The types of expressions. A type is a scalar or an object, nested in some arrays. The objects of
+//! a file are in one table, each made once, and types refer to them by number. What several objects
+//! have in common is an object too, given by their numbers, and so is a prefix of an object's
+//! fields.
 #![tactic(auto)]
 
 mod common;

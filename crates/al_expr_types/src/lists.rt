@@ -9,7 +9,8 @@ use std::alloc::{AllocError, Global};
 use std::collections::BTreeMap;
 use std::rc::Rc;
 
-/// A list of objects. A digest comes first: it mostly differs where the lists do, and is fast to compare.
+/// A list of objects. A digest comes first: it mostly differs where the lists do, and is fast to
+/// compare.
 type Key = (u64, Rc<Vec<u32>>);
 
 /// Finds the object that is common to the objects of a list. Affects only time and memory.
@@ -31,7 +32,8 @@ fn digest(objects: &[u32]) -> u64 {
     digest
 }
 
-/// Whether an object is in a list, given the position at which it should be. If it is missed, it is only taken twice.
+/// Whether an object is in a list, given the position at which it should be. If it is missed, it is
+/// only taken twice.
 fn is_at(list: &[u32], position: Option<&usize>, n: u32) -> bool
     ensures { IsTrue result → Contains list.now n }
 {
@@ -50,7 +52,8 @@ impl Lists {
         }
     }
 
-    /// Keeps the position of an object. Fails with `AllocError` when out of memory, as everything here does.
+    /// Keeps the position of an object. Fails with `AllocError` when out of memory, as everything
+    /// here does.
     fn put(&mut self, n: u32, position: usize) -> Result<(), AllocError> {
         let i = n as usize;
         if i >= self.positions.len() {

@@ -49,7 +49,8 @@ impl<'a> FieldJoins<'a> {
         self.names
     }
 
-    /// Adds the type of a field: joined with what the fields with its name have in common, if there are any.
+    /// Adds the type of a field: joined with what the fields with its name have in common, if there
+    /// are any.
     pub fn and(self, name: &'a [u8], ty: Ty) -> Result<FieldJoins<'a>, AllocError>
         ensures found { IfOk result (λ m. (ms : List Parts) → found_in ms m
             ≡ and_named (found_in ms self.entry) name.now (Present (type_in ms ty))) }

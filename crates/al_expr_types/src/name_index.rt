@@ -10,13 +10,13 @@ use std::alloc::{AllocError, Global};
 use std::collections::BTreeMap;
 use std::collections::btree_map::Entry;
 
-/// The first position of each name, ignoring ASCII case. Adding and finding a name takes time logarithmic in their number, and linear in
-/// the name's length.
+/// The first position of each name, ignoring ASCII case. Adding and finding a name takes time
+/// logarithmic in their number, and linear in the name's length.
 #[derive(Drop)]
 pub(crate) struct NameIndex {
     alloc: Global,
-    /// Positions by the names in lower case. The last bytes come first as a number: numbers are fast to compare, and
-    /// mostly differ.
+    /// Positions by the names in lower case. The last bytes come first as a number: numbers are
+    /// fast to compare, and mostly differ.
     positions: BTreeMap<(u64, Vec<u8>), usize>,
 }
 

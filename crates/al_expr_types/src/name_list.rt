@@ -1,4 +1,5 @@
-//! Names that own their text. They compare equal only if their bytes are the same, ASCII case included.
+//! Names that own their text. They compare equal only if their bytes are the same, ASCII case
+//! included.
 
 ghost use Rattle.std.specs.Prelude.{◌≡◌, IfOk, map};
 ghost use Rattle.al_base.specs.NamePlaces.{TellsFirsts, is_first_name, name_place, name_position};
@@ -9,7 +10,7 @@ use std::alloc::{AllocError, Global};
 use std::convert::AsSlice;
 use std::marker::Model;
 
-/// A name. Contracts see its bytes.
+/// A name, of any bytes. Contracts see them.
 #[derive(Drop)]
 pub struct Name {
     bytes: Vec<u8>,
@@ -24,7 +25,11 @@ impl Model for Name {
 }
 
 impl Name {
-    /// The name with these bytes. Fails with `AllocError` when out of memory.
+    /// The name with a copy of these bytes.
+    ///
+    /// # Errors
+    ///
+    /// `AllocError` if memory runs out.
     pub fn new(alloc: Global, bytes: &[u8]) -> Result<Name, AllocError>
         ensures { IfOk result (λ n. n ≡ bytes.now) }
     {
@@ -33,14 +38,18 @@ impl Name {
         })
     }
 
-    /// Its bytes.
+    /// The name's bytes.
     pub fn as_bytes(&self) -> &[u8]
         ensures { result.now ≡ self.now }
     {
         self.bytes.as_slice()
     }
 
-    /// A copy. Fails with `AllocError` when out of memory.
+    /// A copy, with memory of its own.
+    ///
+    /// # Errors
+    ///
+    /// `AllocError` if memory runs out.
     pub fn copy(&self, alloc: Global) -> Result<Name, AllocError>
         ensures { IfOk result (λ copy. copy ≡ self.now) }
     {
@@ -76,8 +85,8 @@ impl Eq for Name {
     ghost laws = { nat_list_eq_equiv };
 }
 
-/// Names in order, and the position of each. It owns them, so that types of many files can share it. Contracts see the list of
-/// their bytes.
+/// Names in order, and the position of each. It owns them, so that types of many files can share
+/// it. Contracts see the list of their bytes.
 #[derive(Drop)]
 pub struct NameList {
     names: Vec<Name>,
@@ -123,7 +132,11 @@ impl NameList {
     ghost use Rattle.std.specs.Prelude.{◌<◌, [], get_or, length};
     ghost use Rattle.al_base.specs.NamePlaces.{name_place};
 
-    /// The list of these names. Fails with `AllocError` when out of memory.
+    /// The list of these names, in their order.
+    ///
+    /// # Errors
+    ///
+    /// `AllocError` if memory runs out.
     pub fn new(names: Vec<Name>) -> Result<NameList, AllocError>
         ensures { IfOk result (λ l. l ≡ names.items) }
     {
@@ -132,21 +145,29 @@ impl NameList {
         Ok(NameList { names, positions })
     }
 
-    /// The names.
+    /// The names, in order.
     pub fn as_slice(&self) -> &[Name]
         ensures { result.now ≡ self.now }
     {
         self.names.as_slice()
     }
 
-    /// A copy. Fails with `AllocError` when out of memory.
+    /// A copy, with memory of its own.
+    ///
+    /// # Errors
+    ///
+    /// `AllocError` if memory runs out.
     pub fn copy(&self, alloc: Global) -> Result<NameList, AllocError>
         ensures { IfOk result (λ copy. copy ≡ self.now) }
     {
         NameList::new(copies_of(alloc, self.as_slice())?)
     }
 
-    /// The name at a position.
+    /// The bytes of the name at a position, from 0.
+    ///
+    /// # Requires
+    ///
+    /// `i` is less than the number of names.
     pub fn at(&self, i: usize) -> &[u8]
         requires { i < length self.now }
         ensures { result.now ≡ get_or self.now i result.now }
@@ -161,7 +182,12 @@ impl NameList {
         self.names.len()
     }
 
-    /// The position of a name, in any ASCII case. Fails with `AllocError` when out of memory, as below.
+    /// The first position of a name, from 0, ignoring ASCII case; `None` if it isn't in the list.
+    /// Takes time logarithmic in the number of names.
+    ///
+    /// # Errors
+    ///
+    /// `AllocError` if memory runs out.
     pub fn position(&self, name: &[u8]) -> Result<Option<usize>, AllocError>
         ensures { IfOk result (λ i. i ≡ name_place self.now name.now) }
     {

@@ -9,7 +9,8 @@ use crate::name_index::NameIndex;
 use al_base::is_same_name;
 use std::alloc::{AllocError, Global};
 
-/// Up to this many names are searched one by one, which takes no memory. Of more, the positions are kept.
+/// Up to this many names are searched one by one, which takes no memory. Of more, the positions are
+/// kept.
 const MOST_SCANNED: usize = 64;
 
 /// And up to this many if one is longer than `LONG`.
@@ -51,7 +52,8 @@ fn index_of(alloc: Global, names: &[&[u8]]) -> Result<NameIndex, AllocError>
     Ok(index)
 }
 
-/// The index of names before one more is added: the existing one, or a new one if they become too many to search one by one.
+/// The index of names before one more is added: the existing one, or a new one if they become too
+/// many to search one by one.
 fn index_for_more(
     alloc: Global,
     names: &[&[u8]],

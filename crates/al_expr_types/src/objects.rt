@@ -8,10 +8,12 @@ use crate::ty::Ty;
 use std::alloc::AllocError;
 use std::rc::Rc;
 
-/// The number of objects that are kept together: of the fields between two bases, and of a part of a list.
+/// The number of objects that are kept together: of the fields between two bases, and of a part of
+/// a list.
 pub(crate) const BLOCK: usize = 64;
 
-/// A prefix of some fields, and the type of all other fields, if others are possible. Prefixes share the fields.
+/// A prefix of some fields, and the type of all other fields, if others are possible. Prefixes
+/// share the fields.
 #[derive(Drop)]
 pub struct Fields<'a> {
     pub map: Rc<FieldMap<'a>>,
@@ -26,7 +28,8 @@ impl<'a> Fields<'a> {
     ghost use Rattle.al_expr_types.specs.FieldMaps.{fields_in, is_map_below};
     ghost use Rattle.al_expr_types.specs.Types.{are_fields_below, fields_parts, is_rest_below, rest_in};
 
-    /// All fields of a map, and the type of other fields, if others are possible. Fails with `AllocError` when out of memory.
+    /// All fields of a map, and the type of other fields, if others are possible. Fails with
+    /// `AllocError` when out of memory.
     pub(crate) fn of(map: FieldMap<'a>, rest: Option<Ty>) -> Result<Fields<'a>, AllocError>
         ensures parts { IfOk result (λ f. (ms : List Parts)
             → fields_parts ms f ≡ parts_with (fields_in ms map.entry) (rest_in ms rest)) }
@@ -46,8 +49,8 @@ pub struct Prefix {
     pub count: usize,
 }
 
-/// Fields that extend those of an earlier object: what all of them have in common is what that object's have, joined with the types after
-/// them.
+/// Fields that extend those of an earlier object: what all of them have in common is what that
+/// object's have, joined with the types after them.
 #[derive(Drop)]
 pub struct Extension<'a> {
     pub fields: Fields<'a>,

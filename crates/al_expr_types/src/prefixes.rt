@@ -14,18 +14,20 @@ use std::alloc::{AllocError, Global};
 use std::collections::BTreeMap;
 use std::rc::Rc;
 
-/// The fields of a map whose prefixes are needed, usually the shorter ones first. What all fields of a prefix have in common is computed
-/// from that of a base, a prefix with fewer than `BLOCK` fields less, and the types after it, so the time doesn't grow with the prefix.
+/// The fields of a map whose prefixes are needed, usually the shorter ones first. What all fields
+/// of a prefix have in common is computed from that of a base, a prefix with fewer than `BLOCK`
+/// fields less, and the types after it, so the time doesn't grow with the prefix.
 #[derive(Drop)]
 pub struct Prefixes<'a> {
     map: Rc<FieldMap<'a>>,
-    /// For each type of the map, the position at which its object first occurs. Affects only time and memory.
+    /// For each type of the map, the position at which its object first occurs. Affects only time
+    /// and memory.
     firsts: Vec<usize>,
     base: Option<Prefix>,
 }
 
-/// For each type, the position at which its object first occurs, or its own position if it isn't an object. Fails with `AllocError` when
-/// out of memory, as everything here does.
+/// For each type, the position at which its object first occurs, or its own position if it isn't an
+/// object. Fails with `AllocError` when out of memory, as everything here does.
 fn first_positions(alloc: Global, types: &[Ty]) -> Result<Vec<usize>, AllocError> {
     let mut firsts = Vec::new(alloc);
     let mut places: BTreeMap<u32, usize> = BTreeMap::new(alloc);
@@ -100,7 +102,8 @@ impl<'a> Prefixes<'a> {
         })
     }
 
-    /// The number of a new object with the first `count` fields, based on one with fewer of them if there is one.
+    /// The number of a new object with the first `count` fields, based on one with fewer of them if
+    /// there is one.
     fn object(
         &self,
         types: &mut Types<'a>,

@@ -22,7 +22,8 @@ use crate::types::Types;
 use std::alloc::{AllocError, Global};
 use std::rc::Rc;
 
-/// Joins types with those so far. Fails with `AllocError` when out of memory, as everything here does.
+/// Joins types with those so far. Fails with `AllocError` when out of memory, as everything here
+/// does.
 fn and_all(alloc: Global, types: &[Ty], so_far: Join) -> Result<Join, AllocError>
     ensures part { IfOk result (λ j. (ms : List Parts)
         → join_in ms j
@@ -169,8 +170,16 @@ impl<'a> Types<'a> {
         }
     }
 
-    /// The type of a property of an object: that of the field with its name, otherwise that of other fields, if
-    /// others are possible.
+    /// The type of a property of an object: that of the field with its name, otherwise that of
+    /// other fields, if others are possible. Types made before stay valid.
+    ///
+    /// # Requires
+    ///
+    /// `n` is the number of an object of this table.
+    ///
+    /// # Errors
+    ///
+    /// `AllocError` if memory runs out.
     pub fn property(&mut self, n: u32, name: &[u8]) -> Result<Option<Ty>, AllocError>
         requires { n < length self.old.objects.items }
         ensures ty { IfOk result (λ t. option_map (type_at self.new) t
@@ -234,7 +243,8 @@ impl<'a> Types<'a> {
         }
     }
 
-    /// Computes what all fields of an object have in common for each object that it is made from, but for small ones.
+    /// Computes what all fields of an object have in common for each object that it is made from,
+    /// but for small ones.
     #[cycle(commons)]
     fn make_commons(&mut self, n: u32) -> Result<(), AllocError>
         requires { n < length self.old.objects.items }
@@ -256,7 +266,16 @@ impl<'a> Types<'a> {
         Ok(())
     }
 
-    /// What all fields of an object, and the type of others, have in common, which is computed once.
+    /// What all fields of an object, and the type of others, have in common, which is computed
+    /// once. Types made before stay valid.
+    ///
+    /// # Requires
+    ///
+    /// `n` is the number of an object of this table.
+    ///
+    /// # Errors
+    ///
+    /// `AllocError` if memory runs out.
     #[cycle(commons)]
     pub fn common(&mut self, n: u32) -> Result<Option<Ty>, AllocError>
         requires { n < length self.old.objects.items }

@@ -48,8 +48,8 @@ impl Scalar {
         }
     }
 
-    /// Whether a value of this type can be used where one of the other is expected: any and every type, each with itself, and all but any
-    /// as a string.
+    /// Whether a value of this type can be used where one of the other is expected: any and every
+    /// type, each with itself, and all but any as a string.
     fn is_assignable_to(self, to: Scalar) -> bool
         ensures { result ≡ assignable_type (scalar_type self) (scalar_type to) }
     {
@@ -172,7 +172,8 @@ impl Ty {
         matches!(self.form(), Form::Number | Form::Bool | Form::String)
     }
 
-    /// The type nested in this many more arrays. Fails with `AllocError` if there are too many arrays to count.
+    /// The type nested in this many more arrays. Fails with `AllocError` if there are too many
+    /// arrays to count.
     pub fn in_arrays(self, arrays: u32) -> Result<Ty, AllocError>
         ensures ty { IfOk result
             (λ t. (ms : List Parts) → type_in ms t ≡ arrays_of arrays (type_in ms self)) }
@@ -202,8 +203,9 @@ impl Ty {
         })
     }
 
-    /// Whether a value of this type can be used where one of the other is expected: any and every type, a scalar as itself, null, number
-    /// and bool as a string, arrays by their elements, and an object as an object.
+    /// Whether a value of this type can be used where one of the other is expected: any and every
+    /// type, a scalar as itself, null, number and bool as a string, arrays by their elements, and
+    /// an object as an object.
     pub fn is_assignable_to(self, to: Ty) -> bool
         ensures { (ms : List Parts) → result ≡ assignable_type (type_in ms self) (type_in ms to) }
     {

@@ -13,8 +13,8 @@ use crate::ty::{Base, Ty};
 use std::alloc::{AllocError, Global};
 use std::collections::BTreeMap;
 
-/// The objects of a file, each made once and identified by its number. Objects refer only to earlier ones, so adding one changes no
-/// other.
+/// The objects of a file, each made once and identified by its number. Objects refer only to
+/// earlier ones, so adding one changes no other.
 #[derive(Drop)]
 pub struct Types<'a> {
     pub(crate) alloc: Global,
@@ -65,7 +65,8 @@ impl<'a> Types<'a> {
         self.alloc
     }
 
-    /// Adds an object, and returns its number. Fails with `AllocError` when out of memory, as everything here does.
+    /// Adds an object, and returns its number. Fails with `AllocError` when out of memory, as
+    /// everything here does.
     pub(crate) fn push(&mut self, object: Object<'a>) -> Result<u32, AllocError>
         requires { is_object_below (length self.old.objects.items) object ≡ true }
         ensures objects { OnOk result
@@ -92,7 +93,11 @@ impl<'a> Types<'a> {
         self.objects.len()
     }
 
-    /// An object, by its number.
+    /// An object, by its number from 0.
+    ///
+    /// # Requires
+    ///
+    /// `n` is the number of an object of this table.
     pub fn object(&self, n: u32) -> &Object<'a>
         requires { n < length self.now.objects.items }
         ensures object { object_in (objects_of self.now) n
@@ -144,7 +149,16 @@ impl<'a> Types<'a> {
         Ok(())
     }
 
-    /// The type of an object with the fields of a map, and with others of the type `rest`, if given.
+    /// The type of an object with the fields of a map, and with others of the type `rest`, if
+    /// given. Types made before stay valid.
+    ///
+    /// # Requires
+    ///
+    /// The types of the fields and `rest` are types of this table.
+    ///
+    /// # Errors
+    ///
+    /// `AllocError` if memory runs out.
     pub fn fields(&mut self, map: FieldMap<'a>, rest: Option<Ty>) -> Result<Ty, AllocError>
         requires fields { is_map_below (length self.old.objects.items) map ≡ true }
         requires rest { is_rest_below (length self.old.objects.items) rest ≡ true }
@@ -159,7 +173,12 @@ impl<'a> Types<'a> {
         Ok(Ty::object(number))
     }
 
-    /// The type of an object with string fields of these names, and no others.
+    /// The type of an object with string fields of these names, and no others. Types made before
+    /// stay valid.
+    ///
+    /// # Errors
+    ///
+    /// `AllocError` if memory runs out.
     pub fn strings(&mut self, names: &'a NameList) -> Result<Ty, AllocError>
         ensures ty { IfOk result (λ t. type_at self.new t ≡ named_strings names.entry.now) }
         ensures known { IfOk result (λ t. is_known self.new t ≡ true) }
@@ -169,7 +188,16 @@ impl<'a> Types<'a> {
         Ok(Ty::object(number))
     }
 
-    /// The type that types have in common; `None` if there are no types.
+    /// The type that types have in common; `None` if there are no types. Types made before stay
+    /// valid.
+    ///
+    /// # Requires
+    ///
+    /// They are types of this table.
+    ///
+    /// # Errors
+    ///
+    /// `AllocError` if memory runs out.
     pub fn join_type(&mut self, join: Join) -> Result<Option<Ty>, AllocError>
         requires { is_join_below (length self.old.objects.items) join ≡ true }
         ensures ty { IfOk result
@@ -190,7 +218,15 @@ impl<'a> Types<'a> {
         }
     }
 
-    /// The type that types have in common; any if there are no types.
+    /// The type that types have in common; any if there are no types. Types made before stay valid.
+    ///
+    /// # Requires
+    ///
+    /// They are types of this table.
+    ///
+    /// # Errors
+    ///
+    /// `AllocError` if memory runs out.
     pub fn type_or_any(&mut self, join: Join) -> Result<Ty, AllocError>
         requires { is_join_below (length self.old.objects.items) join ≡ true }
         ensures ty { IfOk result
@@ -201,7 +237,15 @@ impl<'a> Types<'a> {
         Ok(self.join_type(join)?.unwrap_or(Ty::ANY))
     }
 
-    /// What two types have in common.
+    /// What two types have in common. Types made before stay valid.
+    ///
+    /// # Requires
+    ///
+    /// Both are types of this table.
+    ///
+    /// # Errors
+    ///
+    /// `AllocError` if memory runs out.
     pub fn join(&mut self, a: Ty, b: Ty) -> Result<Ty, AllocError>
         requires a { is_known self.old a ≡ true }
         requires b { is_known self.old b ≡ true }

@@ -60,8 +60,8 @@ or_fault f found = option_map_or (λ t. typed t []) found (typed Any (f ∷ []))
 abbrev pub not_indexable : Span → Typed
 not_indexable whole = typed Any (expression_fault code.NotIndexable whole [] ∷ [])
 
--- A property: the field, otherwise the type of other fields, otherwise X13. For an array, an array of the elements'
--- property. A scalar has none: X14.
+-- A property: the field, otherwise the type of other fields, otherwise X13. For an array, an array
+-- of the elements' property. A scalar has none: X14.
 abbrev pub property_of : List ℕ → Span → Span → Type' → Typed
 property_of n at whole Any = typed Any []
 property_of n at whole (ObjectOf fields rest all) =
@@ -69,7 +69,8 @@ property_of n at whole (ObjectOf fields rest all) =
 property_of n at whole (ArrayOf t) = and_then (property_of n at whole t) (λ u. typed (ArrayOf u) [])
 property_of n at whole _ = not_indexable whole
 
--- `.*` and `[*]`: for an object, an array of what all its fields and the type of others have in common, or of any if there is neither
+-- `.*` and `[*]`: for an object, an array of what all its fields and the type of others have in
+-- common, or of any if there is neither
 abbrev pub all_of : Span → Type' → Typed
 all_of whole Any = typed Any []
 all_of whole (ArrayOf t) = typed (ArrayOf t) []
@@ -95,7 +96,8 @@ parts_of (PropertyThen d b s ss) = b ∷ parts_of ss
 parts_of (AllThen a b ss) = codes "*" ∷ parts_of ss
 parts_of (IndexThen a t b ss) = option_map_or (λ text. text.0) (literal_text t) (codes "*") ∷ parts_of ss
 
--- X19: a whole path that is an untrusted chain, where its text could get into a script. It begins with a name: a bracket ends a chain.
+-- X19: a whole path that is an untrusted chain, where its text could get into a script. It begins
+-- with a name: a bracket ends a chain.
 abbrev pub untrusted_faults : Bool → Tree → PathSteps → List Fault
 untrusted_faults true (Named b s) ss =
     option_map_or (λ c. expression_fault code.Untrusted (extent (Path (Named b s) ss)) (c ∷ []) ∷ []) (untrusted_chain (b ∷ parts_of ss)) []
@@ -139,7 +141,8 @@ abbrev pub argument_faults : List ℕ → Span → Parameters → List (Type' ×
 argument_faults name at ps as' =
     if takes_count ps (length as') then wrong_arguments name ps 0 as' else expression_fault code.ArgumentCount at (name ∷ []) ∷ []
 
--- X17 at each argument that no placeholder uses. The first after the format string has index 0 and number 2.
+-- X17 at each argument that no placeholder uses. The first after the format string has index 0 and
+-- number 2.
 abbrev pub unused_arguments : ℕ → List Bool → List (Type' × Span) → List Fault
 unused_arguments n (u ∷ us) (a ∷ as') =
     give (not u) (expression_fault code.UnusedArgument a.1 (decimal (n + 2) ∷ [])) ++ unused_arguments (n + 1) us as'
@@ -167,8 +170,8 @@ call_from sc b s (Some f) ts as' =
 abbrev pub call : Scope → List ℕ → Span → Option Function → Arguments → List (Type' × Span) × List Fault → Typed
 call sc b s f ts given = faults_then given.1 (call_from sc b s f ts given.0)
 
--- The type of an expression, with its faults. The flag says that X19 isn't reported, as in an argument of a function
--- that only tests it, or in an operand of a comparison or of `!`.
+-- The type of an expression, with its faults. The flag says that X19 isn't reported, as in an
+-- argument of a function that only tests it, or in an operand of a comparison or of `!`.
 abbrev mutual
   pub meaning : Scope → Bool → Tree → Typed
   meaning sc safe (Constant w s) = typed (type_of_keyword w) []

@@ -1,4 +1,5 @@
--- Chains from `github` whose text is untrusted, such as the title of an issue or the name of a branch.
+-- Chains from `github` whose text is untrusted, such as the title of an issue or the name of a
+-- branch.
 use Rattle.std.specs.Prelude.{codes, ℕ, List, [], ◌∷◌, ◌==◌, Option, find}
 use Rattle.std.specs.List.{slice_split}
 use Rattle.std.specs.Option.{option_map_or}

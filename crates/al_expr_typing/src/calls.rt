@@ -1,4 +1,5 @@
-//! Calls of functions: whether the function is defined and available, and the faults of the arguments.
+//! Calls of functions: whether the function is defined and available, and the faults of the
+//! arguments.
 
 ghost use Rattle.std.specs.Prelude.{◌≡◌, ◌++◌, IfOk, OnOk, List, not, map, drop, true, ◌∷◌, [], ℕ};
 ghost use Rattle.al_expr_typing.specs.Meaning.{typed, faults_then, give, is_test, call_from};

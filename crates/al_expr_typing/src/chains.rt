@@ -27,8 +27,8 @@ pub(crate) struct TypedOperand {
     pub ty: Ty,
 }
 
-/// Adds an operand to those so far. What the branches of `||` and `&&` have in common becomes a type only at the end, so that a long
-/// chain makes one object.
+/// Adds an operand to those so far. What the branches of `||` and `&&` have in common becomes a
+/// type only at the end, so that a long chain makes one object.
 #[tactic(auto, using(al_base::proofs::Growing::growth))]
 pub(crate) fn operation(
     types: &mut Types<'_>,
@@ -76,8 +76,8 @@ fn is_logic(operator: Operator) -> bool
     matches!(operator, Operator::Or | Operator::And)
 }
 
-/// Whether operators choose between their operands, so that these are branches. All operators of a level are of one kind, so the first
-/// decides.
+/// Whether operators choose between their operands, so that these are branches. All operators of a
+/// level are of one kind, so the first decides.
 #[tactic(auto, using(al_expr_grammar::proofs::TreeViews::operand_view))]
 pub(crate) fn begins_logic(operands: &[Operand<'_>]) -> bool
     ensures { result ≡ begins_logic (operands_of (map operand_of operands.now)) }

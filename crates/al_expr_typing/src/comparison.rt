@@ -8,8 +8,8 @@ ghost use Rattle.al_expr_types.specs.Types.{type_in};
 use al_expr_grammar::Operator;
 use al_expr_types::Ty;
 
-/// Whether an operator can compare values of these types: an array or object can't be compared with a number, bool or
-/// string, and only by `==` and `!=`.
+/// Whether an operator can compare values of these types: an array or object can't be compared with
+/// a number, bool or string, and only by `==` and `!=`.
 pub fn comparable(operator: Operator, a: Ty, b: Ty) -> bool
     ensures { (ms : List Parts) → result ≡ comparable_types operator (type_in ms a) (type_in ms b) }
 {

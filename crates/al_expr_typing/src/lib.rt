@@ -1,4 +1,5 @@
-//! Typing expressions over a file's table of types: the type of a tree under a scope, and the faults found on the way.
+//! Typing expressions over a file's table of types: the type of a tree under a scope, and the
+//! faults found on the way.
 #![tactic(auto)]
 
 mod calls;

@@ -17,7 +17,8 @@ pub(crate) enum PlaceholderState {
     AfterClosing,
 }
 
-/// What a byte of a format string leads to: another state, the index that it ends, or a wrong brace.
+/// What a byte of a format string leads to: another state, the index that it ends, or a wrong
+/// brace.
 #[derive(Clone, Copy)]
 pub(crate) enum Turn {
     To(PlaceholderState),
@@ -25,7 +26,8 @@ pub(crate) enum Turn {
     Wrong,
 }
 
-/// Which of `count` arguments a format string uses; `None` if a brace is alone, or an index has no argument.
+/// Which of `count` arguments a format string uses; `None` if a brace is alone, or an index has no
+/// argument.
 #[tactic(auto, using(crate::proofs::PlaceholderLemmas::states_tell))]
 pub(crate) fn used_arguments(
     alloc: Global,
@@ -48,7 +50,8 @@ pub(crate) fn used_arguments(
     }
 }
 
-// The state after a byte, with the argument marked whose index it ends; `None` if the format string is wrong.
+// The state after a byte, with the argument marked whose index it ends; `None` if the format string
+// is wrong.
 fn pass(state: PlaceholderState, byte: u8, used: &mut [bool]) -> Option<PlaceholderState>
     requires { IsSmall state }
     ensures { MatchOption result

@@ -6,10 +6,13 @@ ghost use Rattle.al_expr_typing.specs.Scopes.{context_number};
 use al_expr_names::{Available, Context};
 use al_expr_types::Ty;
 
-/// What an expression can refer to at its place in a workflow or an action.
+/// What an expression can refer to at its place in a workflow or an action, with the types of a
+/// table.
 #[derive(Clone, Copy)]
 pub struct Scope {
+    /// The type of each context, available or not.
     pub types: ContextTypes,
+    /// The contexts and special functions that may be named here.
     pub available: Available,
     /// Whether the place is a step's `run`, where untrusted text would become part of a script.
     pub in_run: bool,
@@ -18,17 +21,29 @@ pub struct Scope {
 /// The type of each context.
 #[derive(Clone, Copy)]
 pub struct ContextTypes {
+    /// The type of `github`.
     pub github: Ty,
+    /// The type of `env`.
     pub env: Ty,
+    /// The type of `vars`.
     pub vars: Ty,
+    /// The type of `secrets`.
     pub secrets: Ty,
+    /// The type of `runner`.
     pub runner: Ty,
+    /// The type of `job`.
     pub job: Ty,
+    /// The type of `strategy`.
     pub strategy: Ty,
+    /// The type of `needs`.
     pub needs: Ty,
+    /// The type of `jobs`.
     pub jobs: Ty,
+    /// The type of `steps`.
     pub steps: Ty,
+    /// The type of `matrix`.
     pub matrix: Ty,
+    /// The type of `inputs`.
     pub inputs: Ty,
 }
 

@@ -43,7 +43,8 @@ pub(crate) fn property(
     base_property(types, ty.of, step, faults)?.in_arrays(ty.arrays)
 }
 
-// The same for a type that isn't an array. A property that an object doesn't have is any, with a fault.
+// The same for a type that isn't an array. A property that an object doesn't have is any, with a
+// fault.
 #[tactic(auto, using(al_base::proofs::Growing::growth, crate::proofs::TypedSteps::typing))]
 fn base_property(
     types: &mut Types<'_>,
@@ -125,7 +126,8 @@ fn is_index(by: Ty) -> bool
     matches!(by.form(), Form::Any | Form::Number)
 }
 
-/// The type of `.*` of a value of this type: an array of what its elements, or its fields, have in common.
+/// The type of `.*` of a value of this type: an array of what its elements, or its fields, have in
+/// common.
 #[tactic(auto, using(al_base::proofs::Growing::growth, crate::proofs::TypedSteps::typing))]
 pub(crate) fn all(
     types: &mut Types<'_>,

@@ -29,9 +29,9 @@ use al_expr_names::{Context, Function};
 use al_expr_types::{Join, Scalar, Ty, Types};
 use std::alloc::AllocError;
 
-/// The type of an expression under a scope. Adds the faults in it, X7 to X17 and X19, in the order in which it is read. Spans are byte
-/// offsets in the expression's content. Fails with `AllocError` when out of memory. Recursion goes no deeper than the expression's
-/// nesting.
+/// The type of an expression under a scope. Adds the faults in it, X7 to X17 and X19, in the order
+/// in which it is read. Spans are byte offsets in the expression's content. Fails with `AllocError`
+/// when out of memory. Recursion goes no deeper than the expression's nesting.
 pub fn type_of(
     types: &mut Types<'_>,
     scope: &Scope,

@@ -3,7 +3,8 @@ ghost use Rattle.al_expr_typing.specs.Literals.{text_value};
 ghost use Rattle.al_expr_typing.specs.Placeholders.{used_arguments};
 ghost use Rattle.std.specs.Prelude.{◌≡◌, [], ◌∷◌, codes, false, true, None, Some};
 
-/// Which arguments some format strings use, and format strings that are wrong. Does nothing at run time.
+/// Which arguments some format strings use, and format strings that are wrong. Does nothing at run
+/// time.
 pub fn placeholder_rows()
     ensures empty { used_arguments 1 [] ≡ Some (false ∷ []) }
     ensures one_of_two { used_arguments 2 (codes "{0}") ≡ Some (true ∷ false ∷ []) }

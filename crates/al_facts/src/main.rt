@@ -7,7 +7,7 @@ mod developers;
 mod run;
 
 use al_check::Actions;
-use al_cli::WaitingOutput;
+use al_cli::{WaitingInput, WaitingOutput};
 use al_session::Session;
 use developers::{Reader, reader_named};
 use run::answer_commands;
@@ -69,7 +69,8 @@ fn words(rt: &HostRuntime) -> io::Result<Asked> {
 fn answer_input(rt: &HostRuntime) -> io::Result<()> {
     let mut writer = BufWriter::new(rt.alloc(), WaitingOutput::new(rt.stdout(), rt))?;
     let mut session = Session::open(rt.alloc(), Actions::new());
-    let answered = answer_commands(rt.alloc(), &mut session, &mut rt.stdin(), &mut writer);
+    let mut reader = WaitingInput::new(rt.stdin(), rt);
+    let answered = answer_commands(rt.alloc(), &mut session, &mut reader, &mut writer);
     // The program ends, and the system frees all of its memory at once.
     mem::forget(session);
     answered
@@ -78,7 +79,7 @@ fn answer_input(rt: &HostRuntime) -> io::Result<()> {
 // Prints what a reader makes of standard input.
 fn read_input(rt: &HostRuntime, reader: Reader) -> io::Result<()> {
     let mut bytes = Vec::new(rt.alloc());
-    rt.stdin().read_to_end(&mut bytes)?;
+    WaitingInput::new(rt.stdin(), rt).read_to_end(&mut bytes)?;
     let json = developers::read(rt.alloc(), reader, &bytes)?;
     let line = json.as_str();
     println!(rt; "{line}")

@@ -10,7 +10,8 @@ use al_tree::{FileKind, contains_chunk};
 use al_yaml::{Node, Scalar};
 use std::alloc::AllocError;
 
-/// Where an expression comes from: a scalar, and the index of the expression's first byte in its text.
+/// Where an expression comes from: a scalar, and the index of the expression's first byte in its
+/// text.
 #[derive(Clone, Copy)]
 struct Origin<'s> {
     scalar: &'s Scalar,

@@ -61,7 +61,8 @@ fn push_place(json: &mut Json, index: usize, offset: u32) -> Result<(), AllocErr
     json.close(']')
 }
 
-// Writes where the bytes of the text come from: each index whose byte doesn't come from right behind the one before it.
+// Writes where the bytes of the text come from: each index whose byte doesn't come from right
+// behind the one before it.
 fn push_places(json: &mut Json, scalar: &Scalar) -> Result<(), AllocError> {
     json.list_at("places")?;
     let mut behind = None;

@@ -7,7 +7,8 @@ use al_text::{
 };
 use std::alloc::{AllocError, Global};
 
-// What comes before the message in the line of a fault at the start of a file without a path, and what is around its kind.
+// What comes before the message in the line of a fault at the start of a file without a path, and
+// what is around its kind.
 const BEFORE_MESSAGE: usize = 6;
 
 const AROUND_KIND: usize = 4;
@@ -145,7 +146,8 @@ static CODES: [(Code, Arity); 85] = [
     (Code::Call(CallCode::CallCycle, Caller::Step), Arity::One),
 ];
 
-/// All codes, in the order of reports, with the number of arguments of each. Faults of calls are twice there, for a job and for a step.
+/// All codes, in the order of reports, with the number of arguments of each. Faults of calls are
+/// twice there, for a job and for a step.
 pub fn rows_of_codes() -> &'static [(Code, Arity)] {
     &CODES
 }

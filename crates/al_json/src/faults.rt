@@ -31,7 +31,8 @@ fn position_in(bytes: &[u8], offset: u32) -> (u32, u32) {
     position(bytes, offset.min(bytes.len() as u32))
 }
 
-/// The place of an offset, counted on from an earlier one. An offset past the end counts as the end.
+/// The place of an offset, counted on from an earlier one. An offset past the end counts as the
+/// end.
 fn spot_after(bytes: &[u8], from: Spot, offset: u32) -> Spot {
     let start = from.at as usize;
     if start > bytes.len() {

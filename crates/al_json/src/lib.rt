@@ -1,4 +1,5 @@
-//! Writing JSON, and the parts of answers that several questions share: codes and faults, and the names of contexts and functions.
+//! Writing JSON, and the parts of answers that several questions share: codes and faults, and the
+//! names of contexts and functions.
 #![tactic(auto)]
 
 mod codes;

@@ -20,7 +20,9 @@ use thiserror::Error;
 /// What a call names: candidate paths, of which the first that is in the folder answers the call.
 #[derive(Drop)]
 pub enum Target {
+    /// This path alone.
     Only(Path),
+    /// The first path, or if it isn't in the folder the second.
     FirstOf(Path, Path),
 }
 
@@ -29,7 +31,7 @@ impl Target {
     ///
     /// # Errors
     ///
-    /// [`AllocError`] if memory runs out.
+    /// `AllocError` if memory runs out.
     pub fn copy(&self, alloc: Global) -> Result<Target, AllocError>
         ensures { IfOk result (λ copy. copy ≡ self.now) }
     {
@@ -83,6 +85,11 @@ pub enum Refused {
 /// Its [`Unit`](Lint::Unit) is the result of reading a file, its [`Iface`](Lint::Iface) the
 /// interface that callers of a file see. The faults of a file depend only on its path, its bytes
 /// and the interfaces that answer its calls.
+///
+/// An `impl` also gives its `meaning` as data, which contracts see: the paths that it takes, and
+/// the calls, their sites, the interface and the faults of a file. Its methods are proved to return
+/// just these, and laws hold of them: the faults and the sites of a file lie in it, its faults are
+/// in report order, each once, and interfaces that compare equal are the same.
 pub trait Lint: Drop {
     /// A file that was read.
     type Unit: Drop;
@@ -107,27 +114,51 @@ pub trait Lint: Drop {
     fn accepts(&self, path: &str) -> bool
         ensures { result ≡ meaning.accepts path.now };
 
-    /// Reads a file of at most 1,048,576 bytes. Counts as one read, even if it fails.
+    /// Reads a file. Counts as one read, even if it fails.
+    ///
+    /// # Requires
+    ///
+    /// At most 1,048,576 bytes.
+    ///
+    /// # Errors
+    ///
+    /// `AllocError` if memory runs out.
     fn read(&mut self, alloc: Global, path: &str, bytes: &[u8]) -> Result<Self::Unit, AllocError>
         requires small { length bytes.now ≤ largest_file }
         ensures unit { IfOk result (λ u. is_unit u path.now bytes.now) }
         ensures reads { reads_of self.new ≡ count_after (reads_of self.old) 1 }
         ensures checks { checks_of self.new ≡ checks_of self.old };
 
-    /// What a file offers to its callers.
+    /// What a file that was read as `unit` offers to its callers.
+    ///
+    /// # Errors
+    ///
+    /// `AllocError` if memory runs out.
     fn iface(&self, alloc: Global, path: &str, unit: &Self::Unit) -> Result<Self::Iface, AllocError>
         ensures { (b : List ℕ) → is_unit unit.now path.now b
             → IfOk result (λ i. i ≡ meaning.interface path.now b) };
 
-    /// A file's calls, in order.
+    /// The calls of a file that was read as `unit`, in order.
+    ///
+    /// # Errors
+    ///
+    /// `AllocError` if memory runs out.
     fn calls(&self, alloc: Global, path: &str, unit: &Self::Unit) -> Result<Vec<Target>, AllocError>
         ensures { (b : List ℕ) → is_unit unit.now path.now b
             → IfOk result (λ ts. ts.items ≡ meaning.calls path.now b) };
 
     /// The faults of a file in the order of reports, each once. The answers are those of its calls,
     /// in order: the interface of the file that answers, or `None` if no candidate is in the
-    /// folder. Calls with the same candidates have the same answer. Counts as one check, even if it
-    /// fails.
+    /// folder. Counts as one check, even if it fails.
+    ///
+    /// # Requires
+    ///
+    /// At most 1,048,576 bytes, of which `unit` was read, with this path; as many answers as calls,
+    /// and equal ones for calls with the same candidates.
+    ///
+    /// # Errors
+    ///
+    /// `AllocError` if memory runs out.
     fn check(
         &mut self,
         alloc: Global,
@@ -147,17 +178,21 @@ pub trait Lint: Drop {
 
     /// The site of a call, by its number in the order of [`calls`](Lint::calls), from 0. Doesn't
     /// allocate.
+    ///
+    /// # Requires
+    ///
+    /// `unit` was read from some file, and `call` is less than the number of its calls.
     fn site<'a>(&self, unit: &'a Self::Unit, call: usize) -> Site<'a>
         requires { (p : List ℕ) × (b : List ℕ) × is_unit unit.now p b
             × (call < length (meaning.calls p b)) }
         ensures { (p b : List ℕ) → is_unit unit.now p b
             → slice_get (meaning.sites p b) call ≡ Some (site_fault result) };
 
-    /// How many checks were made so far; the count saturates. Doesn't allocate.
+    /// How many checks were made so far; the count saturates at 2^64 - 1. Doesn't allocate.
     fn checks(&self) -> u64
         ensures { result ≡ checks_of self.now };
 
-    /// How many files were read so far; the count saturates. Doesn't allocate.
+    /// How many files were read so far; the count saturates at 2^64 - 1. Doesn't allocate.
     fn reads(&self) -> u64
         ensures { result ≡ reads_of self.now };
 

@@ -10,7 +10,7 @@ use std::alloc::{AllocError, Global};
 ///
 /// # Errors
 ///
-/// [`AllocError`] if memory runs out.
+/// `AllocError` if memory runs out.
 pub fn owned_path(alloc: Global, text: &str) -> Result<Path, AllocError>
     requires { path_fault_of text.now ≡ None }
     ensures { IfOk result (λ path. path ≡ text.now) }

@@ -72,8 +72,7 @@ AddsAllNeeds jobs old new =
     let position = name_place (keys_in jobs) in
     AddsNeeds position (Walk (needs_lists position jobs)) (all_needs jobs) old new
 
--- For worked rows: the fault of an entry, given a test of which jobs have a walk to the job that
--- needs them
+-- The fault of an entry, given a test of which jobs have a walk to the job that needs them.
 abbrev pub tested_faults : (ℕ → Bool) → NeedEntry → Option ℕ → List Fault
 tested_faults leads n None = about UndefinedJob n.text
 tested_faults leads n (Some j) = if leads j then cycle_fault n ∷ [] else []

@@ -109,7 +109,8 @@ fn check_event(name: &[u8], event: &Node, faults: &mut FaultSink) -> Result<(), 
 }
 
 /// Adds the faults of the value of `on`: unknown events, and for each other event its activity
-/// types, filters, schedules and types of inputs.
+/// types, filters, schedules and types of inputs (G1 to G5 and G19; GitHub, "Events that trigger
+/// workflows").
 ///
 /// # Errors
 ///

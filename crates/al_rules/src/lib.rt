@@ -1,5 +1,24 @@
-//! Rules of workflows and actions that depend on a single file, including those for the value of
-//! `on`: events, activity types, filters, schedules, and the types of inputs.
+//! Rules of workflows and actions that depend on a single file, G1 to G22, including those for the
+//! value of `on`: events, activity types, filters, schedules, and the types of inputs; and the
+//! lists of names that they accept. They take a tree of `al_tree`; spans are bytes of its file.
+//!
+//! # Examples
+//!
+//! The rules alone:
+//!
+//! ```rust
+//! use al_rules::rules;
+//! use al_text::{Fault, fault_list};
+//! use al_tree::Tree;
+//! use std::alloc::{AllocError, Global};
+//!
+//! /// The faults of a file by the rules of a single file, in the order of reports.
+//! fn rule_faults(alloc: Global, tree: &Tree) -> Result<Vec<Fault>, AllocError> {
+//!     let mut faults = Vec::new(alloc);
+//!     rules(alloc, tree, &mut faults)?;
+//!     Ok(fault_list(faults))
+//! }
+//! ```
 #![tactic(auto)]
 
 mod actions;

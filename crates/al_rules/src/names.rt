@@ -35,13 +35,16 @@ const ACTIVITIES: &[Activities] = &[
     activities!("workflow_run" => "completed" "requested" "in_progress"),
 ];
 
-/// The types of the inputs of `workflow_call`.
+/// The types of the inputs of `workflow_call` (GitHub, "Workflow syntax",
+/// `on.workflow_call.inputs.<input_id>.type`).
 pub const CALL_TYPES: &[&str] = &["boolean", "number", "string"];
 
-/// The types of the inputs of `workflow_dispatch`.
+/// The types of the inputs of `workflow_dispatch` (GitHub, "Workflow syntax",
+/// `on.workflow_dispatch.inputs.<input_id>.type`).
 pub const DISPATCH_TYPES: &[&str] = &["boolean", "number", "string", "choice", "environment"];
 
-/// The activity types of an event; `None` if any text is accepted.
+/// The activity types of an event; `None` if any text is accepted, as it is for an event that isn't
+/// known (GitHub, "Events that trigger workflows"). The name of the event is compared exactly.
 pub fn activities_of(event: &[u8]) -> Option<&'static [&'static str]>
     ensures { option_map (λ ts. map (λ n. n.now) ts.now) result ≡ activities_named event.now }
 {

@@ -29,7 +29,7 @@ abbrev pub shell_faults : Option Scalar → List Fault
 shell_faults shell =
     option_map_or (λ s. unless (is_shell (of_scalar s).text) UnknownShell (of_scalar s)) shell []
 
--- an unknown permission, and a wrong value of a known one
+-- an unknown permission, and a wrong value of any
 abbrev pub permission_value_faults : List (List ℕ) → Node → List Fault
 permission_value_faults values n =
     option_map_or (λ s. unless_among WrongPermission values (of_scalar s)) (text_in n) []

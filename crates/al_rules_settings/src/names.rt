@@ -1,6 +1,6 @@
 //! The names of permissions, their values, and shells.
 
-/// The scopes of permissions.
+/// The scopes of permissions (GitHub, "Workflow syntax", `permissions`).
 pub const PERMISSIONS: &[&str] = &[
     "actions",
     "artifact-metadata",
@@ -20,10 +20,11 @@ pub const PERMISSIONS: &[&str] = &[
     "statuses",
 ];
 
-/// The shells that GitHub knows by name.
+/// The shells that GitHub knows by name (GitHub, "Workflow syntax",
+/// `jobs.<job_id>.steps[*].shell`).
 pub const SHELLS: &[&str] = &["bash", "sh", "pwsh", "powershell", "python", "cmd"];
 
-/// The values of a scope.
+/// The values of a scope of permissions, whichever scope it is.
 pub const SCOPE_VALUES: &[&str] = &["read", "write", "none"];
 
 /// The values of `permissions` as a whole.

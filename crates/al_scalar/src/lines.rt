@@ -10,7 +10,12 @@ ghost use Rattle.al_scalar.specs.LineEnds.{BlankTo, FirstByte};
 
 use memchr::memchr2;
 
-/// Whether the text of the line has ended at an offset.
+/// Whether the text of the line has ended at an offset: there is a line break (LF, CRLF or CR; YAML
+/// 1.2.2, 5.4) or the end of the file.
+///
+/// # Requires
+///
+/// `at` is at most the number of bytes.
 pub fn is_line_end(bytes: &[u8], at: usize) -> bool
     requires { at ≤ length bytes.now }
     ensures { IsTrue result ↔ IsLineEnd bytes.now at }
@@ -18,14 +23,18 @@ pub fn is_line_end(bytes: &[u8], at: usize) -> bool
     at == bytes.len() || bytes[at] == b'\n' || bytes[at] == b'\r'
 }
 
-/// Whether there is a line break at an offset.
+/// Whether there is a line break at an offset. It is `false` at the end of the file and beyond it.
 pub fn is_break_at(bytes: &[u8], at: usize) -> bool
     ensures { IsTrue result ↔ IsBreakAt bytes.now at }
 {
     at < bytes.len() && (bytes[at] == b'\n' || bytes[at] == b'\r')
 }
 
-/// The offset after the break at an offset.
+/// The offset after the line break at an offset; a CRLF is one break.
+///
+/// # Requires
+///
+/// There is a break at `at`.
 pub fn after_break(bytes: &[u8], at: usize) -> usize
     requires inside { at < length bytes.now }
     requires is_break { IsLineEnd bytes.now at }
@@ -54,7 +63,11 @@ pub fn is_flow_indicator(byte: u8) -> bool
     byte == b',' || byte == b'[' || byte == b']' || byte == b'{' || byte == b'}'
 }
 
-/// The offset after the blanks at an offset.
+/// The offset after the blanks at an offset, of which there may be none.
+///
+/// # Requires
+///
+/// `at` is at most the number of bytes.
 #[tactic(auto, using(crate::proofs::LineParts::drops_blanks))]
 pub fn blanks_end(bytes: &[u8], at: usize) -> usize
     requires { at ≤ length bytes.now }
@@ -74,6 +87,10 @@ pub fn blanks_end(bytes: &[u8], at: usize) -> usize
 }
 
 /// The offset after the spaces at an offset, of which at most `most` are skipped.
+///
+/// # Requires
+///
+/// `at` is at most the number of bytes.
 pub fn spaces_end(bytes: &[u8], at: usize, most: usize) -> usize
     requires { at ≤ length bytes.now }
     ensures from { at ≤ result }
@@ -92,7 +109,12 @@ pub fn spaces_end(bytes: &[u8], at: usize, most: usize) -> usize
     i
 }
 
-/// The end of the line that an offset is on.
+/// The offset at which the text of the line ends that an offset is on: that of its break, or of the
+/// end of the file.
+///
+/// # Requires
+///
+/// `at` is at most the number of bytes.
 pub fn line_end(bytes: &[u8], at: usize) -> usize
     requires { at ≤ length bytes.now }
     ensures is_end { IsLineEnd bytes.now result }
@@ -110,7 +132,11 @@ pub fn line_end(bytes: &[u8], at: usize) -> usize
     }
 }
 
-/// The end of the line if the rest of the line is all blanks.
+/// The end of the line, if from `at` to there all is blanks; otherwise `None`.
+///
+/// # Requires
+///
+/// `at` is at most the number of bytes.
 pub fn blank_line_end(bytes: &[u8], at: usize) -> Option<usize>
     requires { at ≤ length bytes.now }
     ensures { BlankTo bytes.now at result }
@@ -123,7 +149,11 @@ pub fn blank_line_end(bytes: &[u8], at: usize) -> Option<usize>
     }
 }
 
-/// The byte at an offset, unless the line ends there.
+/// The byte at an offset; `None` if the line ends there.
+///
+/// # Requires
+///
+/// `at` is at most the number of bytes.
 pub fn first_byte(bytes: &[u8], at: usize) -> Option<u8>
     requires { at ≤ length bytes.now }
     ensures { FirstByte bytes.now at result }
@@ -136,6 +166,10 @@ pub fn first_byte(bytes: &[u8], at: usize) -> Option<u8>
 }
 
 /// The number of spaces at an offset.
+///
+/// # Requires
+///
+/// `at` is at most the number of bytes.
 pub fn indent(bytes: &[u8], at: usize) -> usize
     requires { at ≤ length bytes.now }
     ensures is { result ≡ line.indent (text_at bytes.now at) }
@@ -147,6 +181,10 @@ pub fn indent(bytes: &[u8], at: usize) -> usize
 }
 
 /// Whether there is a blank or the end of the line at an offset.
+///
+/// # Requires
+///
+/// `at` is at most the number of bytes.
 pub fn is_blank_or_end(bytes: &[u8], at: usize) -> bool
     requires { at ≤ length bytes.now }
     ensures { result ≡ line.is_blank_or_end (text_at bytes.now at) }
@@ -154,7 +192,11 @@ pub fn is_blank_or_end(bytes: &[u8], at: usize) -> bool
     is_line_end(bytes, at) || is_blank(bytes[at])
 }
 
-/// Whether the text of the line has this byte at an offset.
+/// Whether the text of the line has this byte at an offset; never if the byte is a CR or LF.
+///
+/// # Requires
+///
+/// `at` is at most the number of bytes.
 pub fn begins(bytes: &[u8], at: usize, byte: u8) -> bool
     requires { at ≤ length bytes.now }
     ensures value { result ≡ line.begins byte (text_at bytes.now at) }
@@ -163,7 +205,12 @@ pub fn begins(bytes: &[u8], at: usize, byte: u8) -> bool
     !is_line_end(bytes, at) && bytes[at] == byte
 }
 
-/// Whether a byte occurs three times at an offset, followed by a blank or the end of the line.
+/// Whether a byte occurs three times at an offset, followed by a blank or the end of the line. The
+/// offset needn't be at the start of a line.
+///
+/// # Requires
+///
+/// `at` is at most the number of bytes.
 pub fn is_marker(bytes: &[u8], at: usize, byte: u8) -> bool
     requires { at ≤ length bytes.now }
     ensures { result ≡ line.is_marker byte (text_at bytes.now at) }
@@ -180,7 +227,12 @@ pub fn is_marker(bytes: &[u8], at: usize, byte: u8) -> bool
     is_blank_or_end(bytes, at + 3)
 }
 
-/// Whether a line begins with a document marker.
+/// Whether there is a document marker at an offset, `---` or `...` before a blank or the end of the
+/// line (YAML 1.2.2, 9.1.2). It is one only at the start of a line, which the caller knows.
+///
+/// # Requires
+///
+/// `at` is at most the number of bytes.
 pub fn is_document_marker(bytes: &[u8], at: usize) -> bool
     requires { at ≤ length bytes.now }
     ensures { result ≡ line.is_document_marker (text_at bytes.now at) }

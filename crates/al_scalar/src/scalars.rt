@@ -18,7 +18,7 @@ pub enum ScalarContext {
     /// indented by at least this many columns: one more than the enclosing collection, or 0 at the
     /// root.
     BlockFromIndent(u32),
-    /// In a flow collection.
+    /// In a flow collection, where `,[]{}` end a plain scalar (YAML 1.2.2, 7.3.3).
     Flow,
     /// An empty node: there is nothing to read.
     Empty,
@@ -29,7 +29,8 @@ pub enum ScalarContext {
 ///
 /// A byte that stands for itself has its own offset, a byte from an escape that of the backslash, a
 /// quote written as `''` that of the first quote, and a space or line feed from a line break that
-/// of the first byte of the break.
+/// of the first byte of the break. Contracts see the style, the class, the span, and the list of
+/// bytes with their offsets.
 #[derive(Drop)]
 pub struct Scalar {
     form: ScalarForm,
@@ -74,7 +75,7 @@ impl Model for Scalar {
 }
 
 impl Scalar {
-    /// How the scalar is written.
+    /// How the scalar is written (YAML 1.2.2, 7.3 and 8.1).
     pub fn style(&self) -> Style
         ensures { result ≡ (self.now).style }
     {
@@ -84,8 +85,8 @@ impl Scalar {
         }
     }
 
-    /// The span of the written form, including quotes; that of a block scalar extends from its
-    /// indicator to the end of the text of its last line.
+    /// The span of the written form, in bytes of the file, including quotes; that of a block scalar
+    /// extends from its indicator to the end of the text of its last line.
     pub fn span(&self) -> Span
         ensures { result ≡ (self.now).span }
     {
@@ -95,7 +96,8 @@ impl Scalar {
         }
     }
 
-    /// The class of the scalar by the core schema.
+    /// The class of the scalar by the core schema (YAML 1.2.2, 10.3.2): of a plain scalar by its
+    /// text, of any other always [`Class::Str`].
     pub fn class(&self) -> Class
         ensures { result ≡ (self.now).class }
     {
@@ -105,7 +107,7 @@ impl Scalar {
         }
     }
 
-    /// The decoded bytes.
+    /// The decoded bytes, without quotes, escapes and indentation. They are UTF-8 if the file is.
     pub fn text(&self) -> &[u8]
         ensures { result.now ≡ text_of self.now }
     {
@@ -115,8 +117,11 @@ impl Scalar {
         }
     }
 
-    /// The decoded bytes as text, without a check: the caller guarantees that they are UTF-8, as
-    /// they are if the file is.
+    /// The decoded bytes as text, without a check.
+    ///
+    /// # Requires
+    ///
+    /// The bytes are UTF-8, as they are in a scalar of a file that is.
     pub fn as_str(&self) -> &str
         requires { IsUtf8 (text_of self.now) }
         ensures { result.now ≡ text_of self.now }
@@ -125,8 +130,13 @@ impl Scalar {
         unsafe { str::from_utf8_unchecked(self.text()) }
     }
 
-    /// The file offset, in bytes, from which the byte at an index of the text came. For the length
-    /// of the text, the end of the scalar's span.
+    /// The file offset, in bytes, from which the byte at index `i` of the text came; for the length
+    /// of the text, the end of the scalar's span. Takes time logarithmic in the number of escapes
+    /// and line breaks of the text.
+    ///
+    /// # Requires
+    ///
+    /// `i` is at most the length of [`text`](Scalar::text).
     pub fn locate(&self, i: usize) -> u32
         requires { i ≤ length (text_of self.now) }
         ensures { result ≡ offset_of self.now i }
@@ -144,6 +154,7 @@ impl Scalar {
 /// The result of reading a scalar.
 #[derive(Drop)]
 pub struct ScalarRead {
+    /// The scalar.
     pub scalar: Scalar,
     /// The byte offset at which the rest of the file begins: for a block scalar, the start of the
     /// line that ends it or the end of the file; otherwise the end of the span.

@@ -7,7 +7,8 @@ use Rattle.al_lint.specs.Meaning.{Meaning}
 use Rattle.al_session_folder.specs.Affected.{affected_paths, is_among}
 use Rattle.al_session_folder.specs.Folder.{Folder, bytes_at, faults_at, paths_of, with_file}
 
--- A put of the bytes that are already there changes nothing: the folder stays the same, and no file is affected.
+-- A put of the bytes that are already there changes nothing: the folder stays the same, and no file
+-- is affected.
 abbrev pub SamePutChangesNothing : {I : Type 0} → (I → I → Bool) → Meaning I → Folder → Type 0
 SamePutChangesNothing eq m f = (p b : List ℕ) → bytes_at f p ≡ Some b →
     (with_file f p b ≡ f) × (affected_paths eq m f (with_file f p b) ≡ [])

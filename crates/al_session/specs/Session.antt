@@ -27,8 +27,8 @@ folder_in kept = folder_of kept.files.entries
 abbrev pub IsLinted : {U I : Type 0} → Meaning I → (U → List ℕ → List ℕ → Type 0) → IndexedFiles U I → Type 0
 IsLinted m is_unit kept = AreLinted m is_unit kept.files.entries kept.callers
 
--- What a put of these bytes adds to the count of reads: at most one; none if the file already has these bytes, and one if it doesn't and
--- the put can be refused only because memory ran out.
+-- What a put of these bytes adds to the count of reads: at most one; none if the file already has
+-- these bytes, and one if it doesn't and the put can be refused only because memory ran out.
 pub record ReadsForPut {I : Type 0} (m : Meaning I) (f : Folder) (path bytes : List ℕ) (before now : ℕ) : Type 0 where
   pub at_most : IsUpTo before now 1
   pub there : bytes_at f path ≡ Some bytes → now ≡ before

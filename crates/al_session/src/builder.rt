@@ -20,9 +20,10 @@ use std::marker::Model;
 
 /// Builds the session of a folder from its files.
 ///
-/// Each file is read when it is put, and checked once, when the session is built. So it doesn't matter whether a file
-/// is put before or after those it calls, whereas a session rechecks the callers of each file that is put. As for a
-/// session, contracts see the folder and the linter's two counts.
+/// Each file is read when it is put, and checked once, when the session is built. So it doesn't
+/// matter whether a file is put before or after those it calls, whereas a session rechecks the
+/// callers of each file that is put. As for a session, contracts see the folder and the linter's
+/// two counts.
 #[derive(Drop)]
 pub struct SessionBuilder<L: Lint> {
     lint: L,
@@ -42,8 +43,8 @@ impl<L: Lint> Model for SessionBuilder<L> {
 }
 
 impl<L: Lint> SessionBuilder<L> {
-    /// A builder without files. Doesn't allocate; later calls allocate from `alloc`. Paths whose hashes are equal can be found by who
-    /// knows this program: see `seeded`.
+    /// A builder without files. Doesn't allocate; later calls allocate from `alloc`. Paths whose
+    /// hashes are equal can be found by who knows this program: see `seeded`.
     pub fn new(alloc: Global, lint: L) -> SessionBuilder<L>
         ensures folder { result.folder ≡ [] }
         ensures checks { result.checks ≡ L.checks_of lint }
@@ -52,7 +53,8 @@ impl<L: Lint> SessionBuilder<L> {
         SessionBuilder::seeded(alloc, lint, Seed::fixed())
     }
 
-    /// A builder without files whose hashes of paths start with this seed: a random one if a stranger names the files.
+    /// A builder without files whose hashes of paths start with this seed: a random one if a
+    /// stranger names the files.
     pub fn seeded(alloc: Global, lint: L, seed: Seed) -> SessionBuilder<L>
         ensures folder { result.folder ≡ [] }
         ensures checks { result.checks ≡ L.checks_of lint }
@@ -87,11 +89,14 @@ impl<L: Lint> SessionBuilder<L> {
         file.map(|file| file.calls.targets.as_slice())
     }
 
-    /// Sets the bytes of a file, which is new or replaces the one with its path, and reads it. Checks no file.
+    /// Sets the bytes of a file, which is new or replaces the one with its path, and reads it.
+    /// Checks no file, as the linter counts: one that is made for one report may check a file as it
+    /// reads it.
     ///
     /// # Errors
     ///
-    /// The first of E1 to E4 that applies; if none does, E6 if memory ran out. The folder is then unchanged.
+    /// The first of E1 to E4 that applies; if none does, E6 if memory ran out. The folder is then
+    /// unchanged.
     pub fn put(&mut self, path: &str, bytes: Vec<u8>) -> Result<(), Refused>
         ensures accepted { OnOk result
             (put_refusal L.meaning self.old.folder path.now bytes.items ≡ None) }
@@ -113,11 +118,12 @@ impl<L: Lint> SessionBuilder<L> {
         load_file(&mut self.lint, &mut self.kept, path, bytes).map_err(|_| Refused::Memory)
     }
 
-    /// The session of these files. Checks each file once and reads none.
+    /// The session of these files. As the linter counts, checks each file once and reads none: one
+    /// that is made for one report may read a file again to check it.
     ///
     /// # Errors
     ///
-    /// [`AllocError`] if memory runs out.
+    /// `AllocError` if memory runs out. The files are then gone.
     pub fn build(self) -> Result<Session<L>, AllocError>
         ensures folder { IfOk result (λ session. session.folder ≡ self.folder) }
         ensures meter { IfOk result

@@ -43,7 +43,8 @@ pub(crate) fn linked_files<'a, L: Lint>(
     }
 }
 
-/// Forgets the graph of calls before a file is put, unless the file replaces one with the same calls.
+/// Forgets the graph of calls before a file is put, unless the file replaces one with the same
+/// calls.
 pub(crate) fn forget_unless_same<L: Lint>(
     files: &Files<L::Unit, L::Iface>,
     path: &str,

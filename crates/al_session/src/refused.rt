@@ -10,7 +10,8 @@ use al_base::limits::{LARGEST_FILE, MOST_FILES};
 use al_base::path_fault;
 use al_session_folder::{Files, Lint, Refused};
 
-/// Why a file with this path and these bytes is refused, given the files that are there, other than for lack of memory.
+/// Why a file with this path and these bytes is refused, given the files that are there, other than
+/// for lack of memory.
 #[tactic(auto, using(std::proofs::lemmas::Bool::Decides::nat_tests), unfolding(al_session_folder::specs::Folder::put_refusal))]
 pub(crate) fn put_refused<L: Lint>(
     lint: &L,
@@ -38,7 +39,8 @@ pub(crate) fn put_refused<L: Lint>(
     None
 }
 
-/// Why a delete of the file with this path is refused, given the files that are there, other than for lack of memory.
+/// Why a delete of the file with this path is refused, given the files that are there, other than
+/// for lack of memory.
 #[tactic(auto, using(std::proofs::lemmas::Bool::Decides::nat_tests), unfolding(al_session_folder::specs::Folder::delete_refusal))]
 pub(crate) fn delete_refused<L: Lint>(
     lint: &L,

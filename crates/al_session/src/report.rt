@@ -20,12 +20,14 @@ pub fn has_faults<U, I>(files: &Files<U, I>) -> bool
     files.iter().any(|(_, file)| !file.faults.is_empty())
 }
 
-/// Writes the faults that a report lists, file by file in order of path: each as its line, followed by its snippet unless `oneline` is
-/// set. The lists are those of [`join_files`](al_session_folder::join_files). Doesn't allocate.
+/// Writes the faults that a report lists, file by file in order of path: each as its line, followed
+/// by its snippet unless `oneline` is set. The lists are those of
+/// [`join_files`](al_session_folder::join_files). Doesn't allocate.
 ///
 /// # Errors
 ///
-/// [`Stop::WriteFault`] if the writer fails; it then holds a prefix of the output. No other stop is returned.
+/// [`Stop::WriteFault`] if the writer fails; it then holds a prefix of the output. No other stop is
+/// returned.
 pub fn write_files<L: Lint, W: Write>(
     writer: &mut Output<W>,
     files: &Files<L::Unit, L::Iface>,
@@ -50,7 +52,8 @@ pub fn write_files<L: Lint, W: Write>(
     Ok(())
 }
 
-// A file whose faults are listed, each as its line, followed by its snippet unless `oneline` is set.
+// A file whose faults are listed, each as its line, followed by its snippet unless `oneline` is
+// set.
 #[derive(Drop)]
 struct Listing<'a, U, I> {
     path: &'a str,

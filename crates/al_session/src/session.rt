@@ -37,20 +37,21 @@ use std::alloc::{AllocError, Global};
 use std::io::Write;
 use std::marker::Model;
 
-/// The result of an accepted edit.
+/// The reply to an accepted edit.
 #[derive(Drop)]
 pub struct Edit {
-    /// The files that were rechecked, in order of path: those that are new, whose bytes changed, or that have a call
-    /// whose answer changed.
+    /// The files that were rechecked, in order of path, each once: those that are new, whose bytes
+    /// changed, or that have a call whose answer changed.
     pub rechecked: Paths,
 }
 
 /// A folder of files, kept linted.
 ///
-/// Contracts see its folder, a list of paths and bytes in order of path, and the linter's two counts. What
-/// [`faults`](Session::faults), [`status`](Session::status), [`report`](Session::report) and
-/// [`missing`](Session::missing) return depends on that folder alone. Report and status also include the calls on a
-/// call cycle, which one edit can change for files that it doesn't recheck.
+/// Contracts see its folder, a list of paths and bytes in order of path, and the linter's two
+/// counts. What [`faults`](Session::faults), [`status`](Session::status),
+/// [`report`](Session::report) and [`missing`](Session::missing) return depends on that folder
+/// alone. Report and status also include the calls on a call cycle, which one edit can change for
+/// files that it doesn't recheck.
 #[derive(Drop)]
 pub struct Session<L: Lint> {
     lint: L,
@@ -73,8 +74,8 @@ impl<L: Lint> Model for Session<L> {
 }
 
 impl<L: Lint> Session<L> {
-    /// A session over the empty folder. Doesn't allocate; later calls allocate from `alloc`. Paths whose hashes are equal can be found by
-    /// who knows this program: see `open_seeded`.
+    /// A session over the empty folder. Doesn't allocate; later calls allocate from `alloc`. Paths
+    /// whose hashes are equal can be found by who knows this program: see `open_seeded`.
     pub fn open(alloc: Global, lint: L) -> Session<L>
         ensures folder { result.folder ≡ [] }
         ensures checks { result.checks ≡ L.checks_of lint }
@@ -83,7 +84,8 @@ impl<L: Lint> Session<L> {
         Session::open_seeded(alloc, lint, Seed::fixed())
     }
 
-    /// A session over the empty folder whose hashes of paths start with this seed: a random one if a stranger names the files.
+    /// A session over the empty folder whose hashes of paths start with this seed: a random one if
+    /// a stranger names the files.
     pub fn open_seeded(alloc: Global, lint: L, seed: Seed) -> Session<L>
         ensures folder { result.folder ≡ [] }
         ensures checks { result.checks ≡ L.checks_of lint }
@@ -106,8 +108,8 @@ impl<L: Lint> Session<L> {
         }
     }
 
-    /// The number of checks the linter has made, including those of refused edits. It stays at its greatest value.
-    /// Doesn't allocate.
+    /// The number of checks the linter has made, including those of refused edits. It saturates at
+    /// 2^64 - 1. Doesn't allocate.
     pub fn meter(&self) -> u64
         ensures { result ≡ self.now.checks }
     {
@@ -121,8 +123,8 @@ impl<L: Lint> Session<L> {
         self.kept.bytes(path)
     }
 
-    /// The faults of a file in report order, each once, with byte spans that lie in the file; `None` if no file has
-    /// this path. Faults of call cycles aren't included. Doesn't allocate.
+    /// The faults of a file in report order, each once, with byte spans that lie in the file;
+    /// `None` if no file has this path. Faults of call cycles aren't included. Doesn't allocate.
     pub fn faults(&self, path: &str) -> Option<&[Fault]>
         ensures value { option_copied result ≡ faults_at L.meaning self.now.folder path.now }
         ensures spans { IfSome result
@@ -143,14 +145,15 @@ impl<L: Lint> Session<L> {
         self.bytes(path) == Some(bytes)
     }
 
-    /// Sets the bytes of a file, which is new or replaces the one with its path, and checks the files that this
-    /// affects. Reads only the file that is put, and not even that if it already has these bytes.
+    /// Sets the bytes of a file, which is new or replaces the one with its path, and checks the
+    /// files that this affects. Reads only the file that is put, and not even that if it already
+    /// has these bytes.
     ///
     /// # Errors
     ///
-    /// The first of E1 to E4 that applies; if none does, E6 if memory ran out. The folder and everything that depends
-    /// on it are then unchanged. After E1 to E4 the meter is unchanged; after E6 it has risen by at most the number of
-    /// files that the edit would have checked.
+    /// The first of E1 to E4 that applies; if none does, E6 if memory ran out. The folder and
+    /// everything that depends on it are then unchanged. After E1 to E4 the meter is unchanged;
+    /// after E6 it has risen by at most the number of files that the edit would have checked.
     pub fn put(&mut self, path: &str, bytes: &[u8]) -> Result<Edit, Refused>
         ensures accepted { OnOk result
             (put_refusal L.meaning self.old.folder path.now bytes.now ≡ None) }
@@ -191,9 +194,10 @@ impl<L: Lint> Session<L> {
     ///
     /// # Errors
     ///
-    /// The first of E1, E2 and E5 that applies; if none does, E6 if memory ran out. The folder and everything that
-    /// depends on it are then unchanged. After E1, E2 and E5 the meter is unchanged; after E6 it has risen by at most
-    /// the number of files that the edit would have checked.
+    /// The first of E1, E2 and E5 that applies; if none does, E6 if memory ran out. The folder and
+    /// everything that depends on it are then unchanged. After E1, E2 and E5 the meter is
+    /// unchanged; after E6 it has risen by at most the number of files that the edit would have
+    /// checked.
     pub fn delete(&mut self, path: &str) -> Result<Edit, Refused>
         ensures accepted { OnOk result (delete_refusal L.meaning self.old.folder path.now ≡ None) }
         ensures folder { OnOk result (self.new.folder ≡ without_file self.old.folder path.now) }
@@ -222,12 +226,12 @@ impl<L: Lint> Session<L> {
         }
     }
 
-    /// 0 if no file has a fault and no call is on a call cycle, otherwise 1. Allocates only if no file has a fault and
-    /// the graph of calls isn't known, and then keeps that graph.
+    /// 0 if no file has a fault and no call is on a call cycle, otherwise 1. Allocates only if no
+    /// file has a fault and the graph of calls isn't known, and then keeps that graph.
     ///
     /// # Errors
     ///
-    /// [`AllocError`] if memory runs out.
+    /// `AllocError` if memory runs out.
     pub fn status(&mut self) -> Result<u8, AllocError>
         ensures status { IfOk result (λ status. status ≡ status_of L.meaning self.old.folder) }
         ensures unchanged { self.new ≡ self.old }
@@ -243,15 +247,16 @@ impl<L: Lint> Session<L> {
         Ok(0)
     }
 
-    /// Writes the faults of all files, including those of calls on a call cycle, file by file in order of path. Each
-    /// fault is written as a line, followed by the source line at which it starts, with marks under its span, unless
-    /// `oneline` is set. The graph of calls is computed if it isn't known, and kept for the next report. The folder and
-    /// both counts are unchanged.
+    /// Writes the faults of all files, including those of calls on a call cycle, file by file in
+    /// order of path. Each fault is written as a line, followed by the source line at which it
+    /// starts, with marks under its span, unless `oneline` is set. The graph of calls is computed
+    /// if it isn't known, and kept for the next report. The folder and both counts are unchanged.
     ///
     /// # Errors
     ///
-    /// [`Stop::WriteFault`] if the writer fails; it then holds a prefix of the report. [`Stop::Memory`] if memory runs
-    /// out, which happens only before the first byte. No other stop is returned.
+    /// [`Stop::WriteFault`] if the writer fails; it then holds a prefix of the report.
+    /// [`Stop::Memory`] if memory runs out, which happens only before the first byte. No other stop
+    /// is returned.
     pub fn report<W: Write>(&mut self, writer: &mut Output<W>, oneline: bool) -> Result<(), Stop>
         ensures all { OnOk result
             (Appends (bytes_written W.contents writer.old) (bytes_written W.contents writer.new)
@@ -276,7 +281,8 @@ impl<L: Lint> Session<L> {
         write_files::<L, W>(writer, &self.kept.files, &joined, oneline)
     }
 
-    /// The path of the file with this number, from 0, in order of path; `None` if there are fewer files. Doesn't allocate.
+    /// The path of the file with this number, from 0, in order of path; `None` if there are fewer
+    /// files. Doesn't allocate.
     pub fn path_at(&self, number: usize) -> Option<&str>
         ensures { option_copied result ≡ slice_get (paths_of self.now.folder) number }
     {
@@ -286,12 +292,13 @@ impl<L: Lint> Session<L> {
         }
     }
 
-    /// For each file, in order of path, the faults of its calls on a call cycle. The graph of calls is computed if it isn't known, and
-    /// kept for the next report. The folder and both counts are unchanged.
+    /// For each file, in order of path, the faults of its calls on a call cycle. The graph of calls
+    /// is computed if it isn't known, and kept for the next report. The folder and both counts are
+    /// unchanged.
     ///
     /// # Errors
     ///
-    /// [`AllocError`] if memory runs out.
+    /// `AllocError` if memory runs out.
     pub fn call_cycle_faults(&mut self) -> Result<Vec<Vec<Fault>>, AllocError>
         ensures faults { IfOk result (λ all. AreCycleFaults L.meaning self.old.folder all.items) }
         ensures unchanged { self.new ≡ self.old }
@@ -305,7 +312,7 @@ impl<L: Lint> Session<L> {
     ///
     /// # Errors
     ///
-    /// [`AllocError`] if memory runs out.
+    /// `AllocError` if memory runs out.
     pub fn missing(&self) -> Result<Vec<Path>, AllocError>
         ensures paths { IfOk result
             (λ paths. paths.items ≡ missing_in L.meaning self.now.folder) }
@@ -317,8 +324,8 @@ impl<L: Lint> Session<L> {
         missing_paths::<L>(&self.kept.files)
     }
 
-    /// A law: the files of the folder, and so the lines of a report, are in order of path, each path once. Does nothing
-    /// at run time.
+    /// A law: the files of the folder, and so the lines of a report, are in order of path, each
+    /// path once. Does nothing at run time.
     pub fn sorted_paths(&self)
         ensures { IsStrictlySortedBy (slice_cmp nat_cmp) (paths_of self.now.folder) }
     {
@@ -328,9 +335,9 @@ impl<L: Lint> Session<L> {
 
     /// Laws of edits. Does nothing at run time.
     ///
-    /// Putting the bytes that are already there changes nothing and affects no file. Two files make the same folder,
-    /// whichever is put first, so faults, report and status don't depend on the order. A file that a change doesn't
-    /// affect keeps its faults.
+    /// Putting the bytes that are already there changes nothing and affects no file. Two files make
+    /// the same folder, whichever is put first, so faults, report and status don't depend on the
+    /// order. A file that a change doesn't affect keeps its faults.
     pub fn edit_laws(&self)
         ensures same { SamePutChangesNothing L.Iface.eq L.meaning self.now.folder }
         ensures order { PutsInAnyOrder self.now.folder }

@@ -11,7 +11,8 @@ is_untouched eq m old new p b =
     option_eq bytes_eq (bytes_at old p) (Some b)
     && list_all (λ t. option_eq eq (answer m old t) (answer m new t)) (m.calls p b)
 
--- the files of the new folder that are new, whose bytes changed, or that have a call whose answer changed
+-- the files of the new folder that are new, whose bytes changed, or that have a call whose answer
+-- changed
 unfoldable pub affected_paths :
     {I : Type 0} → (I → I → Bool) → Meaning I → Folder → Folder → List (List ℕ)
 affected_paths eq m old new = paths_of (filter (λ e. not (is_untouched eq m old new e.0 e.1)) new)

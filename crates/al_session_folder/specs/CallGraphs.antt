@@ -17,12 +17,14 @@ abbrev pub TellCycles : List (List ℕ) → List (Option ℕ) → Type 0
 TellCycles graph labels = (length labels ≡ length graph) × ((j k : ℕ) → Edge graph j k →
     (slice_index_or labels k None ≡ slice_index_or labels j None) ↔ Walk graph k j)
 
--- The graph of a folder's calls, as the program keeps it, and labels that decide which of them are on a cycle.
+-- The graph of a folder's calls, as the program keeps it, and labels that decide which of them are
+-- on a cycle.
 pub record IsCallGraph {I : Type 0} (m : Meaning I) (f : Folder) (graph : List (Vec ℕ Global)) (labels : List (Option ℕ)) : Type 0 where
   pub edges : edges_of graph ≡ calls_graph m f
   pub tell : TellCycles (calls_graph m f) labels
 
--- The second folder has the paths of the first, and each file has the same calls: so they have the same graph.
+-- The second folder has the paths of the first, and each file has the same calls: so they have the
+-- same graph.
 pub record HasSameCalls {I : Type 0} (m : Meaning I) (f g : Folder) : Type 0 where
   pub paths : paths_of g ≡ paths_of f
   pub calls : map (λ e. m.calls e.0 e.1) g ≡ map (λ e. m.calls e.0 e.1) f

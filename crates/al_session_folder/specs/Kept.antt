@@ -1,4 +1,5 @@
--- The files of a folder as a session keeps them, the index of their callers, and both after a change.
+-- The files of a folder as a session keeps them, the index of their callers, and both after a
+-- change.
 use Rattle.std.specs.Prelude.{◌≡◌, ℕ, ◌≤◌, Bool, true, false, List, [], Option, Some, None}
 use Rattle.std.specs.Prelude.{length, map, String, string_bytes, bytes_eq, cond}
 use Rattle.std.specs.Borrow.{Bor}

@@ -15,8 +15,8 @@ use Rattle.al_session_folder.specs.Cycles.{call_cycle_faults, report_faults}
 use Rattle.al_session_folder.specs.declared.kept.KeptFile.{KeptFile}
 use Rattle.al_session_folder.specs.Kept.{Files, folder_of, referents}
 
--- a file's own faults and those of its calls on a call cycle, in the order of reports, each once; empty if no call is
--- on one
+-- a file's own faults and those of its calls on a call cycle, in the order of reports, each once;
+-- empty if no call is on one
 abbrev pub joined_faults : List Fault → List Fault → List Fault
 joined_faults own on_cycles = cond (length on_cycles == 0) [] (fault_list (own ++ on_cycles))
 

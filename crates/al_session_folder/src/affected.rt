@@ -22,8 +22,9 @@ use al_lint::{Lint, Target, owned_path};
 use std::alloc::{AllocError, Global};
 use std::marker::Model;
 
-/// A change of one path that isn't made yet: the current files, and the file that the path will have, if any. Contracts see the folder
-/// before the change, the path, and the bytes that the path will have.
+/// A change of one path that isn't made yet: the current files, and the file that the path will
+/// have, if any. Contracts see the folder before the change, the path, and the bytes that the path
+/// will have.
 #[derive(Drop)]
 pub struct PlannedChange<'a, L: Lint> {
     files: &'a Files<L::Unit, L::Iface>,
@@ -89,7 +90,8 @@ impl<'a, L: Lint> PlannedChange<'a, L> {
         FolderView::with(self.files, self.path, self.next)
     }
 
-    // Whether the interface at the path of the change stays the same, or there is no file before and after.
+    // Whether the interface at the path of the change stays the same, or there is no file before
+    // and after.
     fn has_same_interface(&self) -> bool
         ensures { result ≡ option_eq L.Iface.eq
             (interface_in L.meaning self.now.before self.now.path)
@@ -99,7 +101,8 @@ impl<'a, L: Lint> PlannedChange<'a, L> {
         is_same(before, self.after().interface(self.path))
     }
 
-    // Whether a call keeps its answer. One that doesn't have the path of the change as a candidate does.
+    // Whether a call keeps its answer. One that doesn't have the path of the change as a candidate
+    // does.
     fn has_same_answer(&self, target: &Target) -> bool
         ensures { result ≡ option_eq L.Iface.eq (answer L.meaning self.now.before target.now)
             (answer L.meaning (changed_by self.now) target.now) }
@@ -154,8 +157,9 @@ impl<'a, L: Lint> PlannedChange<'a, L> {
         Ok(paths)
     }
 
-    /// The paths of the files that the change affects, in order, each once: those that are new, whose bytes change, or that have a call
-    /// whose answer changes. The path must not keep its bytes. Looks only at the file at the path and at its callers.
+    /// The paths of the files that the change affects, in order, each once: those that are new,
+    /// whose bytes change, or that have a call whose answer changes. The path must not keep its
+    /// bytes. Looks only at the file at the path and at its callers.
     ///
     /// # Errors
     ///

@@ -92,7 +92,8 @@ pub(crate) fn drop_caller(callers: &mut Callers, candidate: &str, path: &str)
     }
 }
 
-/// Makes a file a caller of all these candidates. On failure it may have become a caller of some of them.
+/// Makes a file a caller of all these candidates. On failure it may have become a caller of some of
+/// them.
 fn add_callers(callers: &mut Callers, names: &Names, path: &str) -> Result<(), AllocError>
     ensures added { OnOk result ((c q : List ℕ) → is_caller callers.new c q
         ≡ ((bytes_eq q path.now && contains_text names.now c) || is_caller callers.old c q)) }
@@ -108,7 +109,8 @@ fn add_callers(callers: &mut Callers, names: &Names, path: &str) -> Result<(), A
     Ok(())
 }
 
-/// Removes a file from the callers of those candidates that aren't among the others. Doesn't allocate.
+/// Removes a file from the callers of those candidates that aren't among the others. Doesn't
+/// allocate.
 pub fn drop_callers(callers: &mut Callers, names: &Names, others: &Names, path: &str)
     ensures { (c q : List ℕ) → is_caller callers.new c q
         ≡ (not (bytes_eq q path.now

@@ -19,14 +19,14 @@ use al_lint::{Lint, Site, Target};
 use std::alloc::{AllocError, Global};
 use std::marker::Model;
 
-/// The calls between the files of a folder, which are numbered in order of path. It depends only on the paths of the
-/// files and on their calls.
+/// The calls between the files of a folder, which are numbered in order of path. It depends only on
+/// the paths of the files and on their calls.
 #[derive(Drop)]
 pub struct CallGraph {
     // For each file the numbers of the files that its calls lead to.
     graph: Vec<Vec<usize>>,
-    // A label for each file. If calls lead from one file to another, the two have the same label if and only if calls also lead from the
-    // other to the first.
+    // A label for each file. If calls lead from one file to another, the two have the same label if
+    // and only if calls also lead from the other to the first.
     labels: Vec<Option<usize>>,
 }
 
@@ -113,7 +113,8 @@ fn has_label_of(nodes: &[usize], labels: &[Option<usize>], node: usize) -> bool
     false
 }
 
-/// Whether a call of the file with this number is on a call cycle, by the number of the file that the call leads to.
+/// Whether a call of the file with this number is on a call cycle, by the number of the file that
+/// the call leads to.
 fn is_on_cycle(labels: &[Option<usize>], index: usize, to: Option<usize>) -> bool
     requires index { index < length labels.now }
     requires to { IfSome to (λ number. number < length labels.now) }
@@ -178,8 +179,8 @@ impl<'a, L: Lint> LinkedFiles<'a, L> {
         self.files.len()
     }
 
-    /// Whether any call of the file with this number is on a call cycle, that is, leads to a file in its strongly connected component.
-    /// Looks at no file.
+    /// Whether any call of the file with this number is on a call cycle, that is, leads to a file
+    /// in its strongly connected component. Looks at no file.
     pub fn has_call_on_cycle(&self, index: usize) -> bool
         requires { index < length self.now }
         ensures { (p b : List ℕ) → slice_get self.now index ≡ Some (p, b) → result
@@ -189,8 +190,8 @@ impl<'a, L: Lint> LinkedFiles<'a, L> {
         has_label_of(row, &self.calls.labels, index)
     }
 
-    /// The faults of the calls of the file with this number that are on a call cycle, in the order of the calls. If none is, no candidate
-    /// is looked up.
+    /// The faults of the calls of the file with this number that are on a call cycle, in the order
+    /// of the calls. If none is, no candidate is looked up.
     ///
     /// # Errors
     ///

@@ -11,7 +11,8 @@ use crate::{Files, LinkedFiles, Lint, file_number};
 use al_base::Fault;
 use std::alloc::{AllocError, Global};
 
-// A file's own faults and those of its calls on a call cycle, in the order of reports, each once. Empty if no call is on a cycle.
+// A file's own faults and those of its calls on a call cycle, in the order of reports, each once.
+// Empty if no call is on a cycle.
 fn join_faults<'a>(
     alloc: Global,
     own: &'a [Fault],
@@ -22,7 +23,8 @@ fn join_faults<'a>(
     if call_cycle_faults.is_empty() {
         return Ok(Vec::new(alloc));
     }
-    // The file's own faults are sorted, and few come after its first call, so appending the others makes sorting fast.
+    // The file's own faults are sorted, and few come after its first call, so appending the others
+    // makes sorting fast.
     let mut joined: Vec<&Fault> = own.iter().chain(call_cycle_faults).collect(alloc)?;
     joined.sort_unstable();
     joined.dedup();
@@ -47,8 +49,8 @@ pub fn find_call_cycle_faults<L: Lint>(
     Ok(all)
 }
 
-/// What a report lists of each file, in order of path, given the faults of calls on a call cycle. Empty for a file without such faults,
-/// of which the report lists its own faults.
+/// What a report lists of each file, in order of path, given the faults of calls on a call cycle.
+/// Empty for a file without such faults, of which the report lists its own faults.
 ///
 /// # Errors
 ///

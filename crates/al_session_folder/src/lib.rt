@@ -1,5 +1,6 @@
-//! A folder of files that may call one another, as a session keeps it: what it requires of a linter, the files that were read, the index
-//! of their callers, which files a change affects, which calls are on a call cycle, and which faults a report lists of each file.
+//! A folder of files that may call one another, as a session keeps it: what it requires of a
+//! linter, the files that were read, the index of their callers, which files a change affects,
+//! which calls are on a call cycle, and which faults a report lists of each file.
 #![tactic(auto)]
 
 mod affected;

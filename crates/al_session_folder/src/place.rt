@@ -11,7 +11,8 @@ ghost use Rattle.al_session_folder.specs.Kept.{folder_of};
 use crate::kept::{Files, KeptFile};
 use std::cmp::Ordering;
 
-/// `Ok` with the index of the file with a path, or `Err` with the index at which it would be inserted.
+/// `Ok` with the index of the file with a path, or `Err` with the index at which it would be
+/// inserted.
 pub fn place_in<U, I>(files: &Files<U, I>, path: &str) -> Result<usize, usize>
     requires { IsStrictlySortedBy (slice_cmp nat_cmp) (paths_of (folder_of files.now.entries)) }
     ensures { result ≡ path_place (paths_of (folder_of files.now.entries)) path.now }

@@ -1,4 +1,5 @@
-//! A view of a folder's files, either as they are or with one path changed: what they answer to calls, and checking them.
+//! A view of a folder's files, either as they are or with one path changed: what they answer to
+//! calls, and checking them.
 
 ghost use Rattle.std.specs.Prelude.{◌≡◌, IsSome, length, map, IfOk, IfSome, OnOk, OnErr};
 ghost use Rattle.std.specs.List.{AllByRecursion};
@@ -14,7 +15,8 @@ use al_lint::{Lint, Target};
 use std::alloc::AllocError;
 use std::marker::Model;
 
-/// The files of a folder, either as they are or with another file, or none, at one path. Contracts see the folder.
+/// The files of a folder, either as they are or with another file, or none, at one path. Contracts
+/// see the folder.
 #[derive(Drop)]
 pub struct FolderView<'a, L: Lint> {
     files: &'a Files<L::Unit, L::Iface>,
@@ -128,11 +130,13 @@ impl<'a, L: Lint> FolderView<'a, L> {
         Ok(lint.check(alloc, at, &file.bytes, &file.unit, &found)?)
     }
 
-    /// The faults of the files at these paths: a list for each file, in order. Checks each file once, and reads none.
+    /// The faults of the files at these paths: a list for each file, in order. Checks each file
+    /// once, and reads none.
     ///
     /// # Errors
     ///
-    /// [`AllocError`] if memory runs out. At most as many checks as there are paths have then been counted.
+    /// [`AllocError`] if memory runs out. At most as many checks as there are paths have then been
+    /// counted.
     pub fn check_paths(&self, lint: &mut L, paths: &[Path]) -> Result<Vec<Vec<Fault>>, AllocError>
         requires { AllByRecursion (λ q. IsSome (bytes_at self.now q)) paths.now }
         ensures faults { IfOk result (λ lists. map (λ faults. faults.items) lists.items

@@ -1,6 +1,7 @@
 //! Files that several tests lint.
 
-// Functions without a contract keep the proofs of tests from computing what a call does with a file.
+// Functions without a contract keep the proofs of tests from computing what a call does with a
+// file.
 
 pub(crate) const CALLER: &str = ".github/workflows/c.yml";
 

@@ -50,7 +50,7 @@ fn calls_path(calls: &[Target], path: &str) -> bool {
 }
 
 /// Whether the only call of a file is of the file itself.
-fn is_on_cycle(
+fn calls_only(
     alloc: Global,
     lint: &mut Actions,
     path: &str,
@@ -66,15 +66,6 @@ fn is_on_cycle(
 
 fn takes_both(lint: &Actions) -> bool {
     lint.accepts(LOOP) && lint.accepts(ACTION) && !lint.accepts("x.yml")
-}
-
-fn lints(alloc: Global) -> Result<bool, AllocError> {
-    let mut lint = Actions::new();
-    Ok(
-        takes_both(&lint)
-            && shows(alloc, &mut lint, ACTION, action())?
-            && is_on_cycle(alloc, &mut lint, LOOP, calls_itself())?,
-    )
 }
 
 /// Whether a call is the one on the fifth line of a file that calls itself.
@@ -144,8 +135,19 @@ fn the_check_of_a_file(rt: HostRuntime) -> Result<(), AllocError> {
 }
 
 #[test]
-fn a_linter_by_itself(rt: HostRuntime) -> Result<(), AllocError> {
-    assert!(rt; lints(rt.alloc())?);
+fn the_paths_that_a_linter_takes(rt: HostRuntime) {
+    assert!(rt; takes_both(&Actions::new()));
+}
+
+#[test]
+fn the_interface_of_a_file(rt: HostRuntime) -> Result<(), AllocError> {
+    assert!(rt; shows(rt.alloc(), &mut Actions::new(), ACTION, action())?);
+    Ok(())
+}
+
+#[test]
+fn the_calls_of_a_file(rt: HostRuntime) -> Result<(), AllocError> {
+    assert!(rt; calls_only(rt.alloc(), &mut Actions::new(), LOOP, calls_itself())?);
     Ok(())
 }
 

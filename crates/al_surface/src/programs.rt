@@ -36,12 +36,12 @@ fn refuses_files(alloc: Global, given: &[&str]) -> bool {
 
 #[test]
 fn words(rt: HostRuntime) {
-    assert!(rt;
-        takes(
-            rt.alloc(),
-            &["actionlint", "--oneline", "--root", "d", "a/action.yml"]
-        )
-    );
+    let given = ["actionlint", "--oneline", "--root", "d", "a/action.yml"];
+    assert!(rt; takes(rt.alloc(), &given));
+}
+
+#[test]
+fn words_that_ask_for_no_run(rt: HostRuntime) {
     assert!(rt; refuses_files(rt.alloc(), &["actionlint", "--session", "a/action.yml"]));
 }
 
@@ -158,7 +158,8 @@ fn is_reported(alloc: Global, files: &[(Path, Vec<u8>)], wanted: &[u8]) -> bool 
     }
 }
 
-/// Whether the files of the folder are its only workflow and the action that this calls, and their report is this one.
+/// Whether the files of the folder are its only workflow and the action that this calls, and their
+/// report is this one.
 fn gathers<R: Files + RandomSource + AllocGlobal + Clone + Drop>(rt: &R, wanted: &[u8]) -> bool {
     let words = Words {
         oneline: true,

@@ -53,18 +53,26 @@ fn has_both(session: &Session<Actions>) -> bool {
     has_file(session, CALLER, caller(), 1) && has_file(session, ACTION, action(), 0)
 }
 
+fn takes_caller(alloc: Global, session: &mut Session<Actions>) -> Result<bool, Stop> {
+    let is_put = puts(session, CALLER, caller(), &[CALLER]) && reports(alloc, session, b"")?;
+    Ok(is_put && misses(session, &["a/action.yaml", ACTION])?)
+}
+
+fn takes_action(alloc: Global, session: &mut Session<Actions>) -> Result<bool, Stop> {
+    let is_put = puts(session, ACTION, action(), &[CALLER, ACTION]);
+    Ok(is_put && reports(alloc, session, missing_input())? && has_both(session))
+}
+
+fn drops_action(alloc: Global, session: &mut Session<Actions>) -> Result<bool, Stop> {
+    let is_deleted = session.meter() == 3 && deletes(session, ACTION, &[CALLER]);
+    Ok(is_deleted && reports(alloc, session, b"")? && session.bytes(ACTION).is_none())
+}
+
 fn follows_edits(alloc: Global, session: &mut Session<Actions>) -> Result<bool, Stop> {
     Ok(
-        puts(session, CALLER, caller(), &[CALLER])
-            && reports(alloc, session, b"")?
-            && misses(session, &["a/action.yaml", ACTION])?
-            && puts(session, ACTION, action(), &[CALLER, ACTION])
-            && reports(alloc, session, missing_input())?
-            && has_both(session)
-            && session.meter() == 3
-            && deletes(session, ACTION, &[CALLER])
-            && reports(alloc, session, b"")?
-            && session.bytes(ACTION).is_none(),
+        takes_caller(alloc, session)?
+            && takes_action(alloc, session)?
+            && drops_action(alloc, session)?,
     )
 }
 
@@ -82,18 +90,19 @@ fn refuses_delete(session: &mut Session<Actions>, path: &str) -> bool {
     }
 }
 
-fn follows(alloc: Global) -> Result<bool, Stop> {
-    let mut session = Session::open(alloc, Actions::new());
-    Ok(
-        follows_edits(alloc, &mut session)?
-            && refuses(&mut session, "../x.yml", Refused::BadPath)
-            && refuses(&mut session, "x.yml", Refused::NotAccepted)
-            && refuses_delete(&mut session, ".github/workflows/z.yml"),
-    )
+fn refuses_all(session: &mut Session<Actions>) -> bool {
+    refuses(session, "../x.yml", Refused::BadPath)
+        && refuses(session, "x.yml", Refused::NotAccepted)
+        && refuses_delete(session, ".github/workflows/z.yml")
 }
 
 #[test]
 fn an_edited_folder(rt: HostRuntime) -> Result<(), Stop> {
-    assert!(rt; follows(rt.alloc())?);
+    assert!(rt; follows_edits(rt.alloc(), &mut Session::open(rt.alloc(), Actions::new()))?);
     Ok(())
+}
+
+#[test]
+fn refused_edits(rt: HostRuntime) {
+    assert!(rt; refuses_all(&mut Session::open(rt.alloc(), Actions::new())));
 }

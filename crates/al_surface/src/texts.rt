@@ -48,12 +48,20 @@ fn letters(alloc: Global, count: u32) -> Result<String, AllocError> {
     Ok(text)
 }
 
+/// The fault of a path of this many letters.
+fn fault_of_letters(alloc: Global, count: u32) -> Result<Option<PathFault>, AllocError> {
+    Ok(path_fault(letters(alloc, count)?.as_str()))
+}
+
 #[test]
 fn a_path_has_1024_bytes(rt: HostRuntime) -> Result<(), AllocError> {
-    let longest = letters(rt.alloc(), 1_024)?;
-    assert!(rt; path_fault(longest.as_str()).is_none());
-    let longer = letters(rt.alloc(), 1_025)?;
-    assert!(rt; path_fault(longer.as_str()) == Some(PathFault::TooLong));
+    assert!(rt; fault_of_letters(rt.alloc(), 1_024)?.is_none());
+    Ok(())
+}
+
+#[test]
+fn a_path_has_no_1025_bytes(rt: HostRuntime) -> Result<(), AllocError> {
+    assert!(rt; fault_of_letters(rt.alloc(), 1_025)? == Some(PathFault::TooLong));
     Ok(())
 }
 
@@ -164,6 +172,11 @@ fn is_printed_by_lines(alloc: Global, bytes: &[u8], wanted: &[u8]) -> Result<boo
 #[test]
 fn a_fault_is_printed_with_its_line(rt: HostRuntime) -> Result<(), Stop> {
     assert!(rt; is_printed(rt.alloc(), misspelled(), printed())?);
+    Ok(())
+}
+
+#[test]
+fn a_fault_is_printed_by_a_table_of_lines(rt: HostRuntime) -> Result<(), Stop> {
     assert!(rt; is_printed_by_lines(rt.alloc(), misspelled(), printed())?);
     Ok(())
 }
@@ -185,8 +198,13 @@ fn counts_no_failure(alloc: Global, bytes: &[u8]) -> Result<bool, Stop> {
 }
 
 #[test]
-fn readers_and_writers_count(rt: HostRuntime) -> Result<(), Stop> {
+fn a_reader_counts(rt: HostRuntime) -> Result<(), Stop> {
     assert!(rt; counts_reads(b"ab")?);
+    Ok(())
+}
+
+#[test]
+fn a_writer_counts(rt: HostRuntime) -> Result<(), Stop> {
     assert!(rt; counts_no_failure(rt.alloc(), b"ab")?);
     Ok(())
 }

@@ -1,4 +1,5 @@
-//! `al_tree` and `al_rules`: workflows and actions, and the faults of their keys and those that rules find.
+//! `al_tree` and `al_rules`: workflows and actions, and the faults of their keys and those that
+//! rules find.
 
 use al_rules::rules;
 use al_text::{Code, Fault, KeyCode, RuleCode, fault_list};
@@ -16,7 +17,7 @@ fn are_expected(found: &[Fault], wanted: &[Expected]) -> bool {
 }
 
 /// The document of a file. The files here are valid YAML within the size limit.
-fn document(alloc: Global, file: &[u8]) -> Result<Doc, AllocError> {
+pub(crate) fn document(alloc: Global, file: &[u8]) -> Result<Doc, AllocError> {
     if file.len() > 1_048_576 {
         return Err(AllocError);
     }
@@ -65,8 +66,13 @@ fn breaks_action(alloc: Global, file: &[u8], wanted: &[Expected]) -> Result<bool
 }
 
 #[test]
-fn keys_and_values(rt: HostRuntime) -> Result<(), AllocError> {
+fn keys_and_values_of_a_workflow(rt: HostRuntime) -> Result<(), AllocError> {
     assert!(rt; breaks_workflow(rt.alloc(), step_without_work(), of_the_step())?);
+    Ok(())
+}
+
+#[test]
+fn keys_and_values_of_an_action(rt: HostRuntime) -> Result<(), AllocError> {
     assert!(rt; breaks_action(rt.alloc(), composite(), of_the_action())?);
     Ok(())
 }
@@ -81,17 +87,25 @@ fn of_the_schedule() -> &'static [Expected] {
     &OF_THE_SCHEDULE
 }
 
-/// The faults that rules alone find in a workflow.
-fn rules_of(alloc: Global, file: &[u8]) -> Result<Vec<Fault>, AllocError> {
-    let (workflow, _) = read_workflow(alloc, document(alloc, file)?)?;
+/// Whether rules alone find these faults in a tree.
+fn breaks_rules(alloc: Global, tree: &Tree, wanted: &[Expected]) -> Result<bool, AllocError> {
     let mut out = Vec::new(alloc);
-    rules(alloc, &Tree::Workflow(workflow), &mut out)?;
-    Ok(out)
+    rules(alloc, tree, &mut out)?;
+    Ok(are_expected(&out, wanted))
+}
+
+/// The same of a workflow.
+fn workflow_breaks_rules(
+    alloc: Global,
+    file: &[u8],
+    wanted: &[Expected],
+) -> Result<bool, AllocError> {
+    let (workflow, _) = read_workflow(alloc, document(alloc, file)?)?;
+    breaks_rules(alloc, &Tree::Workflow(workflow), wanted)
 }
 
 #[test]
 fn rules_of_a_file(rt: HostRuntime) -> Result<(), AllocError> {
-    let found = rules_of(rt.alloc(), often())?;
-    assert!(rt; are_expected(&found, of_the_schedule()));
+    assert!(rt; workflow_breaks_rules(rt.alloc(), often(), of_the_schedule())?);
     Ok(())
 }

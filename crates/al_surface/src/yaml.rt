@@ -8,8 +8,8 @@ use std::alloc::{AllocError, Global};
 /// The maximum size of a file, in bytes.
 const MOST: usize = 1_048_576;
 
-/// A scalar at the fourth byte of a file, in a block mapping: its text, the offsets of its bytes and of its end, and the offset at which
-/// the rest begins.
+/// A scalar at the fourth byte of a file, in a block mapping: its text, the offsets of its bytes
+/// and of its end, and the offset at which the rest begins.
 struct Row {
     file: &'static [u8],
     style: Style,
@@ -179,7 +179,8 @@ fn are_of_classes(node: &Node, wanted: &[Class]) -> bool {
     }
 }
 
-/// Whether the value of the first entry is a flow sequence with items of these classes, and its span includes the brackets.
+/// Whether the value of the first entry is a flow sequence with items of these classes, and its
+/// span includes the brackets.
 fn holds(root: &Node, wanted: &[Class]) -> bool {
     match root {
         Node::Mapping { entries, .. } => match entries.first() {

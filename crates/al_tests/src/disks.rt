@@ -5,7 +5,7 @@ ghost use Rattle.al_cli.specs.Disk.{IsBounded};
 
 use al_base::Path;
 use al_base::limits::LARGEST_FILE;
-use al_cli::{Disk, DiskError, Entry, Gathered, Unread, Words, gather, load_from};
+use al_cli::{Disk, DiskError, Entry, Gathered, Unread, Words, gather, load};
 use al_session::Refused;
 use std::alloc::{AllocError, Global};
 use std::collections::BTreeSet;
@@ -17,7 +17,8 @@ use std::test::Fail;
 // A folder's files, by their paths and bytes.
 type Files = &'static [(&'static str, &'static [u8])];
 
-// A disk in memory that records the paths it is asked for. A file with the content `outside` stands for a link out of the folder.
+// A disk in memory that records the paths it is asked for. A file with the content `outside` stands
+// for a link out of the folder.
 #[derive(Drop)]
 struct Held {
     files: Files,
@@ -25,7 +26,7 @@ struct Held {
 }
 
 impl Disk for Held {
-    fn workflows(&mut self, alloc: Global) -> Result<BTreeSet<String>, DiskError> {
+    fn workflows(&mut self, alloc: Global, _root: &str) -> Result<BTreeSet<String>, DiskError> {
         let mut listed = BTreeSet::new(alloc);
         for (path, _) in self.files {
             if path.starts_with(".github/workflows/") {
@@ -35,7 +36,7 @@ impl Disk for Held {
         Ok(listed)
     }
 
-    fn read(&mut self, alloc: Global, path: &str) -> Result<Entry, DiskError> {
+    fn read(&mut self, alloc: Global, _root: &str, path: &str) -> Result<Entry, DiskError> {
         self.asked.push(String::from_str(alloc, path)?)?;
         for (held, bytes) in self.files {
             if *held == path {
@@ -56,8 +57,8 @@ fn entry_of(alloc: Global, bytes: &[u8]) -> Result<Entry, DiskError>
     Ok(Entry::File(Vec::from_slice(alloc, &bytes[..most])?))
 }
 
-// A workflow that calls two actions, the second of which calls itself and an action beside the first. The first action is
-// outside the folder, and so is a workflow that a job calls.
+// A workflow that calls two actions, the second of which calls itself and an action beside the
+// first. The first action is outside the folder, and so is a workflow that a job calls.
 static FOLDER: [(&str, &[u8]); 6] = [
     (
         ".github/workflows/a.yml",
@@ -80,7 +81,8 @@ fn folder() -> Files {
     &FOLDER
 }
 
-// First the workflows, then, one after another, the first candidate in order of path that hasn't been tried.
+// First the workflows, then, one after another, the first candidate in order of path that hasn't
+// been tried.
 static READS: [&str; 8] = [
     ".github/workflows/a.yml",
     ".github/workflows/b.yml",
@@ -120,7 +122,7 @@ fn are_read_in_order(alloc: Global, words: &Words<'_>) -> bool {
         files: folder(),
         asked: Vec::new(alloc),
     };
-    match load_from(alloc, &mut disk, words) {
+    match load(alloc, &mut disk, words) {
         Ok(gathered) => {
             are_these(&disk.asked, reads()) && are_these(&gathered.outside, outside())
         }
@@ -153,7 +155,8 @@ fn named<'a>(alloc: Global, files: &[&'a str]) -> Result<Words<'a>, AllocError> 
     })
 }
 
-// Whether the files at these paths were taken, and none was checked: the session built from them checks each file once.
+// Whether the files at these paths were taken, and none was checked: the session built from them
+// checks each file once.
 fn are_taken(gathered: Gathered, paths: &[&str]) -> Result<bool, AllocError> {
     for path in paths {
         if gathered.files.bytes(path).is_none() {
@@ -171,7 +174,7 @@ fn takes_named(alloc: Global) -> Result<bool, AllocError> {
         asked: Vec::new(alloc),
     };
     let words = named(alloc, &["./x/action.yml", "z/action.yml"])?;
-    match load_from(alloc, &mut disk, &words) {
+    match load(alloc, &mut disk, &words) {
         Ok(gathered) => are_taken(gathered, &["x/action.yml", "w/action.yaml", "z/action.yml"]),
         Err(_) => Ok(false),
     }
@@ -190,7 +193,7 @@ fn is_refused_unread(alloc: Global, path: &str, wanted: Refused) -> Result<bool,
         asked: Vec::new(alloc),
     };
     let words = named(alloc, &[path])?;
-    match load_from(alloc, &mut disk, &words) {
+    match load(alloc, &mut disk, &words) {
         Err(Unread::Refused(text, reason)) => {
             Ok(text.as_str() == path && reason == wanted && disk.asked.is_empty())
         }
@@ -212,7 +215,7 @@ fn reads_once(alloc: Global) -> Result<bool, AllocError> {
         asked: Vec::new(alloc),
     };
     let words = named(alloc, &["z/action.yml", "./z/action.yml"])?;
-    let answer = load_from(alloc, &mut disk, &words);
+    let answer = load(alloc, &mut disk, &words);
     Ok(answer.is_ok() && are_these(&disk.asked, &["z/action.yml"]))
 }
 

@@ -28,7 +28,8 @@ fn is_front(output: &[u8]) -> bool {
     replies().starts_with(output)
 }
 
-/// Whether a run stops at the first failing read, after this many others, and makes no further read.
+/// Whether a run stops at the first failing read, after this many others, and makes no further
+/// read.
 fn stops_at_read(alloc: Global, before: u32) -> bool {
     let mut reader = Input::new(FailsOnce::new(alloc, script(), before));
     let mut output = Vec::new(alloc);

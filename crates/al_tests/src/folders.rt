@@ -203,13 +203,15 @@ static ROWS: [Row; 13] = [
     (&[ACTION, ACTION_WITHOUT_INPUTS], b""),
 ];
 
-// Functions without a contract return the rows, which are statics: so no proof of a test computes the faults of their files.
+// Functions without a contract return the rows, which are statics: so no proof of a test computes
+// the faults of their files.
 
 fn rows() -> &'static [Row] {
     &ROWS
 }
 
-// Whether the report of a folder is this one, and its status is 1 exactly if the report isn't empty.
+// Whether the report of a folder is this one, and its status is 1 exactly if the report isn't
+// empty.
 fn is_reported(alloc: Global, files: &[File], report: &[u8]) -> bool {
     let mut written = Vec::new(alloc);
     let status = lint_all(alloc, files, &mut Output::new(&mut written), true);

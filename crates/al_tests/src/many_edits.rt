@@ -33,7 +33,8 @@ static FILES: [&[u8]; 12] = [
     b"",
 ];
 
-// Functions without a contract keep the proofs of tests from computing what a session does with a file.
+// Functions without a contract keep the proofs of tests from computing what a session does with a
+// file.
 
 fn paths() -> &'static [&'static str] {
     &PATHS

@@ -7,8 +7,8 @@ ghost use Rattle.al_yaml_tree.specs.View.{view};
 use crate::values::{items_under, value};
 use al_yaml_tree::Node;
 
-/// The value below two keys, the second in the mapping under the first; of equal keys the first
-/// counts.
+/// The value below two keys, the second in the mapping under the first; `None` if there is none.
+/// Keys are compared exactly; of equal keys the first counts.
 pub fn value_below_two<'a>(node: &'a Node, first: &str, second: &str) -> Option<&'a Node>
     ensures { option_map (λ n. view n.now) result
         ≡ value_below (first.now ∷ second.now ∷ []) (view node.now) }
@@ -16,7 +16,7 @@ pub fn value_below_two<'a>(node: &'a Node, first: &str, second: &str) -> Option<
     value(value(node, first)?, second)
 }
 
-/// The value below three keys.
+/// The value below three keys, as [`value_below_two`] finds it.
 pub fn value_below_three<'a>(
     node: &'a Node,
     first: &str,
@@ -36,7 +36,8 @@ pub fn has_value(node: &Node, key: &str) -> bool
     value(node, key).is_some()
 }
 
-/// Whether the root of an action says that it is composite.
+/// Whether the root of an action says that it is composite: `runs.using` is `composite`, compared
+/// exactly.
 pub fn is_composite(root: &Node) -> bool
     ensures { result ≡ declarations.is_composite (view root.now) }
 {
@@ -45,7 +46,7 @@ pub fn is_composite(root: &Node) -> bool
         .is_some_and(|scalar| scalar.text() == b"composite".as_slice())
 }
 
-/// The steps of an action, in order; none where it runs none.
+/// The steps of an action, in order; none where it has no sequence of steps.
 pub fn action_steps(root: &Node) -> &[Node]
     ensures { map view result.now ≡ declarations.action_steps (view root.now) }
 {

@@ -11,10 +11,12 @@ use al_base::is_same_name;
 use al_yaml_tree::Node;
 use std::alloc::{AllocError, Global};
 
-/// What a mapping declares: its entries in order, of equal names the first; of another node
-/// nothing.
+/// What a mapping declares by names: its entries in order, and of names that are equal in any ASCII
+/// case the first. Nothing if the node isn't a mapping.
 ///
-/// Fails with `AllocError` when out of memory.
+/// # Errors
+///
+/// `AllocError` if memory runs out.
 pub fn declared_in(alloc: Global, node: &Node) -> Result<Vec<Member<'_>>, AllocError>
     ensures { IfOk result (λ v. map member_of v.items ≡ declarations.declared_in (view node.now)) }
 {
@@ -30,7 +32,11 @@ pub fn declared_in(alloc: Global, node: &Node) -> Result<Vec<Member<'_>>, AllocE
     Ok(found)
 }
 
-/// What a mapping declares, where there is one. Fails with `AllocError` when out of memory.
+/// What a node declares, as [`declared_in`] finds it; nothing for `None`.
+///
+/// # Errors
+///
+/// `AllocError` if memory runs out.
 pub fn declared_at(alloc: Global, node: Option<&Node>) -> Result<Vec<Member<'_>>, AllocError>
     ensures { IfOk result
         (λ v. map member_of v.items
@@ -42,7 +48,7 @@ pub fn declared_at(alloc: Global, node: Option<&Node>) -> Result<Vec<Member<'_>>
     }
 }
 
-/// Whether one of some texts is a name, ignoring ASCII case.
+/// Whether one of these texts is this name, ignoring ASCII case. Doesn't allocate.
 pub fn is_named_among(texts: &[&[u8]], name: &[u8]) -> bool
     ensures { result ≡ named_among (map (λ t. t.now) texts.now) name.now }
 {

@@ -16,26 +16,32 @@ use std::alloc::{AllocError, Global};
 /// A workflow, given by the root of its file (GitHub, "Workflow syntax for GitHub Actions").
 #[derive(Drop)]
 pub struct Workflow {
+    /// The root of the file.
     pub root: Node,
 }
 
 /// An action, given by the root of its file (GitHub, "Metadata syntax for GitHub Actions").
 #[derive(Drop)]
 pub struct Action {
+    /// The root of the file.
     pub root: Node,
 }
 
-/// A workflow or an action.
+/// A workflow or an action, by what it is read as; its faults are another matter.
 #[derive(Drop)]
 pub enum Tree {
+    /// A workflow.
     Workflow(Workflow),
+    /// An action.
     Action(Action),
 }
 
 /// What a file is read as.
 #[derive(Clone, Copy)]
 pub enum FileKind {
+    /// As a workflow.
     Workflow,
+    /// As an action.
     Action,
 }
 
@@ -61,8 +67,12 @@ impl Tree {
     }
 }
 
-/// Reads a document as a workflow, with the faults against the syntax of workflows, in the order of
-/// the document. These are exactly the faults that the table of the syntax gives.
+/// Reads a document as a workflow, with the faults against the syntax of workflows (K1 to K7;
+/// GitHub, "Workflow syntax for GitHub Actions"), in the order of the document. These are exactly
+/// the faults that the table of the syntax gives ([`rule_of`](crate::rule_of)). The tree is kept
+/// whatever is wrong with it.
+///
+/// An argument of a fault is a key as the file has it, control bytes included.
 ///
 /// # Errors
 ///
@@ -77,8 +87,12 @@ pub fn read_workflow(alloc: Global, doc: Doc) -> Result<(Workflow, Vec<Fault>), 
     Ok((Workflow { root: doc.root }, faults))
 }
 
-/// Reads a document as an action, with the faults against the syntax of actions, in the order of
-/// the document. These are exactly the faults that the table of the syntax gives.
+/// Reads a document as an action, with the faults against the syntax of actions (K1 to K7; GitHub,
+/// "Metadata syntax for GitHub Actions"), in the order of the document. These are exactly the
+/// faults that the table of the syntax gives ([`rule_of`](crate::rule_of)). The tree is kept
+/// whatever is wrong with it.
+///
+/// An argument of a fault is a key as the file has it, control bytes included.
 ///
 /// # Errors
 ///
@@ -93,7 +107,7 @@ pub fn read_action(alloc: Global, doc: Doc) -> Result<(Action, Vec<Fault>), Allo
     Ok((Action { root: doc.root }, faults))
 }
 
-/// The section that the root of a file should be.
+/// The section that the root of a file should be: [`Shape::Workflow`] or [`Shape::Action`].
 pub fn root_shape(kind: FileKind) -> Shape
     ensures { result ≡ shape_of kind }
 {

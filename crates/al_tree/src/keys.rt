@@ -12,7 +12,7 @@ use al_base::TextPositions;
 use al_yaml_tree::Entry;
 use std::alloc::{AllocError, Global};
 
-/// The text of an entry's key.
+/// The text of an entry's key, decoded.
 #[tactic(auto, using(al_yaml_tree::proofs::ViewLemmas::entry_parts))]
 pub fn key_of(entry: &Entry) -> &[u8]
     ensures { result.now ≡ key_in (entry_view entry.now) }
@@ -54,7 +54,11 @@ pub struct KeyIndex<'a> {
 }
 
 impl<'a> KeyIndex<'a> {
-    /// The keys of some entries. With few entries it takes no time and doesn't allocate. Fails with
+    /// The keys of some entries. With at most [`FEW_KEYS`] entries it takes no time and doesn't
+    /// allocate; with more, it sorts them.
+    ///
+    /// # Errors
+    ///
     /// `AllocError` if memory runs out.
     #[tactic(auto, using(crate::proofs::KeyLemmas::few_keys, crate::proofs::KeyLemmas::many_keys))]
     #[inline(always)]
@@ -91,7 +95,11 @@ impl<'a> KeyIndex<'a> {
         }
     }
 
-    /// The key of the entry at a position, with the keys of the entries before it.
+    /// The key of the entry at position `i`, from 0, with the keys of the entries before it.
+    ///
+    /// # Requires
+    ///
+    /// The index is one of [`KeyIndex::of`], and `i` is less than the number of its entries.
     pub fn key_at(&self, i: usize) -> EntryKey<'_>
         requires index { IsIndexOf self.now self.now.entries.now }
         requires within { i < length self.now.entries.now }
@@ -107,7 +115,7 @@ impl<'a> KeyIndex<'a> {
     }
 }
 
-/// The keys of the first entries of a mapping.
+/// The keys of the first entries of a mapping, for [`standing_of`](crate::standing_of).
 #[derive(Clone, Copy)]
 pub struct KeySet<'a> {
     index: &'a KeyIndex<'a>,
@@ -115,7 +123,8 @@ pub struct KeySet<'a> {
 }
 
 impl<'a> KeySet<'a> {
-    /// Whether a key is among them. With many keys it takes time logarithmic in their number.
+    /// Whether a key, compared exactly, is among them. With many keys it takes time logarithmic in
+    /// their number.
     pub fn contains(self, key: &[u8]) -> bool
         ensures { result ≡ holds self.entry key.now }
     {
@@ -134,8 +143,11 @@ impl<'a> KeySet<'a> {
 /// The key of an entry, with the keys of the entries before it.
 #[derive(Clone, Copy)]
 pub struct EntryKey<'a> {
+    /// The keys of the entries before it.
     pub seen: KeySet<'a>,
+    /// The text of its key.
     pub key: &'a [u8],
+    /// Whether the key is among those.
     pub is_repeated: bool,
     ghost told: { is_repeated ≡ holds seen key.now },
 }

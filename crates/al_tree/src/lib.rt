@@ -1,9 +1,30 @@
 //! Workflows and actions: which files they are, their trees, the faults of a tree against GitHub's
 //! syntax, and what a file declares by names.
 //!
-//! The syntax is a table of sections (`rule_of`). `text_under(step, "shell")` gives the value under
-//! a key of any node. Inputs, secrets and outputs are declared by names, which are the same in any
-//! ASCII case; of equal ones the first counts.
+//! The syntax is a table of sections (`rule_of`), from GitHub's pages "Workflow syntax for GitHub
+//! Actions" and "Metadata syntax for GitHub Actions". `text_under(step, "shell")` gives the value
+//! under a key of any node. Inputs, secrets and outputs are declared by names, which are the same
+//! in any ASCII case; of equal ones the first counts.
+//!
+//! # Examples
+//!
+//! The keys of a workflow, and its faults:
+//!
+//! ```rust
+//! use al_text::Fault;
+//! use al_tree::{members_under, read_workflow};
+//! use al_yaml::Doc;
+//! use std::alloc::{AllocError, Global};
+//!
+//! /// Adds the ids of a workflow's jobs to a list, and gives the faults by GitHub's syntax.
+//! fn job_ids(alloc: Global, doc: Doc, ids: &mut Vec<String>) -> Result<Vec<Fault>, AllocError> {
+//!     let (workflow, faults) = read_workflow(alloc, doc)?;
+//!     for job in &members_under(alloc, &workflow.root, "jobs")? {
+//!         ids.push(String::from_utf8_lossy(alloc, job.key.text())?)?;
+//!     }
+//!     Ok(faults)
+//! }
+//! ```
 #![tactic(auto)]
 
 mod below;

@@ -54,14 +54,15 @@ pub fn is_combination_key(key: &[u8]) -> bool
     is_among(key, &["include", "exclude"])
 }
 
-/// The names of the events. Doesn't allocate.
+/// The names of the events (GitHub, "Events that trigger workflows"). Doesn't allocate.
 pub fn event_names() -> &'static [&'static str]
     ensures { map (λ n. n.now) result.now ≡ names }
 {
     &EVENTS
 }
 
-/// Whether a text is the name of an event.
+/// Whether a text is the name of an event (GitHub, "Events that trigger workflows"), compared
+/// exactly.
 pub fn is_event(text: &[u8]) -> bool
     ensures { result ≡ event text.now }
 {

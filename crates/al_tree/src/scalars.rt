@@ -9,7 +9,7 @@ use al_base::KeyCode;
 use al_scalar::{Class, Scalar};
 use memchr::memchr;
 
-/// Whether a text has a `${{`.
+/// Whether a text has a `${{` anywhere, closed or not. Doesn't allocate.
 pub fn contains_chunk(text: &[u8]) -> bool
     ensures { result ≡ has_chunk text.now }
 {
@@ -24,14 +24,16 @@ pub fn contains_chunk(text: &[u8]) -> bool
     false
 }
 
-/// Whether a scalar is null.
+/// Whether a scalar is null by its class: plain, and empty or one of the words for null.
 pub fn is_null_scalar(scalar: &Scalar) -> bool
     ensures { result ≡ is_null scalar.now }
 {
     scalar.class() == Class::Null
 }
 
-/// The fault of a scalar where only the scalars of a set are accepted.
+/// The code of the fault of a scalar at a place that accepts only the scalars of a set; `None` if
+/// it is in the set. A scalar where none is accepted is of the wrong kind (K4), as is one without
+/// `${{` where only those with it are; in the other sets it has the wrong type (K5).
 #[inline(always)]
 pub fn scalar_fault(scalars: ScalarSet, scalar: &Scalar) -> Option<KeyCode>
     ensures { result ≡ faults.scalar_fault scalars scalar.now }

@@ -21,7 +21,8 @@ use al_yaml_tree::Entry;
 /// The values of `using` of an action that Node runs.
 pub const NODE_VERSIONS: [&str; 4] = ["node12", "node16", "node20", "node24"];
 
-/// The section of `runs`, depending on `using`.
+/// The section of `runs`, depending on the text of `using`, compared exactly (GitHub, "Metadata
+/// syntax", `runs`). For an unknown one it is [`Shape::Runs`].
 pub fn runs_of(using_text: &[u8]) -> Shape
     ensures { result ≡ runs using_text.now }
 {
@@ -36,7 +37,8 @@ pub fn runs_of(using_text: &[u8]) -> Shape
     }
 }
 
-/// The shape of a mapping with these entries; that of `runs` depends on one of its keys.
+/// The section that a mapping with these entries is checked against. It is `shape` itself, but for
+/// [`Shape::Runs`] it is the one that [`runs_of`] gives for its `using`.
 #[inline(always)]
 pub fn refine(shape: Shape, entries: &[Entry]) -> Shape
     ensures { result ≡ mapping_shape shape (map entry_view entries.now) }
@@ -77,7 +79,7 @@ pub(crate) fn is_needed(need: Need, all: KeySet<'_>) -> bool
     }
 }
 
-/// The standing of an entry in its mapping.
+/// What an entry is in its mapping: what [`standing_of`] gives.
 #[derive(Clone, Copy)]
 pub enum Standing {
     /// An earlier entry has the same key.
@@ -111,8 +113,8 @@ fn clash(clash: Clash, seen: KeySet<'_>, all: KeySet<'_>) -> Option<&'static str
     }
 }
 
-/// The standing of an entry with a key, after the keys seen so far, in a mapping with all these
-/// keys.
+/// What an entry is in a mapping that accepts `keys`, where `all` are the keys of the whole
+/// mapping, and `key` has those before the entry.
 #[inline(always)]
 pub fn standing_of(keys: Keys, key: EntryKey<'_>, all: KeySet<'_>) -> Standing
     ensures { standing_view result

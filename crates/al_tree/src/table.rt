@@ -10,54 +10,97 @@ use crate::sections::{
     RUNS, RUNS_ON, STEP, STRATEGY, WORKFLOW,
 };
 
-/// What a value should be: a section of the syntax, or a simple kind of value.
+/// What a value should be: a section of the syntax, or a simple kind of value (GitHub, "Workflow
+/// syntax for GitHub Actions" and "Metadata syntax for GitHub Actions"). [`rule_of`] says what each
+/// accepts.
 #[derive(Clone, Copy)]
 pub enum Shape {
+    /// Anything.
     Any,
+    /// A scalar.
     Text,
+    /// A boolean, or a scalar with `${{`.
     Flag,
+    /// A number, or a scalar with `${{`.
     Number,
+    /// A scalar, or a sequence of scalars.
     Texts,
+    /// A sequence of scalars.
     TextList,
+    /// A mapping of any keys to scalars.
     TextMap,
+    /// A scalar, or a mapping of any keys to scalars.
     TextOrMap,
+    /// A mapping of any keys to anything.
     AnyMap,
+    /// A mapping of any keys to scalars, or a scalar with `${{`.
     Env,
+    /// The root of a workflow.
     Workflow,
+    /// `on` of a workflow, or a section in it.
     On(Trigger),
+    /// `defaults` of a workflow or job.
     Defaults,
+    /// `run` in `defaults`.
     RunDefaults,
+    /// `concurrency` of a workflow or job: a scalar or a mapping.
     Concurrency,
+    /// `jobs`: a mapping of any keys to jobs.
     Jobs,
+    /// A job.
     Job,
+    /// `runs-on` of a job: a scalar, a sequence of scalars, or a mapping.
     RunsOn,
+    /// `strategy` of a job: a mapping, or a scalar with `${{`.
     Strategy,
+    /// `container` of a job: a scalar or a mapping.
     Container,
+    /// `steps`: a sequence of steps.
     Steps,
+    /// A step of a job or of a composite action.
     Step,
+    /// The root of an action.
     Action,
+    /// `runs` of an action, whose `using` isn't known.
     Runs,
+    /// `runs` of an action that Node runs.
     NodeRuns,
+    /// `runs` of a composite action.
     CompositeRuns,
+    /// `runs` of a Docker action.
     DockerRuns,
 }
 
 /// A section for what triggers a workflow: `on` itself, which has events, or a section in it.
 #[derive(Clone, Copy)]
 pub enum Trigger {
+    /// `on`: an event, a sequence of events, or a mapping of events.
     Events,
+    /// The value of an event without a section of its own, with its filters.
     Event,
+    /// `on.schedule`: a sequence of schedules.
     Schedule,
+    /// A schedule, with `cron`.
     Cron,
+    /// `on.workflow_dispatch`.
     Dispatch,
+    /// `on.workflow_dispatch.inputs`.
     DispatchInputs,
+    /// An input of `workflow_dispatch`.
     DispatchInput,
+    /// `on.workflow_call`.
     Call,
+    /// `on.workflow_call.inputs`.
     CallInputs,
+    /// An input of `workflow_call`.
     CallInput,
+    /// `on.workflow_call.secrets`.
     CallSecrets,
+    /// A secret of `workflow_call`.
     CallSecret,
+    /// `on.workflow_call.outputs`.
     CallOutputs,
+    /// An output of `workflow_call`.
     CallOutput,
 }
 
@@ -104,9 +147,13 @@ pub enum Clash {
 /// beside.
 #[derive(Clone, Copy)]
 pub struct Row {
+    /// The key, compared exactly.
     pub key: &'static str,
+    /// What its value should be.
     pub shape: Shape,
+    /// Whether it is required.
     pub need: Need,
+    /// The key that it can't stand beside.
     pub clash: Clash,
 }
 
@@ -138,8 +185,11 @@ pub enum Keys {
 /// and mappings.
 #[derive(Clone, Copy)]
 pub struct Rule {
+    /// The scalars that it accepts.
     pub scalars: ScalarSet,
+    /// The shape of the items of a sequence; `None` if no sequence is accepted.
     pub items: Option<Shape>,
+    /// The mappings that it accepts.
     pub keys: Keys,
 }
 

@@ -17,7 +17,7 @@ use al_yaml_tree::Node;
 use std::alloc::{AllocError, Global};
 use std::slice;
 
-/// The items of a sequence; no items if the node isn't one.
+/// The items of a sequence, in order; no items if the node isn't one.
 pub fn items(node: &Node) -> &[Node]
     ensures { map view result.now ≡ items_in (view node.now) }
 {
@@ -25,7 +25,7 @@ pub fn items(node: &Node) -> &[Node]
 }
 
 /// The value of the first entry with a key, compared exactly; `None` if there is none or the node
-/// isn't a mapping.
+/// isn't a mapping. Takes time linear in the number of entries.
 #[tactic(auto, using(al_yaml_tree::proofs::ViewLemmas::entry_parts))]
 pub fn value<'a>(node: &'a Node, key: &str) -> Option<&'a Node>
     ensures { option_map (λ n. view n.now) result ≡ value_at key.now (view node.now) }
@@ -33,7 +33,8 @@ pub fn value<'a>(node: &'a Node, key: &str) -> Option<&'a Node>
     Some(&entry_among(node.mapping()?, key)?.value)
 }
 
-/// The first occurrence of a key; `None` if there is none or the node isn't a mapping.
+/// The first key of a mapping with this text, compared exactly; `None` if there is none or the node
+/// isn't a mapping.
 #[tactic(auto, using(al_yaml_tree::proofs::ViewLemmas::entry_parts))]
 pub fn key<'a>(node: &'a Node, key: &str) -> Option<&'a Scalar>
     ensures { option_copied result ≡ key_at key.now (view node.now) }
@@ -75,8 +76,12 @@ pub fn texts(alloc: Global, node: &Node) -> Result<Vec<&Scalar>, AllocError>
     Ok(found)
 }
 
-/// The scalars under a key whose value is a scalar or a sequence of scalars, without those that are
-/// null. Fails with `AllocError` if memory runs out.
+/// The scalars under a key whose value is a scalar or a sequence of scalars, in order, without
+/// those that are null.
+///
+/// # Errors
+///
+/// `AllocError` if memory runs out.
 pub fn texts_under<'a>(
     alloc: Global,
     node: &'a Node,
@@ -90,7 +95,7 @@ pub fn texts_under<'a>(
     }
 }
 
-/// The items of the sequence under a key; no items if there is no sequence.
+/// The items of the sequence under a key, in order; no items if there is no sequence.
 pub fn items_under<'a>(node: &'a Node, key: &str) -> &'a [Node]
     ensures { map view result.now ≡ items_at key.now (view node.now) }
 {
@@ -100,7 +105,9 @@ pub fn items_under<'a>(node: &'a Node, key: &str) -> &'a [Node]
 /// A key of a mapping and its value.
 #[derive(Clone, Copy)]
 pub struct Member<'a> {
+    /// The key.
     pub key: &'a Scalar,
+    /// The value.
     pub value: &'a Node,
 }
 
@@ -148,7 +155,11 @@ pub fn members_under<'a>(
     }
 }
 
-/// The texts of the keys of members, in order. Fails with `AllocError` if memory runs out.
+/// The texts of the keys of members, in order.
+///
+/// # Errors
+///
+/// `AllocError` if memory runs out.
 pub fn key_texts<'a>(alloc: Global, members: &[Member<'a>]) -> Result<Vec<&'a [u8]>, AllocError>
     ensures { IfOk result (λ v. map (λ k. k.now) v.items ≡ keys_in (map member_of members.now)) }
 {
@@ -159,8 +170,12 @@ pub fn key_texts<'a>(alloc: Global, members: &[Member<'a>]) -> Result<Vec<&'a [u
     Ok(keys)
 }
 
-/// The first position of the key of each member, ignoring ASCII case. Fails with `AllocError` if
-/// memory runs out.
+/// Where the key of each member occurs first, ignoring ASCII case: its position from 0 among these
+/// members.
+///
+/// # Errors
+///
+/// `AllocError` if memory runs out.
 pub fn member_positions(alloc: Global, members: &[Member<'_>]) -> Result<NamePositions, AllocError>
     ensures position { IfOk result (λ p. name_position p ≡ name_place (keys_in (map member_of members.now))) }
     ensures first { let ks = keys_in (map member_of members.now) in

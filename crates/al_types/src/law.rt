@@ -7,8 +7,8 @@ ghost use Rattle.al_types.specs.Types.{object_with, parts_with, property_in};
 
 /// How two objects are fused. The definitions see an object as a map from names to types, with what
 /// all its fields have in common, and fuse two objects name by name. The law says that this gives
-/// the object with the fields of both, provided that neither has a name twice. Does nothing at run
-/// time.
+/// the object with the fields of both, provided that the second has no name twice. Does nothing at
+/// run time.
 pub fn objects_fuse()
     ensures { ObjectsFuse }
 {}

@@ -6,8 +6,8 @@ use al_yaml::read_yaml;
 use al_yaml_tree::{Doc, Node};
 use std::alloc::{AllocError, Global};
 
-/// A file whose root has one entry; the text of that entry's value, the offsets of its bytes and of its end, and the end of its
-/// span.
+/// A file whose root has one entry; the text of that entry's value, the offsets of its bytes and of
+/// its end, and the end of its span.
 struct Valued {
     file: &'static [u8],
     text: &'static [u8],

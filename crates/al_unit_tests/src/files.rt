@@ -28,7 +28,8 @@ pub(crate) fn document(alloc: Global, text: &[u8]) -> Result<Option<Doc>, AllocE
     }
 }
 
-/// The environment at the first place of a file whose scalar has this text, reached from place to place; `None` if there is none.
+/// The environment at the first place of a file whose scalar has this text, reached from place to
+/// place; `None` if there is none.
 pub(crate) fn env_at<'a>(
     alloc: Global,
     file: File<'a>,

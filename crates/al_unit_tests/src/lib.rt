@@ -1,5 +1,5 @@
-//! Tests, for the crates below sessions, of what no contract says: that calls succeed with ample memory, and that definitions mean what
-//! the YAML specification and GitHub's pages say.
+//! Tests, for the crates below sessions, of what no contract says: that calls succeed with ample
+//! memory, and that definitions mean what the YAML specification and GitHub's pages say.
 #![tactic(auto)]
 
 #[cfg(test)]

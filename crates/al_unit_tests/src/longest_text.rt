@@ -1,5 +1,5 @@
-//! The longest text that a scalar can have: a file of 1,048,576 bytes, almost all of them two-byte escapes for characters of three
-//! bytes.
+//! The longest text that a scalar can have: a file of 1,048,576 bytes, almost all of them two-byte
+//! escapes for characters of three bytes.
 
 use al_scalar::{Scalar, ScalarContext, read_scalar};
 use al_yaml::read_yaml;
@@ -26,7 +26,8 @@ fn is_separator_at(i: usize, byte: u8) -> bool {
     byte == SEPARATOR[i % 3]
 }
 
-/// Whether each byte is the character's and has the offset of the backslash of its escape, and the end has that of the file's end.
+/// Whether each byte is the character's and has the offset of the backslash of its escape, and the
+/// end has that of the file's end.
 fn is_longest(scalar: &Scalar) -> bool {
     let text = scalar.text();
     for (i, byte) in text.iter().enumerate() {
@@ -72,7 +73,8 @@ fn is_longest_root(doc: &Doc) -> bool {
     }
 }
 
-// Whether the root of a file is the longest scalar, and its text, which the reader promises to be UTF-8, has these characters.
+// Whether the root of a file is the longest scalar, and its text, which the reader promises to be
+// UTF-8, has these characters.
 fn reads_longest_root(alloc: Global, file: &[u8]) -> Result<bool, AllocError> {
     if file.len() > 1_048_576 {
         return Ok(false);

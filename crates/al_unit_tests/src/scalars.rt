@@ -4,7 +4,8 @@ use al_base::YamlCode;
 use al_scalar::{Class, Scalar, ScalarContext, Style, read_scalar};
 use std::alloc::{AllocError, Global};
 
-/// A scalar, the offsets of the bytes of its text and of its end, and the offset at which the rest begins.
+/// A scalar, the offsets of the bytes of its text and of its end, and the offset at which the rest
+/// begins.
 struct Case {
     file: &'static [u8],
     at: usize,
@@ -150,7 +151,8 @@ fn reads_scalars(rt: HostRuntime) -> Result<(), AllocError> {
     Ok(())
 }
 
-/// A file, the offset at which a scalar begins, and the fault in it: its code, and the span of the character it is at.
+/// A file, the offset at which a scalar begins, and the fault in it: its code, and the span of the
+/// character it is at.
 type Faulty = (&'static [u8], usize, YamlCode, u32, u32);
 
 static FAULTS: [Faulty; 5] = [

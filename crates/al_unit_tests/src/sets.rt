@@ -48,7 +48,8 @@ fn count_of_functions(available: &Available) -> usize {
     count
 }
 
-/// The text of a place, how many contexts and special functions are available there, and whether it is a script.
+/// The text of a place, how many contexts and special functions are available there, and whether it
+/// is a script.
 type Expected = (&'static str, usize, usize, bool);
 
 fn is_expected(scope: &Scope, expected: &Expected) -> bool {

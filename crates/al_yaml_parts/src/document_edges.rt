@@ -10,9 +10,20 @@ use al_base::YamlCode;
 use al_scalar::FaultAt;
 use al_scalar::lines::{begins, blanks_end, indent, is_marker};
 
-/// The start of the root's lines: the first content line from the start of a line on, or the line
-/// after a first `---`; the file's end if there is none (YAML 1.2.2, 9.1). Fails at a directive,
-/// and at a character after `---` that doesn't begin a comment.
+/// The byte offset at which the lines of the root begin: the start of the first line that isn't
+/// empty or a comment, or if that begins with `---`, of the line after it; the file's length if
+/// there is no such line (YAML 1.2.2, 9.1).
+///
+/// `at` should be the start of a line: [`mark_end`](crate::bytes::mark_end) for a whole file.
+/// Doesn't allocate.
+///
+/// # Requires
+///
+/// `at` is at most the number of bytes.
+///
+/// # Errors
+///
+/// A directive (Y10) at its `%`, or a character after `---` that doesn't begin a comment (Y13).
 pub fn document_start(bytes: &[u8], at: usize) -> Result<usize, FaultAt>
     requires { at ≤ length bytes.now }
     ensures fault { IfErr result (λ f. f.at ≤ length bytes.now) }
@@ -31,8 +42,19 @@ pub fn document_start(bytes: &[u8], at: usize) -> Result<usize, FaultAt>
     Ok(line)
 }
 
-/// Checks what comes after the root: nothing, or a `...` with nothing after it. Otherwise fails at
-/// the second document, or at content that belongs to no open collection.
+/// Whether only what may end a document comes after the root: empty lines and comments, or a `...`
+/// with nothing but those after it (YAML 1.2.2, 9.1.2).
+///
+/// `at` should be where the rest of the file begins after the root. Doesn't allocate.
+///
+/// # Requires
+///
+/// `at` is at most the number of bytes.
+///
+/// # Errors
+///
+/// A second document (Y11), at its `---` or at what comes after `...`; or content that belongs to
+/// no open collection: a tab after its line's spaces (Y3), or its first character (Y4).
 pub fn document_end(bytes: &[u8], at: usize) -> Result<(), FaultAt>
     requires { at ≤ length bytes.now }
     ensures fault { IfErr result (λ f. f.at ≤ length bytes.now) }

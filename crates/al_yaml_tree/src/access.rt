@@ -25,7 +25,8 @@ impl Node {
         }
     }
 
-    /// The span of the written form.
+    /// The span of the written form, in bytes of the file; of a node behind an alias, the one at
+    /// its anchor.
     #[inline(always)]
     pub fn span(&self) -> Span
         ensures { result ≡ span_of (view self.now) }
@@ -37,7 +38,7 @@ impl Node {
         }
     }
 
-    /// The scalar, if the node is one.
+    /// The scalar, if the node is one, shared or not.
     #[inline(always)]
     pub fn scalar(&self) -> Option<&Scalar>
         ensures { option_copied result ≡ scalar_in (view self.now) }
@@ -48,7 +49,11 @@ impl Node {
         }
     }
 
-    /// The text of the scalar, if the node is one. It must be UTF-8, as in a tree from `read_yaml`.
+    /// The text of the scalar, if the node is one.
+    ///
+    /// # Requires
+    ///
+    /// The texts of the tree are UTF-8, as in one that `read_yaml` gave.
     pub fn text(&self) -> Option<&str>
         requires { HasTexts (view self.now) }
         ensures { option_map (λ t. t.now) result ≡ option_map text_of (scalar_in (view self.now)) }
@@ -56,7 +61,7 @@ impl Node {
         self.scalar().map(|scalar| scalar.as_str())
     }
 
-    /// The items of the sequence, if the node is one.
+    /// The items of the sequence, if the node is one, shared or not.
     #[inline(always)]
     pub fn sequence(&self) -> Option<&[Node]>
         ensures { option_map (λ v. map view v.now) result ≡ sequence_in (view self.now) }
@@ -67,7 +72,7 @@ impl Node {
         }
     }
 
-    /// The entries of the mapping, if the node is one.
+    /// The entries of the mapping, if the node is one, shared or not.
     #[inline(always)]
     pub fn mapping(&self) -> Option<&[Entry]>
         ensures { option_map (λ v. map entry_view v.now) result ≡ mapping_in (view self.now) }

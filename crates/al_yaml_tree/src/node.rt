@@ -9,14 +9,20 @@ use al_scalar::Scalar;
 use std::alloc::{AllocError, Global};
 use std::rc::Rc;
 
-/// A node (YAML 1.2.2, 3.2.1.1), with the span of its written form. A node with an anchor is shared
-/// by its own place and those of its aliases.
+/// A node (YAML 1.2.2, 3.2.1.1), with the span of its written form in bytes of the file. A node
+/// with an anchor is shared by its own place and those of its aliases; the methods see the node
+/// itself, so that only a `match` has to know [`Node::Shared`].
 #[cycle(node)]
 #[derive(Drop)]
 pub enum Node {
+    /// A scalar; of an empty node too, which is a plain scalar without text.
     Scalar(Scalar),
+    /// A sequence: its items in order, and its span, which includes the brackets of `[..]`.
     Sequence { items: Vec<Node>, span: Span },
+    /// A mapping: its entries in order, those with equal keys too, and its span, which includes the
+    /// brackets of `{..}`.
     Mapping { entries: Vec<Entry>, span: Span },
+    /// A node with an anchor, at its own place and at that of each alias.
     Shared(Rc<Node>),
 }
 
@@ -24,13 +30,16 @@ pub enum Node {
 #[cycle(node)]
 #[derive(Drop)]
 pub struct Entry {
+    /// The key.
     pub key: Scalar,
+    /// The value; an empty scalar if none is written.
     pub value: Node,
 }
 
 /// A document, which has one root.
 #[derive(Drop)]
 pub struct Doc {
+    /// The root; an empty scalar at the file's end if the file has no node.
     pub root: Node,
 }
 

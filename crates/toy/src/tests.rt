@@ -8,8 +8,9 @@ use std::alloc::{AllocError, Global};
 // An edit, the files it rechecks, and the report afterwards.
 type Step = (Change<'static>, &'static [&'static str], &'static [u8]);
 
-// Functions without a contract return the rows, which are statics: so no proof of a test computes what a session does with them. No test
-// holds a session, which would be dropped at each exit and make the proof ten times as long.
+// Functions without a contract return the rows, which are statics: so no proof of a test computes
+// what a session does with them. No test holds a session, which would be dropped at each exit and
+// make the proof ten times as long.
 
 fn open(alloc: Global) -> Session<Toy> {
     Session::open(alloc, Toy::new())
@@ -155,7 +156,8 @@ static RING: [Step; 1] = [(
     CYCLE,
 )];
 
-// A file of a call cycle is changed and calls the same, a call into the cycle is added, and a file of the cycle is deleted.
+// A file of a call cycle is changed and calls the same, a call into the cycle is added, and a file
+// of the cycle is deleted.
 static BESIDE_THE_RING: [Step; 3] = [
     (
         Change::Put("c.toy", b"need a.toy\nhave x\n# e"),

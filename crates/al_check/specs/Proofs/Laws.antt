@@ -1,4 +1,5 @@
--- What holds of every file: each of its faults lies in it, and they are in the order of reports, each once.
+-- What holds of every file: each of its faults lies in it, and they are in the order of reports,
+-- each once.
 use Rattle.std.specs.Prelude.{◌≡◌, suc, Option, Some, None, option_map, ◌≤◌, ℕ, List, [], ◌∷◌, ◌++◌, length, map, Ok, Err, Result, IfOk}
 use Rattle.std.specs.List.{AllByRecursion, cons_option, flat_map}
 use Rattle.std.specs.Option.{option_map_or}

@@ -27,8 +27,8 @@ pub record ArePlaced (naming : Naming) (ls : Lists) : Type 0 where
   pub at : (of_step : Bool) (text : List ℕ) (position : ℕ) → position_of ls of_step text ≡ Some position
       → StandsAt (lists_of ls) (Some position) (naming of_step text)
 
--- The names for a caller and a text are at this position: a list is appended unless they are stored already. Stored positions stay right
--- for each naming that gives these names.
+-- The names for a caller and a text are at this position: a list is appended unless they are stored
+-- already. Stored positions stay right for each naming that gives these names.
 pub record Takes (old new : Lists) (of_step : Bool) (text : List ℕ) (names : Option (List (List ℕ))) (position : Option ℕ) : Type 0 where
   pub added : List (List (List ℕ))
   pub grown : lists_of new ≡ lists_of old ++ added

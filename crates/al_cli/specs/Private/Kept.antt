@@ -18,7 +18,8 @@ pub record KeptFiles (folder : Folder) (checks : ℕ) (paths : List (List ℕ)) 
   pub there : AllByRecursion (λ p. is_some (bytes_at folder p) ≡ true) paths
   pub unchecked : checks ≡ 0
 
--- A folder of files that were put one after another, none of which is checked. It is opaque by default: `made` equates the folder with a
--- term that contains the folder, so rewriting by it doesn't terminate.
+-- A folder of files that were put one after another, none of which is checked. It is opaque by
+-- default: `made` equates the folder with a term that contains the folder, so rewriting by it
+-- doesn't terminate.
 unfoldable pub AreKept : Folder → ℕ → List (List ℕ) → Type 0
 AreKept folder checks paths = KeptFiles folder checks paths

@@ -6,7 +6,8 @@ use Rattle.al_session.specs.Affected.{is_among}
 use Rattle.al_session.specs.Folder.{paths_of}
 use Rattle.al_session.specs.declared.lint.Target.{Target}
 use Rattle.al_check.specs.Linting.{linting}
-use Rattle.al_cli.specs.Taken.{AreCalled, called_by}
+use Rattle.al_cli.specs.Disk.{Held, HeldNone, HeldOutside, Holding}
+use Rattle.al_cli.specs.Taken.{AreCalled, AreHeld, called_by}
 use Rattle.al_cli.specs.declared.gathering.Found.{Found}
 use Rattle.al_cli.specs.declared.gathering.Found.TheVariants.{File, Absent, Outside}
 
@@ -19,6 +20,20 @@ abbrev pub IsTakenAs : Found → List ℕ → List (List ℕ × List ℕ) → Li
 IsTakenAs File path old new = (bytes : List ℕ) × (new ≡ with_entry old (path, bytes))
 IsTakenAs Absent path old new = new ≡ old
 IsTakenAs Outside path old new = new ≡ old
+
+-- what was found where a folder has this
+abbrev pub IsFoundIn : Held → Found → Type 0
+IsFoundIn held File = Unit {0}
+IsFoundIn held Absent = held ≡ HeldNone
+IsFoundIn held Outside = held ≡ HeldOutside
+
+abbrev pub IsFoundAt : Option Holding → List ℕ → Found → Type 0
+IsFoundAt None path found = Unit {0}
+IsFoundAt (Some folder) path found = IsFoundIn (folder.has path) found
+
+-- If the folder has the files before, it has those after.
+pub record KeepsHeld (holding : Option Holding) (old new : List (List ℕ × List ℕ)) : Type 0 where
+  pub all : AreHeld holding old → AreHeld holding new
 
 -- the file at the path is taken, or nothing changes
 abbrev pub IsTakenIfThere : List ℕ → List (List ℕ × List ℕ) → List (List ℕ × List ℕ) → Type 0
@@ -37,7 +52,8 @@ calls_at files number = calls_of_entry (slice_get files number)
 abbrev pub AreAmong : List (List ℕ) → List (String Global) → Type 0
 AreAmong paths texts = AllByRecursion (λ text. is_among (string_bytes text) paths ≡ true) texts
 
--- The files after the first ones are each called by a file before them, and each pending text is a candidate of a call of these files.
+-- The files after the first ones are each called by a file before them, and each pending text is a
+-- candidate of a call of these files.
 pub record IsCalling (first : List (List ℕ × List ℕ)) (files : List (List ℕ × List ℕ)) (texts : List (String Global)) : Type 0 where
   pub after : List (List ℕ × List ℕ)
   pub all : files ≡ first ++ after

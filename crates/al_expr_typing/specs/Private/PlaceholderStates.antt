@@ -1,5 +1,5 @@
--- The states of the code that reads a format text, for private contracts. `Placeholders` defines what its placeholders are, and
--- `proofs/PlaceholderLemmas` proves that the two agree.
+-- The states of the code that reads a format text, for private contracts. `Placeholders` defines
+-- what its placeholders are, and `proofs/PlaceholderLemmas` proves that the two agree.
 use Rattle.std.specs.Prelude.{ℕ, ◌+◌, ◌*◌, ◌-◌, List, [], ◌∷◌, Bool, true, ◌==◌, nat_lt, if◌then◌else◌, Option, Some, None, length}
 use Rattle.std.specs.Prelude.{slice_set}
 use Rattle.al_base.specs.Ascii.{ascii}

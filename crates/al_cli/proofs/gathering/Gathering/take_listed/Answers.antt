@@ -1,22 +1,13 @@
-use Rattle.std.proofs.Common.{◌∙◌, refl}
-use Rattle.al_cli.proofs.Turns.{sorted_next, sorted_over, sorted_start}
 use Rattle.al_cli.proofs.gathering.Gathering.take_listed.Goals as goal
 
-pub loop-path-init : goal.loop-path-init
-loop-path-init g c =
-    let gives = c.into_iter-path-iterator.ensures.into_iter_gives in
-    (sorted_start c.args.self.now.files _ c.into_iter-path-iterator.result c.requires.files gives.0 gives.4, refl)
+pub take_each-requires-clause-listed : goal.take_each-requires-clause-listed
+take_each-requires-clause-listed g c = rw c.in-Ok.ensures.stays c.in-Ok.ensures.listed
 
-pub loop-path-preserved-in-File : goal.loop-path-preserved-in-File
-loop-path-preserved-in-File g c = (
-  sorted_next c.loop-path.self.files c.take.new.self.files c.in-Some.path.now c.loop-path.path-iterator c.next.new.self c.as_str-path.result.now
-      c.loop-path.invariant.0 c.in-Some.ensures.steps c.as_str-path.ensures.value (rw c.in-File.is at c.in_ok-take.ensures.taken),
-  c.take.ensures.waiting ∙ c.loop-path.invariant.1,
-)
+pub returns-in-Ok-clause-listed : goal.returns-in-Ok-clause-listed
+returns-in-Ok-clause-listed g c = rw c.in-Ok.ensures.stays at c.take_each.ensures.listed
 
-pub loop-path-preserved : goal.loop-path-preserved
-loop-path-preserved g c = (
-  sorted_over c.loop-path.self.files c.take.new.self.files c.pass_over.new.self.files c.in-Some.path.now c.loop-path.path-iterator c.next.new.self
-      c.loop-path.invariant.0 c.in-Some.ensures.steps (rw c.in-Outside.is at c.in_ok-take.ensures.taken) c.pass_over.ensures.files,
-  c.pass_over.ensures.waiting ∙ c.take.ensures.waiting ∙ c.loop-path.invariant.1,
-)
+pub returns-in-Ok-clause-held : goal.returns-in-Ok-clause-held
+returns-in-Ok-clause-held g c = rw c.in-Ok.ensures.stays at c.take_each.ensures.held
+
+pub returns-in-Ok-clause-stays : goal.returns-in-Ok-clause-stays
+returns-in-Ok-clause-stays g c = rw c.in-Ok.ensures.stays at c.take_each.ensures.stays

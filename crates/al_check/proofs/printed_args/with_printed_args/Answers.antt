@@ -3,7 +3,7 @@ use Rattle.std.proofs.lemmas.Iterator.{YieldsList-from_slice, cases_from_all}
 use Rattle.std.proofs.lemmas.List.Elements.{All-from_all_within}
 use Rattle.std.proofs.lemmas.List.Folds.{map_fixed}
 use Rattle.al_check.specs.FileFaults.{printed_fault}
-use Rattle.al_check.proofs.printing.with_printed_args.Goals as goal
+use Rattle.al_check.proofs.printed_args.with_printed_args.Goals as goal
 
 pub returns-then-all : goal.returns-then-all
 returns-then-all c =

@@ -1,0 +1,9 @@
+mod Agreeing
+mod Left
+mod FlowBounds
+mod BlockBounds
+mod DocumentBounds
+mod TokenBounds
+mod ChunkBounds
+mod PlaceholderBounds
+mod WalkBounds
