@@ -23,4 +23,6 @@ WRONG_NOTES = (
     ("all_notes_count", "forms.py", "notes.py reports", "self.counting += problem.level == ERROR", "self.counting += 1"),
     ("notes_need_no_facts", "notes/run.py", "notes.py without_facts", "except (LinterEnded, NoAnswer) as error:",
      "except ZeroDivisionError as error:"),
+    ("an_option_of_notes_is_not_read", "server.py", "notes.py switched_off", "not options.no_notes and ", ""),
+    ("a_setting_of_notes_is_not_read", "server.py", "notes.py switched_off", 'if isinstance(given.get("notes"), bool):', "if False:"),
 )
