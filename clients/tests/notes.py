@@ -152,7 +152,10 @@ def scripts(program: str) -> None:
         "# ./a.sh\necho a=1 >>$GITHUB_OUTPUT": {"a"}, 'echo "a<<EOF" >> $GITHUB_OUTPUT\necho b >> $GITHUB_OUTPUT': None,
         "./a.sh\necho a=1 >> $GITHUB_OUTPUT": None, "A=1 make\necho a=1 >> $GITHUB_OUTPUT": None,
         "echo a=1 >> $GITHUB_OUTPUT; echo b=2 >> $GITHUB_OUTPUT": None, "echo $x=1 >> $GITHUB_OUTPUT": None,
-        "echo a=1 | tee -a $GITHUB_OUTPUT": None, "x=$(python3 a.py)\necho a=1 >> $GITHUB_OUTPUT": None}
+        "echo a=1 | tee -a $GITHUB_OUTPUT": None, "x=$(python3 a.py)\necho a=1 >> $GITHUB_OUTPUT": None,
+        'printf "a=1\\nb=2\\n" >> $GITHUB_OUTPUT': None, "printf 'a=%s' 1 >> $GITHUB_OUTPUT": {"a"},
+        "echo a=$(python3 a.py) >> $GITHUB_OUTPUT": None, "echo a=$(date) >> $GITHUB_OUTPUT": {"a"},
+        "find . -exec ./a.sh {} +\necho a=1 >> $GITHUB_OUTPUT": None, "ls | xargs ./a.sh\necho a=1 >> $GITHUB_OUTPUT": None}
     for script, names in wanted.items():
         assert names_written(script) == names, (script, names_written(script))
 
