@@ -152,7 +152,10 @@ def scripts(program: str) -> None:
         "# ./a.sh\necho a=1 >>$GITHUB_OUTPUT": {"a"}, 'echo "a<<EOF" >> $GITHUB_OUTPUT\necho b >> $GITHUB_OUTPUT': None,
         "./a.sh\necho a=1 >> $GITHUB_OUTPUT": None, "A=1 make\necho a=1 >> $GITHUB_OUTPUT": None,
         "echo a=1 >> $GITHUB_OUTPUT; echo b=2 >> $GITHUB_OUTPUT": None, "echo $x=1 >> $GITHUB_OUTPUT": None,
-        "echo a=1 | tee -a $GITHUB_OUTPUT": None, "x=$(python3 a.py)\necho a=1 >> $GITHUB_OUTPUT": None}
+        "echo a=1 | tee -a $GITHUB_OUTPUT": None, "x=$(python3 a.py)\necho a=1 >> $GITHUB_OUTPUT": None,
+        'printf "a=1\\nb=2\\n" >> $GITHUB_OUTPUT': None, "printf 'a=%s' 1 >> $GITHUB_OUTPUT": {"a"},
+        "echo a=$(python3 a.py) >> $GITHUB_OUTPUT": None, "echo a=$(date) >> $GITHUB_OUTPUT": {"a"},
+        "find . -exec ./a.sh {} +\necho a=1 >> $GITHUB_OUTPUT": None, "ls | xargs ./a.sh\necho a=1 >> $GITHUB_OUTPUT": None}
     for script, names in wanted.items():
         assert names_written(script) == names, (script, names_written(script))
 
@@ -237,24 +240,40 @@ def wait_for(editor: Editor, texts: list[str]) -> None:
 
 @CASES.case
 def in_the_server(program: str) -> None:
-    """Notes on open files are shown as information, and explained; they go with the text, and with a setting."""
-    for words, settings, is_on in (((), None, True), (("--no-notes",), None, False), ((), {"notes": False}, False)):
+    """Notes on open files are shown as information, explained, and go with the text."""
+    with tempfile.TemporaryDirectory(prefix="actionlint-test-") as folder:
+        editor = open_in_editor(program, folder)
+        wait_for(editor, [MESSAGE])
+        shown = editor.diagnostics()[FILE][0]
+        assert (shown["severity"], shown["code"], shown["source"]) == (3, "N15", "actionlint"), shown
+        place = {"textDocument": {"uri": editor.uri(FILE)}, "position": {"line": 5, "character": 20}}
+        assert "**N15**" in editor.request("textDocument/hover", place)["result"]["contents"]["value"]
+        editor.change(FILE, FAILING[FILE].replace("@v3", "@v4"))
+        wait_for(editor, [])
+        end(editor)
+
+
+@CASES.case
+def switched_off(program: str) -> None:
+    """An option switches notes off, and a setting off or on, whatever the option says: only where they are on has the server a thread for
+    them."""
+    threads: dict[bool, set[int]] = {True: set(), False: set()}
+    for words, settings, is_on in (((), None, True), (("--no-notes",), {"notes": True}, True),
+                                   (("--no-notes",), None, False), ((), {"notes": False}, False)):
         with tempfile.TemporaryDirectory(prefix="actionlint-test-") as folder:
-            write(folder, FAILING)
-            editor = Editor(program, os.fsencode(folder), words=words, settings=settings, notes=True)
-            editor.open(FILE, FAILING[FILE])
-            if is_on:
-                wait_for(editor, [MESSAGE])
-                shown = editor.diagnostics()[FILE][0]
-                assert (shown["severity"], shown["code"], shown["source"]) == (3, "N15", "actionlint"), shown
-                place = {"textDocument": {"uri": editor.uri(FILE)}, "position": {"line": 5, "character": 20}}
-                assert "**N15**" in editor.request("textDocument/hover", place)["result"]["contents"]["value"]
-                editor.change(FILE, FAILING[FILE].replace("@v3", "@v4"))
-                wait_for(editor, [])
-            else:
-                editor.settle()
-                assert editor.texts(FILE) == [], editor.texts(FILE)
+            editor = open_in_editor(program, folder, words, settings)
+            editor.settle()
+            threads[is_on].add(len(os.listdir(f"/proc/{editor.child.pid}/task")))
             end(editor)
+    assert len(threads[False]) == 1 and threads[True] == {number + 1 for number in threads[False]}, threads
+
+
+def open_in_editor(program: str, folder: str, words: tuple[str, ...] = (), settings: dict | None = None) -> Editor:
+    """An editor with a file open that has a note."""
+    write(folder, FAILING)
+    editor = Editor(program, os.fsencode(folder), words=words, settings=settings, notes=True)
+    editor.open(FILE, FAILING[FILE])
+    return editor
 
 
 if __name__ == "__main__":

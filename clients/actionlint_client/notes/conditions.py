@@ -19,13 +19,19 @@ def _is_constant(expression: Expression) -> bool:
     return all(isinstance(part, (Group, Not, Chain)) or isinstance(part, Word) and part.kind != "name" for part in parts_of(expression))
 
 
+def _switches_off(expression: Expression) -> bool:
+    """Whether it is `false`, which people write to switch a job or a step off."""
+    expression = inner(expression)
+    return isinstance(expression, Word) and expression.text.lower() == "false"
+
+
 def constant_conditions(file: File) -> Iterator[Finding]:
-    """N17: a condition that is the same in each run."""
+    """N17: a condition that is the same in each run, and not `false` alone."""
     for condition in _conditions(file):
         place = file.place(condition)
         tree = place.chunks[0].tree if place and len(place.chunks) == 1 else None
         is_alone = "${{" not in condition.text or file.whole(condition) is not None
-        if tree and is_alone and _is_constant(tree):
+        if tree and is_alone and _is_constant(tree) and not _switches_off(tree):
             yield note("N17", condition)
 
 

@@ -20,10 +20,11 @@ def names_written(script: str) -> set[str] | None:
         if line.lstrip().startswith("#"):
             continue
         found = NAME.fullmatch(line)
+        # (`\n` may begin another output)
+        if not _is_plain(line) or ("GITHUB_OUTPUT" in line or "::set-output" in line) and (found is None or "\\n" in line):
+            return None
         if found:
             names.add(found[1].lower())
-        elif "GITHUB_OUTPUT" in line or "::set-output" in line or not _is_plain(line):
-            return None
     return names
 
 

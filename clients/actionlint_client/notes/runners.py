@@ -20,10 +20,12 @@ def _named(job: Node) -> list[Node]:
 
 
 def labels(file: File) -> Iterator[Node]:
-    """The labels of jobs that run on runners of GitHub, those of a matrix included."""
+    """The labels of jobs that run on runners of GitHub, those of a matrix included. A list with a label of one's own names other runners."""
     for _, job in file.jobs:
-        found = [one for label in _named(job) for one in _given_by(file, job, label)]
-        if not any(one.text.lower() == "self-hosted" for one in found):
+        named = _named(job)
+        found = [one for label in named for one in _given_by(file, job, label)]
+        is_own = len(named) > 1 and any(one.text.lower() not in (*TABLE["known"], *TABLE["ended"]) for one in found)
+        if not is_own and not any(one.text.lower() == "self-hosted" for one in found):
             yield from (one for one in found if not has_expression(one.text))
 
 

@@ -23,7 +23,9 @@ def inserted(expression: Expression, as_json: bool = False) -> Iterator[tuple[Ex
         for argument in expression.arguments:
             yield from inserted(argument, as_json or expression.name.text.lower() == "tojson")
     elif isinstance(expression, Chain) and expression.rest[0][0] not in COMPARISONS:
-        for operand in (expression.first, *(one for _, one in expression.rest)):
+        operands = [expression.first, *(one for _, one in expression.rest)]
+        # (an operand of `&&` before the last one is the value only where it is empty or false)
+        for operand in operands[-1:] if expression.rest[0][0] == "&&" else operands:
             yield from inserted(operand, as_json)
 
 
