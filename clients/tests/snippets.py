@@ -19,7 +19,7 @@ from pathlib import Path
 from cases import Cases
 from clones_and_releases import ANYWHERE, Place, Room, in_each_clone, in_each_place
 from editors import in_terminal
-from repositories import CLIENTS, FILE, FILES, RIGHT, TOP, UNDEFINED, WORKFLOWS, git, reported, write
+from repositories import CLIENTS, FILE, FILES, TOP, UNDEFINED, WORKFLOWS, git, reported, write
 
 import yaml  # type: ignore[import]
 
@@ -138,11 +138,6 @@ def workflow(place: Place) -> None:
 
 
 @in_each_place(CASES)
-def short_workflow(place: Place) -> None:
-    run_workflow(place, *snippets()["short-workflow"])
-
-
-@in_each_place(CASES)
 def scanning(place: Place) -> None:
     (text,) = snippets()["scanning"]
     run_workflow(place, text, uploaded="actionlint.sarif")
@@ -191,11 +186,9 @@ def run_action(place: Place, room: Room, inputs: dict[str, str]) -> tuple[int, s
     return done.returncode, done.stdout.decode()
 
 
-def run_lines(place: Place, name: str, room: Room, *replaced: tuple[str, str]) -> list[int]:
+def run_lines(place: Place, name: str, room: Room) -> list[int]:
     """Runs the lines of a snippet, or the commands of its `script`; returns their statuses."""
     (text,) = of_page(name, place)
-    for old, new in replaced:
-        text = text.replace(old, new)
     lines = text.splitlines() if not text.startswith("actionlint:\n") else yaml.safe_load(text)["actionlint"]["script"]
     return [subprocess.run(["sh", "-c", line], cwd=room.root, env=room.environment, stdout=subprocess.PIPE, check=False,
                            **place.as_user()).returncode for line in lines]
@@ -210,21 +203,6 @@ def ignoring(place: Place) -> None:
         status, said = run_action(place, room, {**step["with"], "shellcheck": "false"})
         assert step["with"]["shellcheck"] is True and step["with"]["root"] == "repository"
         assert status == 1 and f"repository/{FILE}:6:30: {UNDEFINED}" in said.splitlines() and "required input" not in said, said
-
-
-@in_each_place(CASES)
-def fix(place: Place) -> None:
-    """What is shown is what is written then."""
-    with place.repository(FILES) as room:
-        assert run_lines(place, "fix", room) == [1, 1]
-        assert Path(room.root, FILE).read_text(encoding="utf-8") == RIGHT
-
-
-@in_each_place(CASES)
-def report(place: Place) -> None:
-    with place.repository({f"repository/{path}": text for path, text in FILES.items()}) as room:
-        assert run_lines(place, "report", room, ("DIR", "repository")) == [1, 1, 1]
-        assert "X13" in Path(room.root, "actionlint.sarif").read_text(encoding="utf-8")
 
 
 @in_each_place(CASES)
