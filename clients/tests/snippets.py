@@ -26,6 +26,7 @@ import yaml  # type: ignore[import]
 CASES = Cases("snippets")
 PAGES = ("README.md", "docs/EDITORS.md", "docs/CI.md", "docs/COMMAND-LINE.md")
 FENCED = re.compile(r"(?:<!-- (?:run: ([\w-]+)|(not run)) -->\n)?^```\w+(?: file=\S+)?\n(.*?)^```$", re.M | re.S)
+ARGUMENTS = re.compile(r"`(args: \[.*\])`")
 SECONDS = 60
 EXPRESSION = re.compile(r"\$\{\{ ([\w.-]+) \}\}")
 # What each editor does after its snippet: opens the file, waits for the fault, and writes its messages.
@@ -195,17 +196,6 @@ def run_lines(place: Place, name: str, room: Room) -> list[int]:
 
 
 @in_each_place(CASES)
-def ignoring(place: Place) -> None:
-    """The inputs of the action in one step."""
-    (text,) = snippets()["ignore"]
-    (step,) = yaml.safe_load(text)
-    with place.repository({**{f"repository/{path}": text for path, text in FILES.items()}, "known-faults.txt": "C3\n"}) as room:
-        status, said = run_action(place, room, {**step["with"], "shellcheck": "false"})
-        assert step["with"]["shellcheck"] is True and step["with"]["root"] == "repository"
-        assert status == 1 and f"repository/{FILE}:6:30: {UNDEFINED}" in said.splitlines() and "required input" not in said, said
-
-
-@in_each_place(CASES)
 def many(place: Place) -> None:
     names = ["r0", "r 1 ", "it's", "-r", r"a\b"]
     files = {f"{name}/{path}": text for name in names for path, text in FILES.items()}
@@ -235,14 +225,14 @@ def finds_a_fault(room: Room, words: list[str], shown: str = UNDEFINED) -> None:
 
 @in_each_clone(CASES)
 def pre_commit(place: Place) -> None:
-    """Hooks are taken from a git repository, which a release isn't."""
+    """Hooks are taken from a git repository, which a release isn't. The page shows arguments for one in its text."""
     revision = git(str(place.folder), "-c", f"safe.directory={place.folder}", "rev-parse", "HEAD").strip()
-    for text in snippets()["pre-commit"]:
-        text = text.replace("https://github.com/OWNER/REPOSITORY", str(place.folder)).replace("COMMIT", revision)
-        with place.repository({**FILES, ".pre-commit-config.yaml": text}) as room:
-            finds_a_fault(room, ["pre-commit", "run", "--all-files"])
-    (text,) = of_page("pre-commit-ignore", place)
+    (text,) = snippets()["pre-commit"]
     text = text.replace("https://github.com/OWNER/REPOSITORY", str(place.folder)).replace("COMMIT", revision)
+    with place.repository({**FILES, ".pre-commit-config.yaml": text}) as room:
+        finds_a_fault(room, ["pre-commit", "run", "--all-files"])
+    (arguments,) = ARGUMENTS.findall((TOP / "docs/CI.md").read_text(encoding="utf-8"))
+    text = text.replace("- id: actionlint\n", f"- id: actionlint\n        {arguments}\n")
     with place.repository({FILE: FILES[FILE], "known-faults.txt": "X13\n", ".pre-commit-config.yaml": text}) as room:
         status, said = room.run(["pre-commit", "run", "--all-files"])
         assert status == 0 and "Passed" in said, said
