@@ -59,7 +59,7 @@ class Atom:
 
 
 def scripts_and_calls(text: str) -> tuple[list[Script], list[str]]:
-    """The scripts of a file, each once, and the local directories that its steps and jobs call."""
+    """The scripts of a file, each once, and the local folders that its steps and jobs call."""
     mark = len(BYTE_ORDER_MARK) if text.startswith(BYTE_ORDER_MARK) else 0
     text = text.translate(NO_BREAKS)
     try:

@@ -132,7 +132,7 @@ def _read(path: str, data: bytes, say: Callable[[str], None]) -> tuple[list[Foun
 
 
 def _called(call: str) -> list[str]:
-    """The files to which a local call may resolve, none if it points outside the folder."""
+    """The files that a local call may lead to, none if it leaves the folder."""
     name = call[2:].removesuffix("/")
     parts = name.split("/") if name else []
     if any(part in ("", ".", "..") for part in parts):
