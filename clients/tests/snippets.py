@@ -195,13 +195,30 @@ def run_lines(place: Place, name: str, room: Room) -> list[int]:
                            **place.as_user()).returncode for line in lines]
 
 
+# names of clones that have quotes or blanks, or look like an option, each with the same files
+CLONES = ["r0", "r 1 ", "it's", "-r", r"a\b"]
+OF_CLONES = {f"{name}/{path}": text for name in CLONES for path, text in FILES.items()}
+
+
 @in_each_place(CASES)
 def many(place: Place) -> None:
-    names = ["r0", "r 1 ", "it's", "-r", r"a\b"]
-    files = {f"{name}/{path}": text for name in names for path, text in FILES.items()}
-    with place.repository({**files, "folders.txt": "".join(name + "\n" for name in names)}) as room:
+    with place.repository({**OF_CLONES, "folders.txt": "".join(name + "\n" for name in CLONES)}) as room:
         assert run_lines(place, "many", room) == [123]
-        assert all("X13" in Path(room.root, name, "actionlint.sarif").read_text(encoding="utf-8") for name in names)
+        assert all("X13" in Path(room.root, name, "actionlint.sarif").read_text(encoding="utf-8") for name in CLONES)
+
+
+@in_each_place(CASES)
+def organisation(place: Place) -> None:
+    """The faults of all clones, and the one that could not be linted. Needs GNU parallel and jq."""
+    (text,) = of_page("organisation", place)
+    listed = "".join(name + "\n" for name in [*CLONES, "none"])
+    with place.repository({**OF_CLONES, "none/README.md": "x\n", "folders.txt": listed}) as room:
+        done = subprocess.run(["bash", "-c", text], cwd=room.root, env=room.environment, stdout=subprocess.PIPE, check=False,
+                              **place.as_user())
+        told = [json.loads(line) for line in Path(room.root, "faults.jsonl").read_text(encoding="utf-8").splitlines()]
+        assert [(one["clone"], one["code"]) for one in told] == [(name, code) for name in CLONES for code in ("X13", "C3")], told
+        (line,) = done.stdout.decode().splitlines()
+        assert line.startswith("3 ") and line.endswith("--root=none"), line
 
 
 @in_each_place(CASES)
