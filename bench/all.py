@@ -23,6 +23,7 @@ import signal
 import subprocess
 import sys
 import tempfile
+import textwrap
 import time
 from typing import Iterator
 
@@ -48,6 +49,7 @@ TOTALS = re.compile(r"^The whole: ([\d.]+) processor minutes in ([\d.]+) minutes
 CRATE = re.compile(r"^\| `(\w+)` \| [\d,]+ \| (\d+) \|", re.MULTILINE)
 # rows that a test compares with the program, and no script measures
 TESTED = ": a stack that suffices"
+LONGEST_LINE = 140
 
 
 def busy_seconds() -> float:
@@ -116,6 +118,11 @@ def measure(minutes: float, chosen: list[str]) -> dict:
     return {"date": today(), "commit": commit(), "machine": machine(), "others": others, "found": found}
 
 
+def paragraph(text: str) -> str:
+    """A paragraph of a page, in lines of its length."""
+    return textwrap.fill(text, LONGEST_LINE, break_long_words=False, break_on_hyphens=False) + "\n"
+
+
 def said_of(run: dict) -> str:
     """The paragraph about a run."""
     busy = {script: used for script, used in run["others"].items() if used > QUIET}
@@ -123,8 +130,8 @@ def said_of(run: dict) -> str:
     quiet = "the machine was quiet"
     if busy:
         quiet = f"the machine was busy: beside {beside} other programs used up to {max(busy.values()):.1f} processors"
-    return (f"Measured on {run['date']} at commit `{run['commit']}` on {run['machine']};\n"
-            f"{quiet}. Rows with{MARK} are of earlier runs.\n")
+    return paragraph(f"Measured on {run['date']} at commit `{run['commit']}` on {run['machine']}; {quiet}. "
+                     f"Rows with{MARK} are of earlier runs.")
 
 
 def rows_of(text: str) -> Iterator[tuple[re.Match, str, list[str]]]:
@@ -185,9 +192,9 @@ def said_of_gate(log: str) -> str:
         sys.exit("all.py: the log has no totals of bench/gate.py")
     whole, minutes, lanes, proofs, tests, edits = totals.groups()
     longest = sorted(crates_of_gate(log).items(), key=lambda it: -it[1])[:5]
-    return (f"Measured on {today()} at commit `{commit()}`: {minutes} minutes on {lanes}, {whole} processor minutes, of which\n"
-            f"{proofs} for proofs, {tests} for tests and {edits} for edits. The proofs that took longest:\n"
-            f"{', '.join(f'`{name}` {took} s' for name, took in longest)}.\n")
+    return paragraph(f"Measured on {today()} at commit `{commit()}`: {minutes} minutes on {lanes}, {whole} processor minutes, of which "
+                     f"{proofs} for proofs, {tests} for tests and {edits} for edits. The proofs that took longest: "
+                     f"{', '.join(f'`{name}` {took} s' for name, took in longest)}.")
 
 
 def write_gate(log: str) -> None:

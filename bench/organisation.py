@@ -47,7 +47,7 @@ def measure(count):
         if told != wanted or len(ran.stdout.splitlines()) != empty:
             sys.exit(f"{told} faults in place of {wanted}, and these clones could not be linted: {ran.stdout}")
     at_a_time = os.cpu_count()
-    line = f"{count} clones, {at_a_time} at a time, {empty} of them without workflows: {took:.1f} s, {count / took:.0f} a second"
+    line = f"{count} clones, {at_a_time} at a time, {empty} of them without workflows: {took:.1f} s, {count / took:.1f} a second"
     tell(line, "clones", this=took, clones=count, at_a_time=at_a_time)
 
 

@@ -25,8 +25,8 @@ FOUND = {
                "a job that gives 10,000 inputs": {"this": 0.044, "growth": 2.11}},
     "memory": {"4,096 files in one call cycle": {"memory": 19 << 20, "this": 0.0996}},
 }
-RUN = {"date": "2026-12-01", "commit": "0123abcd", "machine": "2 processors (some)", "others": {"lint": 0.1, "memory": 1.25},
-       "found": FOUND}
+RUN = {"date": "2026-12-01", "commit": "0123abcd", "machine": "2 processors (some)",
+       "others": {"lint": 0.1, "memory": 1.25, "clients": 0.5}, "found": FOUND}
 # rows, with the mark where the run has not all of a row's figures
 WRITTEN = (
     "| a repository of 4,096 workflows, the most that are taken | 2.7 MB | 0.15 s | 1.5 times | |",
@@ -37,8 +37,8 @@ WRITTEN = (
     "| 62 nested YAML collections: a stack that suffices | | | 256 KiB |",
 )
 MARKED = ("a repository of 200 workflows", "reading a workflow, without checks", "10,000 jobs")
-SAID = ("Measured on 2026-12-01 at commit `0123abcd` on 2 processors (some);\n"
-        "the machine was busy: beside `memory` other programs used up to 1.2 processors. Rows with † are of earlier runs")
+SAID = ("Measured on 2026-12-01 at commit `0123abcd` on 2 processors (some); the machine was busy: beside `memory`, `clients` other "
+        "programs used up\nto 1.2 processors. Rows with † are of earlier runs.\n\n")
 LOG = """| `al_base` | 1,438 | 105 | 1,628 |  |  |  |
 | `al_unit_tests` | 2,259 | 7 | 397 | 304 | 3,560 |  |
 | `al_cli` | 973 | 230 | 2,913 |  |  |  |
@@ -46,9 +46,8 @@ LOG = """| `al_base` | 1,438 | 105 | 1,628 |  |  |  |
 The whole: 133.4 processor minutes in 45.2 minutes (4 processors, RT_JOBS not set). Proofs from nothing 45.1, tests
 24.0, edits 64.2; linking, programs, cases and what the looks missed 0.1. The longest chain is
 """
-OF_GATE = ("45.2 minutes on 4 processors, RT_JOBS not set, 133.4 processor minutes, of which\n"
-           "45.1 for proofs, 24.0 for tests and 64.2 for edits. The proofs that took longest:\n"
-           "`al_cli` 230 s, `al_base` 105 s, `al_unit_tests` 7 s.\n")
+OF_GATE = ("45.2 minutes on 4 processors, RT_JOBS not set, 133.4 processor minutes, of which 45.1 for proofs, 24.0 for tests and 64.2 for "
+           "edits. The proofs that took longest: `al_cli` 230 s, `al_base` 105 s, `al_unit_tests` 7 s.")
 
 
 def wrong(top):
@@ -64,9 +63,10 @@ def wrong(top):
             yield f"a row that isn't measured becomes {new.get(what)}"
     if SAID not in after:
         yield "the page doesn't say what the run was"
+    yield from (f"a line is too long: {it}" for it in bench.said_of_gate(LOG).splitlines() if len(it) > bench.LONGEST_LINE)
     if len({text.partition("## What a user asks")[2].count("\n") for text in (before, after)}) != 1:
         yield "lines are lost or added"
-    if OF_GATE not in bench.said_of_gate(LOG):
+    if OF_GATE not in " ".join(bench.said_of_gate(LOG).split("\n")):
         yield f"of the gate's log it says: {bench.said_of_gate(LOG)}"
 
 

@@ -2,10 +2,10 @@
 
 WHAT is `src` or `specs` (no line is longer than 140 characters), `proofs` (none is longer than 200), `heads` (each module of lemmas says at
 its top what it is for), `kinds` (definitions use neither words of private contracts, `specs/Private`, nor worked examples, `specs/Rows`,
-and none of all these uses proofs, including those of `specs/Proofs`), `words` (pages, helps and messages have none of some home-made
-terms), `pages` (no line of text on a page is longer than 140 characters, and all pages together have at most 4,800 lines) or `names` (each
-name that a `use` line imports occurs somewhere else in its file). `--write` removes the names that don't; then `rt fmt` and `rt check` have
-to be run in each changed crate.
+and none of all these uses proofs, including those of `specs/Proofs`), `words` (pages, helps, messages and comments of the clients have none
+of some home-made terms), `pages` (no line of text on a page is longer than 140 characters, and all pages together have at most so many) or
+`names` (each name that a `use` line imports occurs somewhere else in its file). `--write` removes the names that don't; then `rt fmt` and
+`rt check` have to be run in each changed crate.
 """
 
 import pathlib
@@ -19,9 +19,14 @@ UNUSUAL = {
     "leads out": "points outside", "lead out": "point outside", "link out of": "link that points outside",
     "links out of": "links that point outside", "outside of the folder": "points outside the folder", "passed over": "skipped",
     "current folder": "current directory", "top folder": "top directory", "words of the command line": "arguments",
-    "words of a command line": "arguments", "carried program": "prebuilt program", "flag": "boolean", "asks again": "retries",
-    "file that answers it": "callee", "words are not text": "arguments are not valid UTF-8",
+    "words of a command line": "arguments", "word of the command line": "argument", "carried program": "prebuilt program",
+    "is carried": "is prebuilt", "flag": "boolean", "asks again": "retries", "asked again": "retried", "file that answers it": "callee",
+    "words are not text": "arguments are not valid UTF-8", "call leads to": "call resolves to", "link leads to": "link points to",
+    "link in a clone leads to": "link in a clone points to",
 }
+# comments of these are read too
+COMMENTED = ("clients/actionlint_client/**/*.py", "clients/actionlint-*", "clients/which-actionlint", "clients/pre-commit",
+             "clients/github/run")
 # what a user reads beside pages: texts of helps and messages
 SHOWN = ("action.yml", ".pre-commit-hooks.yaml", "release", "tools/find_program.sh", "tools/build.py", "clients/which-actionlint",
          "clients/actionlint_client/*.py", "clients/actionlint-*")
@@ -29,7 +34,7 @@ COMMENT_OF_SCRIPTS = re.compile(r'^ *#.*$|^ *"""(?:.|\n)*?"""$', re.MULTILINE)
 # texts in quotes; in YAML those after a key
 QUOTED = re.compile(r"\"[^\"\n]*\"|'[^'\n]*'")
 VALUE = re.compile(r"(?<=: ).*$", re.MULTILINE)
-LONGEST_OF_PAGES, MOST_OF_PAGES = 140, 4_800
+LONGEST_OF_PAGES, MOST_OF_PAGES = 140, 4_400
 FENCED = re.compile(r"^```.*?^```$", re.DOTALL | re.MULTILINE)
 CODE = re.compile(rf"{FENCED.pattern}|`[^`\n]*`", re.DOTALL | re.MULTILINE)
 # the folders of `specs/` that aren't about what the product means; each may use those before it
@@ -66,13 +71,21 @@ def pages_of(top):
     return sorted((*top.glob("*.md"), *top.glob("docs/**/*.md"), top / "clients/README.md", top / "tests/README.md"))
 
 
+def comments_of(text):
+    """The comments of a script."""
+    return re.sub(r"^ *# ?", "", " ".join(COMMENT_OF_SCRIPTS.findall(text)), flags=re.MULTILINE)
+
+
 def unusual_words(top):
-    """The words on pages, in helps and in messages for which there is a usual one."""
+    """The words on pages, in helps, in messages and in comments of the clients for which there is a usual one."""
     texts = {file: CODE.sub("", file.read_text(encoding="utf-8")) for file in pages_of(top)}
+    of_clients = {it for name in COMMENTED for it in top.glob(name)}
     for file in sorted(it for name in SHOWN for it in top.glob(name)):
         texts_of = VALUE if file.suffix in (".yml", ".yaml") else QUOTED
         shown = texts_of.findall(COMMENT_OF_SCRIPTS.sub("", file.read_text(encoding="utf-8")))
         texts[file] = re.sub(r"\{[^{}]*\}", "", " ".join(it for it in shown if " " in it))
+    for file in sorted(of_clients):
+        texts[file] = texts.get(file, "") + " " + CODE.sub("", comments_of(file.read_text(encoding="utf-8")))
     for file, text in texts.items():
         text = re.sub(r"\s+", " ", text).lower()
         yield from (f"{file.relative_to(top)} says {it}, which is: {usual}" for it, usual in UNUSUAL.items()

@@ -338,7 +338,15 @@ def touched(copy):
 TESTS = (test_building, test_places, test_signals, test_prebuilt, test_which, test_missing_commands, test_reading_alone, test_estimate)
 
 
+def link(top):
+    """The second program's wrapper is a link to the first one's, whose name says which program is run."""
+    path = pathlib.Path(top) / "actionlint-facts"
+    is_link = path.is_symlink() and os.readlink(path) == "actionlint"
+    report("actionlint-facts-is-a-link", "-", [] if is_link else [f"{path} is no link to actionlint"])
+
+
 def main(top):
+    link(top)
     for test in TESTS:
         copy = Copy(pathlib.Path(top).resolve())
         try:

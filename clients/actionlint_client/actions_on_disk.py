@@ -1,4 +1,4 @@
-"""The actions below a folder, including those that no file calls yet."""
+"""The actions below a directory, including those that no file calls yet."""
 from __future__ import annotations
 
 import os
@@ -10,7 +10,7 @@ PASSED_OVER = (b"node_modules", b"target", b"vendor")
 
 
 def actions_below(root: bytes) -> list[str]:
-    """The paths of the actions in the first 2,000 folders, except those of dependencies and of git. Links to folders aren't followed."""
+    """The paths of the actions in the first 2,000 directories, except those of dependencies and of git. No link to one is followed."""
     found: list[str] = []
     for number, (folder, folders, names) in enumerate(os.walk(root)):
         if number == MAX_FOLDERS:

@@ -348,7 +348,7 @@ def _workflow_names(cursor: Cursor) -> list[Offer]:
 
 
 def _flags(cursor: Cursor) -> list[Offer]:
-    """True and false where a flag is expected, also by the type of the called file's input."""
+    """True and false where a boolean is expected, also by the type of the called file's input."""
     path = cursor.place.path
     shape = shape_at(cursor.file, path, cursor.levels)
     is_flag = shape is not None and shape["scalars"] == "Bools" or path[-1:] == ("required",)

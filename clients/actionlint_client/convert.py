@@ -232,7 +232,7 @@ def _options(words: list[str]) -> argparse.Namespace:
     parser.add_argument("files", nargs="*", metavar="FILE",
                         help="workflows and actions below DIR (default: all workflows, and what they call)")
     end = words.index("--") if "--" in words else len(words)
-    # (the word after it may be a file)
+    # (the argument after it may be a file)
     options = parser.parse_intermixed_args([f"{NOTES}=info" if word == NOTES else word for word in words[:end]])
     options.files += words[end + 1:]
     if options.out == "":

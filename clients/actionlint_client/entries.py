@@ -88,7 +88,7 @@ def explained(entry: Entry) -> str:
 
 
 def _named_page(link: re.Match[str]) -> str:
-    """A link to a page as a text that says which page it is, in the folder `docs`."""
+    """A link to a page as a text that says which page it is, in the directory `docs`."""
     text, page = link[1], link[2].partition("#")[0]
     return f"docs/{page}" if text == page else f"{text} in docs/{page}" if page else text
 

@@ -24,7 +24,7 @@ MAX_TRIED = 1_000
 MAX_TRIED_BYTES = 30_000_000
 SECONDS_OF_A_FILE = 60.0
 SECONDS_OF_ALL = 300.0
-BEHIND_A_LINK = "a symbolic link leads to it"
+BEHIND_A_LINK = "a symbolic link points to it"
 
 
 @dataclass(frozen=True)
@@ -177,7 +177,7 @@ def edited(data: bytes, edits: Iterable[Edit]) -> bytes:
 
 
 def is_behind_a_link(root: bytes, path: str) -> bool:
-    """Whether a file below a folder, or a folder on the way to it, is a symbolic link."""
+    """Whether a file below a directory, or a directory on the way to it, is a symbolic link."""
     parts = path.encode("utf-8", "surrogatepass").split(b"/")
     return any(os.path.islink(os.path.join(root, *parts[:count])) for count in range(1, len(parts) + 1))
 

@@ -34,7 +34,7 @@ def _is_here(name: str) -> bool:
 
 
 def _system_python_has(names: Iterable[str]) -> bool:
-    # Modules of the current folder, which may be a stranger's, aren't imported.
+    # Modules of the current directory, which may be a stranger's, aren't imported.
     words = [SYSTEM_PYTHON, "-E", "-c", f"import {', '.join(names)}"]
     try:
         return subprocess.run(words, cwd="/", stdin=subprocess.DEVNULL, stderr=subprocess.DEVNULL, check=False).returncode == 0

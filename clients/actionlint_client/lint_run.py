@@ -1,4 +1,4 @@
-"""A run of the linter on a folder. The faults are read as they are printed."""
+"""A run of the linter on a repository. The faults are read as they are printed."""
 from __future__ import annotations
 
 import subprocess

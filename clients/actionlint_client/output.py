@@ -19,7 +19,7 @@ NEW_FILE = os.O_WRONLY | os.O_CREAT | os.O_EXCL | os.O_NOFOLLOW | os.O_CLOEXEC
 @contextmanager
 def report_output(file: str | None) -> Iterator[BinaryIO]:
     """What is written reaches the file or standard output only when the block ends without an exception. Raises OSError if it can't,
-    because something else than a regular file has the name (a link, a pipe, a device), or a link below the current folder leads there."""
+    because something else than a regular file has the name (a link, a pipe, a device), or its path has a link below the current directory."""
     if file is None:
         # If it is closed, a file that is opened next would take its place.
         os.fstat(STANDARD_OUTPUT)
@@ -39,7 +39,7 @@ def report_output(file: str | None) -> Iterator[BinaryIO]:
 
 @contextmanager
 def replaced_file(folder: int, name: str, like: os.stat_result | None = None) -> Iterator[BinaryIO]:
-    """A new file in a folder that gets the name at the end, if the block ends without an exception. It has the mode of another file, and
+    """A new file in a directory that gets the name at the end, if the block ends without an exception. It has the mode of another file, and
     its owner if possible."""
     beside = f".actionlint-report.{secrets.token_hex(8)}"
     handle = os.open(beside, NEW_FILE, 0o666, dir_fd=folder)
@@ -66,12 +66,12 @@ def _refuse_odd(folder: int, name: str) -> None:
 
 
 def _open_folder(path: str) -> int:
-    """A folder. No link below the current folder is followed."""
+    """A directory. No link below the current directory is followed."""
     return os.open(path, FOLDER) if os.path.isabs(path) else folder_below(os.open(".", FOLDER), path)
 
 
 def folder_below(folder: int, path: str) -> int:
-    """A folder below an open one, which is closed. No link is followed."""
+    """A directory below an open one, which is closed. No link is followed."""
     for part in path.split("/"):
         if part not in ("", "."):
             above = folder

@@ -1,4 +1,4 @@
-"""Which files are linted, by their paths relative to the repository's folder."""
+"""Which files are linted, by their paths relative to the repository's top directory."""
 from __future__ import annotations
 
 import os
@@ -32,10 +32,10 @@ def is_path(path: str) -> bool:
 
 
 def path_of_word(word: str) -> str:
-    """A word of the command line as the linter reads it, which is UTF-8 in each locale."""
+    """An argument as the linter reads it, which is UTF-8 in each locale."""
     return os.fsencode(word).decode("utf-8", "replace")
 
 
 def is_below(path: bytes, folder: bytes) -> bool:
-    """Whether an absolute path is a folder or in it."""
+    """Whether an absolute path is a directory or in it."""
     return path == folder or path.startswith(folder.rstrip(b"/") + b"/")

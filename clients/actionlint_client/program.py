@@ -30,12 +30,12 @@ def cannot_start(program: str, error: OSError) -> str:
 
 def find_facts(linter: str) -> str:
     """The absolute path of actionlint-facts: the one that the variable ACTIONLINT_FACTS names, else the one beside a linter, which may have
-    the linter's own name, in a clone the one that was built last or is carried, else the one on the PATH."""
+    the linter's own name, in a clone the one that was built last or the prebuilt one, else the one on the PATH."""
     named = os.environ.get("ACTIONLINT_FACTS")
     beside = Path(linter).with_name(f"{Path(linter).name}-facts")
     folders = [Path(linter).parent, FINDER.parents[1]]
     places = [Path(named)] if named else [beside, *(folder / path for folder in folders for path in (FACTS, *FACTS_OF_A_CLONE))]
-    # (the link in a clone leads to a script, which builds the program if none fits)
+    # (the link in a clone points to a script, which builds the program if none fits)
     found = next((place for place in places if named or not place.is_symlink() and place.is_file() and os.access(place, os.X_OK)), None)
     on_path = shutil.which(FACTS)
     return os.path.abspath(found or on_path or Path(linter).with_name(FACTS))

@@ -93,7 +93,7 @@ class Project:
         return self.read(file) is not None
 
     def callee(self, uses: str | None, of_job: bool) -> str | None:
-        """The file of the folder that a call leads to."""
+        """The file of the folder to which a call resolves."""
         if not uses or not uses.startswith("./"):
             return None
         folder = uses[2:].removesuffix("/")

@@ -19,7 +19,7 @@ from .tree import Node, Path, walk
 
 CALLED = "on:\n  workflow_call:\njobs:\n  build:\n    runs-on: ubuntu-latest\n    steps:\n      - run: make\n"
 VALUES = {"boolean": "true", "number": "0", "string": "''"}
-# A workflow of another repository whose folder isn't named whole.
+# A workflow of another repository whose directory isn't named whole.
 OTHER_FOLDER = re.compile(r"([\w-]+/[\w.-]+)/(?:\.?github/)?(?:workflows?/)?([\w.-]+\.ya?ml@[\w./-]+)")
 # Inputs that take the token of the job, and those that take a secret.
 TOKEN_OF_JOB = re.compile(r"(?:(?:github|gh|repo|repository)[-_]?)?token", re.I)
@@ -38,7 +38,7 @@ def _path_of(case: Case) -> Path:
 
 
 def _call(case: Case) -> tuple[Node | None, str | None, bool]:
-    """The step or the job with the call, the file that it leads to, and whether it is a job."""
+    """The step or the job with the call, the callee, and whether it is a job."""
     path = _path_of(case)
     node = case.at(*path) if path else None
     if node is None:
@@ -270,7 +270,7 @@ def other_type(case: Case) -> Iterable[Repair]:
 
 
 def right_uses(case: Case) -> Iterable[Repair]:
-    """A call with a version, without an expression, and with `./` before a folder of this repository."""
+    """A call with a version, without an expression, and with `./` before a directory of this repository."""
     here = case.value
     if here is None:
         return
@@ -375,7 +375,7 @@ def made_callable(case: Case) -> Iterable[Repair]:
 
 
 def without_step(case: Case) -> Iterable[Repair]:
-    """The steps without the one that leads back."""
+    """The steps without the one that closes the cycle."""
     here = case.scalar
     if here is None or "steps" not in here.path:
         return

@@ -358,7 +358,7 @@ def one_pair(case: Case) -> Iterable[Repair]:
         return grouped(match[1].strip(), (*COMPARISONS, "&&", "||") if is_operand else ("&&", "||"))
     whole = BRACES.sub(inner, text).strip()
     if outside:
-        # a flag isn't equal to the text `true`
+        # a boolean isn't equal to the text `true`
         is_safe = "'true'" not in whole and "'false'" not in whole
         yield case.replace("put all of it into one pair of braces", as_scalar("${{ " + whole + " }}", here.value.style, in_flow),
                            here.value.span, is_safe)

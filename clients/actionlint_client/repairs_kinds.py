@@ -343,7 +343,7 @@ def _alias_alone(case: Case, mapping: Node, alias: Node) -> Edit:
 
 
 def other_type(case: Case) -> Iterable[Repair]:
-    """A flag or a number that is written as a text, or an expression without its braces."""
+    """A boolean or a number that is written as a text, or an expression without its braces."""
     here = case.value
     if here is None:
         return

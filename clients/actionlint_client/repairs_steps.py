@@ -143,7 +143,7 @@ def output_of_any_job(case: Case, span: Span) -> Iterable[Repair]:
 
 
 def shell_of_all_steps(case: Case) -> Iterable[Repair]:
-    """The shell or the folder of an action's scripts, which only its steps can have, on each of them that has none."""
+    """The shell or the directory of an action's scripts, which only its steps can have, on each of them that has none."""
     here, steps = case.key, case.at("runs", "steps")
     if is_workflow(case.file) or here is None or here.key is None or not steps or len(here.parent.entries) < 2:
         return

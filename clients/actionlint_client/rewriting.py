@@ -14,7 +14,7 @@ class NotWritten(Exception):
 
 
 def rewrite(root: str, path: str, before: bytes, after: bytes) -> None:
-    """Replaces a regular file below a folder; its mode stays. No link is followed on the way to it."""
+    """Replaces a regular file below a directory; its mode stays. No link is followed on the way to it."""
     try:
         top = os.open(root, FOLDER)
         folder = folder_below(top, os.path.dirname(path))

@@ -21,7 +21,7 @@ def command_of(step: Node, default: str) -> str:
 
 
 def name_of(command: str) -> str:
-    """The name of a command's shell, without its folder and its options."""
+    """The name of a command's shell, without its directory and its options."""
     return command.split(" ")[0].rpartition("/")[2]
 
 

@@ -45,7 +45,7 @@ class _Known(NamedTuple):
 
 
 class Link(NamedTuple):
-    """A text that leads to a file of the folder, or to an address."""
+    """A text that links to a file of the folder, or to an address."""
 
     span: Span
     file: str | None

@@ -193,7 +193,7 @@ def modes_and_links(program: str) -> None:
         os.chmod(os.path.join(folder, FILE), 0o640)
         os.symlink("../../elsewhere/w.yml", os.path.join(folder, link))
         os.symlink("actions", os.path.join(folder, "linked"))
-        why = "not fixed, since a symbolic link leads to it"
+        why = "not fixed, since a symbolic link points to it"
         for words in (["--diff"], ["--fix", "--form", "jsonl"]):
             status, _, said = report(program, folder, *words)
             assert status == 1 and {f"{link}: {why}", f"{linked}: {why}"} <= set(said), said

@@ -1,6 +1,6 @@
 #!/usr/bin/env python3
-"""The tables of docs/DIFFERENCES.md have the rows of differences.cases, and each row's files have the faults and notes that it says. Needs
-actionlint-facts.
+"""Each row's files in differences.cases have the faults and notes that it says, and the tables of docs/DIFFERENCES.md have the rows that no
+note finds; those of notes have their entries on docs/NOTES.md. Needs actionlint-facts.
 
     differences.py PROGRAM [NAME...]
     differences.py --write              writes the tables
@@ -25,7 +25,8 @@ CASES = Cases("differences")
 PAGE = TOP / "docs/DIFFERENCES.md"
 ROWS = Path(__file__).resolve().parent / "differences.cases"
 HEAD = re.compile(r"== (\w+) \| ([^|]+) \| (.+)")
-TABLE = re.compile(r"(^\| What \| Found by \|\n\|---\|---\|\n)((?:\|.*\n)*)", re.M)
+# Of the last section, the table says what finds its rows; nothing finds those of the others.
+TABLE = re.compile(r"(^\| (?:What \| Found by|Nothing finds) \|\n(?:\|---)+\|\n)((?:\|.*\n)*)", re.M)
 # The sections in the order of the page.
 SECTIONS = ("refused", "meant", "stricter")
 FEWEST = 45
@@ -60,7 +61,9 @@ def linked(found: str) -> str:
 
 
 def page_with_rows(text: str) -> str:
-    tables = iter("".join(f"| {row.text} | {linked(row.found)} |\n" for row in rows() if row.section == section) for section in SECTIONS)
+    unfound = [row for row in rows() if row.section != "stricter" and row.found == "nothing"]
+    tables = iter(["".join(f"| {row.text} |\n" for row in unfound if row.section == section) for section in SECTIONS[:-1]]
+                  + ["".join(f"| {row.text} | {linked(row.found)} |\n" for row in rows() if row.section == "stricter")])
     return TABLE.sub(lambda table: table[1] + next(tables), text)
 
 

@@ -19,13 +19,14 @@ from pathlib import Path
 from cases import Cases
 from clones_and_releases import ANYWHERE, Place, Room, in_each_clone, in_each_place
 from editors import in_terminal
-from repositories import CLIENTS, FILE, FILES, RIGHT, TOP, UNDEFINED, WORKFLOWS, git, reported, write
+from repositories import CLIENTS, FILE, FILES, TOP, UNDEFINED, WORKFLOWS, git, reported, write
 
 import yaml  # type: ignore[import]
 
 CASES = Cases("snippets")
 PAGES = ("README.md", "docs/EDITORS.md", "docs/CI.md", "docs/COMMAND-LINE.md")
 FENCED = re.compile(r"(?:<!-- (?:run: ([\w-]+)|(not run)) -->\n)?^```\w+(?: file=\S+)?\n(.*?)^```$", re.M | re.S)
+ARGUMENTS = re.compile(r"`(args: \[.*\])`")
 SECONDS = 60
 EXPRESSION = re.compile(r"\$\{\{ ([\w.-]+) \}\}")
 # What each editor does after its snippet: opens the file, waits for the fault, and writes its messages.
@@ -138,11 +139,6 @@ def workflow(place: Place) -> None:
 
 
 @in_each_place(CASES)
-def short_workflow(place: Place) -> None:
-    run_workflow(place, *snippets()["short-workflow"])
-
-
-@in_each_place(CASES)
 def scanning(place: Place) -> None:
     (text,) = snippets()["scanning"]
     run_workflow(place, text, uploaded="actionlint.sarif")
@@ -191,49 +187,38 @@ def run_action(place: Place, room: Room, inputs: dict[str, str]) -> tuple[int, s
     return done.returncode, done.stdout.decode()
 
 
-def run_lines(place: Place, name: str, room: Room, *replaced: tuple[str, str]) -> list[int]:
+def run_lines(place: Place, name: str, room: Room) -> list[int]:
     """Runs the lines of a snippet, or the commands of its `script`; returns their statuses."""
     (text,) = of_page(name, place)
-    for old, new in replaced:
-        text = text.replace(old, new)
     lines = text.splitlines() if not text.startswith("actionlint:\n") else yaml.safe_load(text)["actionlint"]["script"]
     return [subprocess.run(["sh", "-c", line], cwd=room.root, env=room.environment, stdout=subprocess.PIPE, check=False,
                            **place.as_user()).returncode for line in lines]
 
 
-@in_each_place(CASES)
-def ignoring(place: Place) -> None:
-    """The inputs of the action in one step."""
-    (text,) = snippets()["ignore"]
-    (step,) = yaml.safe_load(text)
-    with place.repository({**{f"repository/{path}": text for path, text in FILES.items()}, "known-faults.txt": "C3\n"}) as room:
-        status, said = run_action(place, room, {**step["with"], "shellcheck": "false"})
-        assert step["with"]["shellcheck"] is True and step["with"]["root"] == "repository"
-        assert status == 1 and f"repository/{FILE}:6:30: {UNDEFINED}" in said.splitlines() and "required input" not in said, said
-
-
-@in_each_place(CASES)
-def fix(place: Place) -> None:
-    """What is shown is what is written then."""
-    with place.repository(FILES) as room:
-        assert run_lines(place, "fix", room) == [1, 1]
-        assert Path(room.root, FILE).read_text(encoding="utf-8") == RIGHT
-
-
-@in_each_place(CASES)
-def report(place: Place) -> None:
-    with place.repository({f"repository/{path}": text for path, text in FILES.items()}) as room:
-        assert run_lines(place, "report", room, ("DIR", "repository")) == [1, 1, 1]
-        assert "X13" in Path(room.root, "actionlint.sarif").read_text(encoding="utf-8")
+# names of clones that have quotes or blanks, or look like an option, each with the same files
+CLONES = ["r0", "r 1 ", "it's", "-r", r"a\b"]
+OF_CLONES = {f"{name}/{path}": text for name in CLONES for path, text in FILES.items()}
 
 
 @in_each_place(CASES)
 def many(place: Place) -> None:
-    names = ["r0", "r 1 ", "it's", "-r", r"a\b"]
-    files = {f"{name}/{path}": text for name in names for path, text in FILES.items()}
-    with place.repository({**files, "folders.txt": "".join(name + "\n" for name in names)}) as room:
+    with place.repository({**OF_CLONES, "folders.txt": "".join(name + "\n" for name in CLONES)}) as room:
         assert run_lines(place, "many", room) == [123]
-        assert all("X13" in Path(room.root, name, "actionlint.sarif").read_text(encoding="utf-8") for name in names)
+        assert all("X13" in Path(room.root, name, "actionlint.sarif").read_text(encoding="utf-8") for name in CLONES)
+
+
+@in_each_place(CASES)
+def organisation(place: Place) -> None:
+    """The faults of all clones, and the one that could not be linted. Needs GNU parallel and jq."""
+    (text,) = of_page("organisation", place)
+    listed = "".join(name + "\n" for name in [*CLONES, "none"])
+    with place.repository({**OF_CLONES, "none/README.md": "x\n", "folders.txt": listed}) as room:
+        done = subprocess.run(["bash", "-c", text], cwd=room.root, env=room.environment, stdout=subprocess.PIPE, check=False,
+                              **place.as_user())
+        told = [json.loads(line) for line in Path(room.root, "faults.jsonl").read_text(encoding="utf-8").splitlines()]
+        assert [(one["clone"], one["code"]) for one in told] == [(name, code) for name in CLONES for code in ("X13", "C3")], told
+        (line,) = done.stdout.decode().splitlines()
+        assert line.startswith("3 ") and line.endswith("--root=none"), line
 
 
 @in_each_place(CASES)
@@ -257,14 +242,14 @@ def finds_a_fault(room: Room, words: list[str], shown: str = UNDEFINED) -> None:
 
 @in_each_clone(CASES)
 def pre_commit(place: Place) -> None:
-    """Hooks are taken from a git repository, which a release isn't."""
+    """Hooks are taken from a git repository, which a release isn't. The page shows arguments for one in its text."""
     revision = git(str(place.folder), "-c", f"safe.directory={place.folder}", "rev-parse", "HEAD").strip()
-    for text in snippets()["pre-commit"]:
-        text = text.replace("https://github.com/OWNER/REPOSITORY", str(place.folder)).replace("COMMIT", revision)
-        with place.repository({**FILES, ".pre-commit-config.yaml": text}) as room:
-            finds_a_fault(room, ["pre-commit", "run", "--all-files"])
-    (text,) = of_page("pre-commit-ignore", place)
+    (text,) = snippets()["pre-commit"]
     text = text.replace("https://github.com/OWNER/REPOSITORY", str(place.folder)).replace("COMMIT", revision)
+    with place.repository({**FILES, ".pre-commit-config.yaml": text}) as room:
+        finds_a_fault(room, ["pre-commit", "run", "--all-files"])
+    (arguments,) = ARGUMENTS.findall((TOP / "docs/CI.md").read_text(encoding="utf-8"))
+    text = text.replace("- id: actionlint\n", f"- id: actionlint\n        {arguments}\n")
     with place.repository({FILE: FILES[FILE], "known-faults.txt": "X13\n", ".pre-commit-config.yaml": text}) as room:
         status, said = room.run(["pre-commit", "run", "--all-files"])
         assert status == 0 and "Passed" in said, said

@@ -17,7 +17,7 @@ BUILT = frozenset(table("folders")["built"])
 
 
 def local_path(uses: str) -> str | None:
-    """The folder of a local action, without a slash at its end. None if it isn't one, or leads out of the folder."""
+    """The directory of a local action, without a slash at its end. None if it isn't one, or is outside the folder."""
     path = posixpath.normpath(uses) if uses.startswith("./") else ".."
     return None if path.startswith("..") or has_expression(uses) or "@" in uses else path
 
