@@ -10,6 +10,7 @@ from typing import Callable, NamedTuple
 from common import TOP
 
 sys.path.insert(0, str(TOP / "tests"))
+from limited_folders import LIMITED_FOLDERS
 from products import FOLDERS  # type: ignore[attr-defined]  # of tests/: mypy takes it for bench/products.py
 
 # What the scripts have told: by script, then by what is measured, then by the name of the figure.
@@ -20,6 +21,8 @@ MIB = 1 << 20
 # folders of tests/products.py that have a row of their own
 OWN_ROWS = ("30000-calls-of-40000-optional-inputs", "14000-calls-at-one-place-of-24900-inputs", "2400-calls-that-lack-1000-inputs",
             "30000-aliases-of-a-step-that-lacks-1000-inputs")
+# and of tests/limited_folders.py
+TREE, OWN_ACTIONS = "sets-of-mappings-of-a-tree-by-3000-paths", "4000-steps-that-call-an-action-with-100-outputs-each"
 
 
 class Cell(NamedTuple):
@@ -121,7 +124,7 @@ def reading(*whats: str, between: str = " to ") -> dict[str, Cell]:
 
 
 def product(*names: str) -> dict[str, Cell]:
-    """The cells of folders of tests/products.py."""
+    """The cells of folders of tests/products.py and tests/limited_folders.py."""
     return {"Time": Cell(each("products", names), seconds, " to "), "Memory": Cell(each("products", names, "memory"), mebibytes, " to ")}
 
 
@@ -191,6 +194,10 @@ ROWS: dict[str, dict[str, Cell]] = {
         {"Time": Cell((ratio("folder", "200 workflows with 10 shared actions", "called_first", "callers_first"),), times)},
     "each other folder of `tests/products.py`: thousands of expressions or jobs on what thousands of others have in common":
         product(*(name for name in FOLDERS if name not in OWN_ROWS)),
+    "3,000 expressions by different paths through a tree of mappings": product(TREE),
+    "4,000 steps that call an action of their own with 100 outputs each, and 16,000 expressions on all these": product(OWN_ACTIONS),
+    "each other folder of `tests/limited_folders.py`: sets of objects, names and hashes that are equal but for little":
+        product(*(name for name in LIMITED_FOLDERS if name not in (TREE, OWN_ACTIONS))),
     "30,000 calls of an action with 40,000 optional inputs": product(OWN_ROWS[0]),
     "14,000 calls that each give a different one of 24,900 required inputs": product(OWN_ROWS[1]),
     "2,400 calls that each lack 1,000 required inputs: 196 MB of report": product(OWN_ROWS[2]),

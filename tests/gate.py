@@ -1,9 +1,9 @@
 """Tests ./test in copies with parts of a few lines: gate.py PROGRAM.
 
 A part that ends otherwise than its cases say, hangs, prints fewer cases than noted or no case, or skips one in CI has to fail; so has a
-linter that hangs from its 41st run on, which is tried with tests/program.py itself, and each case of tests/hostile.py with a linter that
-does nothing. Each wrong version of tools/gate.py (WRONG_VERSIONS) is refused by the check that is named with it. Prints a line for each
-case.
+linter that hangs from its 41st run on, which is tried with tests/program.py itself, and each case of tests/hostile.py and tests/streams.py
+with a linter that does nothing. Each wrong version of tools/gate.py (WRONG_VERSIONS) is refused by the check that is named with it. Prints
+a line for each case.
 """
 
 from __future__ import annotations
@@ -222,10 +222,12 @@ def a_linter_that_hangs(copy: Copy, program: pathlib.Path) -> list[str]:
 
 
 def a_linter_that_does_nothing() -> list[str]:
-    """It fails each case of tests/hostile.py."""
-    command = [sys.executable, str(TOP / "tests/hostile.py"), shutil.which("true") or "true"]
-    ran = subprocess.run(command, stdout=subprocess.PIPE, stderr=subprocess.DEVNULL, text=True, check=False)
-    lines = [line for line in ran.stdout.splitlines() if line.startswith("case=")]
+    """It fails each case of tests/hostile.py and of tests/streams.py."""
+    lines = []
+    for name in ("hostile", "streams"):
+        command = [sys.executable, str(TOP / f"tests/{name}.py"), shutil.which("true") or "true"]
+        ran = subprocess.run(command, stdout=subprocess.PIPE, stderr=subprocess.DEVNULL, text=True, check=False)
+        lines += [line for line in ran.stdout.splitlines() if line.startswith("case=")]
     passed = [line for line in lines if " output=wrong " not in line]
     return passed if len(lines) >= HOSTILE_CASES else [f"{len(lines)} cases"]
 

@@ -1,32 +1,29 @@
-"""Runs the built program on hostile files and streams: files that are truncated, deep, long or large, or whose calls lack the same inputs
-again and again; input that is truncated, arrives byte by byte, fails or doesn't end; output that accepts only so many bytes.
+"""Runs the built program on hostile files: files that are truncated, deep, long or large, whose calls lack the same inputs again and
+again, or that make it compare what is equal along many paths.
 
     python3 tests/hostile.py PROGRAM
 
 Expected values are the worked examples of the linter's description, never what the program printed before. A report without such an
-example is compared, from a session, with that of the folder on disk. Input whose reads matter comes through a pipe in packet mode, from
-which each read gets what one write put in. Prints a line for each case, like tests/program.py.
+example is compared, from a session, with that of the folder on disk. Prints a line for each case, like tests/program.py.
 """
 
-import fcntl
 import os
 import resource
 import sys
-import termios
-import threading
 
+from limited_folders import LIMITED_FOLDERS, edits_beside_many_calls
 from products import ACTION, ACTION_FILE, AT, FOLDERS, INPUTS, STEPS, WORKFLOW, WRONG, lacking, position_of, reads, with_wrong_property
-from running import (CALLED, CALLER, CLEAN, MISSING_INPUT, REPORT, SCRIPT, WORKFLOWS, delete, differences_of, each, edits_and_reports, line,
-                     put, report, run_parts, show, wrong_line)
+from running import (CALLED, CLEAN, REPORT, SCRIPT, WORKFLOWS, delete, differences_of, each, edits_and_reports, line, put, report,
+                     run_parts, show, wrong_line)
 
 NO = b""
-READS = 1_048_576
 LARGEST = 1_048_576
 FILES = 4_096
-PIPE_ROOM = 1 << 20
 # what a file of aliases may take: bytes of memory, and seconds of a processor
 MEMORY = 300_000_000
 SECONDS = 10
+# after how many seconds a run with a limit of its own has hung, on a machine that is busy
+WAITED = 600
 # what a report may take in addition to its lines, in bytes of memory
 BESIDE_A_REPORT = 200_000_000
 # what 120,000 edits of a small folder may take, in bytes of memory
@@ -57,16 +54,6 @@ jobs:
   a:
     uses: ./.github/workflows/r.yml
 """
-
-# a script with calls: its commands, each with its reply and the folder's status after it
-TALK = [
-    (put(f"{WORKFLOWS}/c.yml", CALLER), b"ok 1\n", 0),
-    (REPORT, b"status 0\n", 0),
-    (put("a/action.yml", CALLED), b"ok 2\n", 1),
-    (REPORT, MISSING_INPUT + b"status 1\n", 1),
-]
-TALK_SCRIPT = b"".join(command for command, _, _ in TALK)
-TALK_OUTPUT = b"".join(reply for _, reply, _ in TALK)
 
 
 # ---- truncated files
@@ -141,8 +128,13 @@ def one_line(place):
 
 def held_back():
     """Limits memory and time."""
-    resource.setrlimit(resource.RLIMIT_AS, (MEMORY, MEMORY))
-    resource.setrlimit(resource.RLIMIT_CPU, (SECONDS, SECONDS))
+    held_at(SECONDS, MEMORY)
+
+
+def held_at(seconds, memory):
+    """Limits time, in seconds of a processor, and memory, in bytes."""
+    resource.setrlimit(resource.RLIMIT_AS, (memory, memory))
+    resource.setrlimit(resource.RLIMIT_CPU, (seconds, seconds))
 
 
 def shared_nodes(place):
@@ -241,13 +233,7 @@ def calls_of_one_file(place):
 
 def held_to(told):
     """Limits a report to 200 MB of memory beside its bytes, and to the time of files with aliases."""
-
-    def limits():
-        memory = BESIDE_A_REPORT + len(told)
-        resource.setrlimit(resource.RLIMIT_AS, (memory, memory))
-        resource.setrlimit(resource.RLIMIT_CPU, (SECONDS, SECONDS))
-
-    return limits
+    return lambda: held_at(SECONDS, BESIDE_A_REPORT + len(told))
 
 
 def reported_property(place, name, data):
@@ -277,6 +263,19 @@ def many_of_both(place):
     fault = b'%s%d:19: "j%05d" needs "j%05d" in a cycle [job-needs]\n'
     told = b"".join(fault % (AT, 3 + it, it, (it - 1) % 16_000) for it in range(16_000))
     place.case("ring-of-16000-needs", 1, told, NO, ["--oneline"], limits=held_back)
+
+
+def folders_with_limits(place):
+    """Folders and a script with limits of their own: sets of objects that are equal along many paths, names and hashes that are equal but
+    for a few bytes, and edits beside calls that they can't affect."""
+    for name, (make, seconds, memory) in LIMITED_FOLDERS.items():
+        files, told = make()
+        place.fresh(files)
+        place.case(name, 1, told, NO, ["--oneline"], limits=lambda: held_at(seconds, memory), timeout=WAITED)
+    script, told = edits_beside_many_calls()
+    limits = lambda: held_at(2, 100_000_000)
+    place.fresh()
+    place.case("edits-beside-30000-calls-of-40000-inputs", 1, told, NO, SCRIPT, stdin=script, limits=limits, timeout=WAITED)
 
 
 # ---- many edits
@@ -362,139 +361,6 @@ def folder_of_links(place):
     place.case("100-links-to-a-file-of-99000-numbers", 1, told, NO, ["--oneline"], limits=held_to(NO))
 
 
-# ---- input
-
-
-class Packets:
-    """The reading end of a pipe, from which each read gets one of these pieces while it is open; then the end, a failure, or neither before
-    it is closed."""
-
-    def __init__(self, pieces, ending="end"):
-        self.reader, self.writer = os.pipe2(os.O_DIRECT)
-        fcntl.fcntl(self.writer, fcntl.F_SETPIPE_SZ, PIPE_ROOM)
-        for piece in pieces:
-            os.write(self.writer, piece)
-        if ending == "end":
-            os.close(self.writer)
-            self.writer = None
-        # when nothing is left, a read from this end fails instead of waiting
-        os.set_blocking(self.reader, ending != "failure")
-
-    def left(self):
-        """How many bytes weren't read."""
-        count = bytearray(4)
-        fcntl.ioctl(self.reader, termios.FIONREAD, count)
-        return int.from_bytes(count, sys.byteorder)
-
-    def __enter__(self):
-        return self
-
-    def __exit__(self, *_):
-        os.close(self.reader)
-        if self.writer is not None:
-            os.close(self.writer)
-
-
-def read_differences(place, pieces, ending, status, out, err):
-    """How the run differs from this answer if the script arrives in these pieces."""
-    with Packets([piece for piece in pieces if piece], ending) as packets:
-        return differences_of(place.run(SCRIPT, packets.reader), status, out, err)
-
-
-def replies_to(size):
-    """The replies to the complete commands in the first bytes of the script, the folder's status then, and whether a partial command is
-    left."""
-    replies, status = NO, 0
-    for command, reply, status_then in TALK:
-        if size < len(command):
-            break
-        size -= len(command)
-        replies += reply
-        status = status_then
-    return replies, status, size > 0
-
-
-def cut_short(place, size):
-    """A script that ends here: a partial command is a bad one."""
-    replies, status, cut = replies_to(size)
-    out, ended = (replies + b"bad command\n", 2) if cut else (replies, status)
-    return read_differences(place, [TALK_SCRIPT[:size]], "end", ended, out, NO)
-
-
-def pieces_of_a_script(place):
-    """A script in two reads, in single bytes, with its end and with a failed read, at each position."""
-    place.fresh()
-    sizes = range(len(TALK_SCRIPT) + 1)
-    parts = lambda size: [TALK_SCRIPT[:size], TALK_SCRIPT[size:]]
-    each("script-in-two-reads", ((size, read_differences(place, parts(size), "end", 1, TALK_OUTPUT, NO)) for size in sizes))
-    bytewise = [bytes([byte]) for byte in TALK_SCRIPT]
-    each("script-a-byte-a-read", [(0, read_differences(place, bytewise, "end", 1, TALK_OUTPUT, NO))])
-    each("script-that-ends", ((size, cut_short(place, size)) for size in sizes))
-    failed = lambda size: read_differences(place, parts(size)[:1], "failure", 3, replies_to(size)[0], line(b"read failed"))
-    each("script-whose-read-fails", ((size, failed(size)) for size in sizes))
-
-
-def lines_of_input(place):
-    """First lines that are too long, and truncated bytes of a file."""
-    place.fresh()
-    wrong = b"bad command\n"
-    each("line-of-2048-bytes", [(0, read_differences(place, [b"x" * 2_048], "failure", 3, NO, line(b"read failed")))])
-    # the program answers while the other end is open: it reads no more
-    each("line-of-2049-bytes", [(0, read_differences(place, [b"x" * 2_049], "none", 2, wrong, NO))])
-    cut = REPORT + b"put .github/workflows/a.yml 95\non: push\n"
-    place.case("file-that-is-cut", 2, b"status 0\n" + wrong, NO, SCRIPT, stdin=cut)
-
-
-def input_without_end(place):
-    """Reports, byte by byte, without end: the program stops after its limit of reads."""
-    place.fresh()
-    replies = READS // len(REPORT)
-    target = os.path.join(place.room, "replies")
-    with Packets([], "none") as packets, open(target, "wb") as output:
-        given = 0
-
-        def feed():
-            nonlocal given
-            # a few more than are read, so the pipe still holds them when the program has ended
-            for turn in range(READS + 100):
-                given += os.write(packets.writer, REPORT[turn % len(REPORT)].to_bytes(1, "big"))
-
-        feeder = threading.Thread(target=feed, daemon=True)
-        feeder.start()
-        ran = place.run(SCRIPT, packets.reader, stdout=output)
-        # it stays if the program read less
-        feeder.join(1)
-        taken = given - packets.left()
-    with open(target, "rb") as output:
-        ran.stdout = output.read()
-    wrong = differences_of(ran, 3, b"status 0\n" * replies, line(b"too many reads"))
-    if (replies, taken) != (149_796, READS):
-        wrong.append(f"{taken} bytes were read")
-    report("input-without-end", ran.returncode, wrong)
-
-
-# ---- output
-
-
-def held_differences(place, size, whole, words, stdin=NO):
-    """What differs if the output accepts this many bytes."""
-    ran, held = place.run_to_file(size, words, stdin)
-    wrong = differences_of(ran, 3, NO, line(b"write failed"))
-    return wrong if held == whole[:size] else wrong + [f"the output held {show(held)}"]
-
-
-def narrow_output(place):
-    """Output that accepts some bytes and then fails, for each number below the whole."""
-    place.fresh()
-    held = lambda whole, *given: ((size, held_differences(place, size, whole, *given)) for size in range(len(whole)))
-    each("output-of-a-script-that-fails", held(TALK_OUTPUT, SCRIPT, TALK_SCRIPT))
-    place.fresh({f"{WORKFLOWS}/c.yml": CALLER, "a/action.yml": CALLED})
-    snippet = MISSING_INPUT + b"  |\n6 |       - uses: ./a\n  |               ^~~\n"
-    place.case("output-of-a-folder", 1, snippet, NO)
-    each("output-of-a-folder-that-fails", held(snippet, []))
-
-
 if __name__ == "__main__":
     sys.exit(run_parts(prefixes, limits, one_line, shared_nodes, equal_faults, folder_of_4096, ring_of_4096, calls_of_one_file,
-                       many_of_both, many_edits, many_called_files, calls_of_absent_files, folder_of_links, pieces_of_a_script,
-                       lines_of_input, input_without_end, narrow_output))
+                       many_of_both, folders_with_limits, many_edits, many_called_files, calls_of_absent_files, folder_of_links))

@@ -4,12 +4,13 @@ from __future__ import annotations
 import errno
 import os
 import secrets
-import select
 import shutil
 import stat
 import tempfile
 from contextlib import contextmanager, suppress
 from typing import BinaryIO, Iterator, cast
+
+from .streams import waiting_output
 
 STANDARD_OUTPUT = 1
 FOLDER = os.O_RDONLY | os.O_DIRECTORY | os.O_CLOEXEC
@@ -26,7 +27,7 @@ def report_output(file: str | None) -> Iterator[BinaryIO]:
         with tempfile.TemporaryFile() as spool:
             yield cast(BinaryIO, spool)
             spool.seek(0)
-            shutil.copyfileobj(spool, _StandardOutput())
+            shutil.copyfileobj(spool, waiting_output(STANDARD_OUTPUT))
         return
     folder, name = _open_folder(os.path.dirname(file)), os.path.basename(file)
     try:
@@ -80,16 +81,3 @@ def folder_below(folder: int, path: str) -> int:
             finally:
                 os.close(above)
     return folder
-
-
-class _StandardOutput:
-    """Writes all bytes, even to non-blocking output."""
-
-    @staticmethod
-    def write(data: bytes) -> None:
-        unwritten = memoryview(data)
-        while unwritten:
-            try:
-                unwritten = unwritten[os.write(STANDARD_OUTPUT, unwritten):]
-            except BlockingIOError:
-                select.select([], [STANDARD_OUTPUT], [])

@@ -33,6 +33,7 @@ from .protocol import (Capabilities, Feature, FileEvent, Handler, InitializeResu
                        WorkspaceFoldersChangeEvent)
 from .repository import Repository
 from .script_checks import ScriptChecks
+from .streams import waiting_input, waiting_output
 from .symbols import Symbols
 from .uris import path_of
 from .version import version
@@ -262,9 +263,9 @@ def main(options: argparse.Namespace) -> int:
     logging.getLogger("pylsp_jsonrpc.endpoint").addFilter(_is_news)
     docs = options.docs or _default_docs()
     # Nothing else may be printed between messages.
-    stdout = os.fdopen(os.dup(1), "wb")
+    stdout = waiting_output(os.dup(1))
     os.dup2(2, 1)
-    server = Server(options, docs, sys.stdin.buffer, stdout)
+    server = Server(options, docs, waiting_input(sys.stdin.fileno()), stdout)
     try:
         status = server.run()
     except Exception:

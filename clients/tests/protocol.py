@@ -5,12 +5,15 @@
 """
 from __future__ import annotations
 
+import fcntl
 import io
 import json
 import os
+import re
 import shutil
 import subprocess
 import sys
+import termios
 import time
 
 from cases import Cases
@@ -178,6 +181,39 @@ def closed_streams(program: str) -> None:
                               stdin=subprocess.DEVNULL, stdout=subprocess.PIPE, stderr=subprocess.PIPE, text=True, check=False)
         said = "actionlint-lsp: standard input or standard output is closed\n"
         assert (done.returncode, done.stdout, done.stderr) == (3, "", said), (where, done)
+
+
+def bytes_in(pipe: int) -> int:
+    """How many bytes a pipe holds."""
+    count = bytearray(4)
+    fcntl.ioctl(pipe, termios.FIONREAD, count)
+    return int.from_bytes(count, sys.byteorder)
+
+
+@CASES.case
+def streams_that_do_not_block(program: str) -> None:
+    """Input that isn't there yet and output that is full, both non-blocking: the server waits, and all answers are whole."""
+    (asked, asking), (answering, answered) = os.pipe(), os.pipe()
+    os.set_blocking(asked, False)
+    os.set_blocking(answered, False)
+    room = fcntl.fcntl(answered, fcntl.F_SETPIPE_SZ, 4_096)
+    ids = [f"{number:05000}" for number in range(10)]
+    with subprocess.Popen([sys.executable, str(SERVER), "--program", program], stdin=asked, stdout=answered) as child:
+        os.close(asked)
+        os.close(answered)
+        with open(asking, "wb", 0) as sent, open(answering, "rb") as told:
+            sent.write(frame(message(INITIALIZE)))
+            assert read_message(told)["id"] == 1
+            time.sleep(0.5)
+            assert child.poll() is None, "the server ended"
+            sent.write(b"".join(frame(message({"id": one, "method": "test/unknown"})) for one in ids))
+            deadline = time.monotonic() + 60
+            while bytes_in(answering) < room:
+                assert time.monotonic() < deadline, "the output isn't filled"
+                time.sleep(0.05)
+            sent.write(frame(message(SHUTDOWN)) + frame(message(EXIT)))
+            rest = told.read()
+    assert child.returncode == 0 and re.findall(r'"id": ?"?(\d+)', rest.decode()) == [*ids, "99"], rest
 
 
 @CASES.case

@@ -490,6 +490,10 @@ WRONG_VERSIONS = {name: WrongVersion(*row) for name, *row in (
     ("long_answers_are_kept", "child.py", "facts_process.py wrong_programs",
      "return None if max_bytes is not None and", "return None if False and"),
     ("facts_are_built", "program.py", "facts_process.py which_program", "not place.is_symlink() and ", ""),
+    ("input_is_not_waited_for", "streams.py", "protocol.py streams_that_do_not_block",
+     "            _wait(self, select.POLLIN)\n", "            return 0\n"),
+    ("output_is_not_waited_for", "streams.py", "protocol.py streams_that_do_not_block",
+     "                _wait(self, select.POLLOUT)\n", "                return size\n"),
     ("calls_are_read_otherwise", "calls.py", "linear.py what_a_file_calls",
      'texts = readings(data.decode("utf-8"))', 'texts = iter([data.decode("utf-8")])'),
 )}
