@@ -259,6 +259,16 @@ def deleted(case: Case) -> Iterable[Repair]:
         yield case.of(f'delete "{here.key.value}"{entries_of(here.value)}', without_entry(case, here.parent, here.key), deletes=True)
 
 
+def emptied_event(case: Case) -> Iterable[Repair]:
+    """An event without its only setting, which it doesn't have."""
+    here = case.key
+    if here and here.key and here.path[:1] == ("on",) and len(here.path) == 3 and len(here.parent.entries) == 1 and not here.parent.is_flow:
+        last = last_line(here.value, case.lines)
+        if last + 1 < len(case.lines):
+            span = Span(Point(here.key.span.start.line, 0), Point(last + 1, 0))
+            yield case.replace(f'delete "{here.key.value}"{entries_of(here.value)}', "", span, deletes=True)
+
+
 def another_job(case: Case) -> Iterable[Repair]:
     """A second job with the same key under a new key."""
     here = case.key
@@ -267,7 +277,7 @@ def another_job(case: Case) -> Iterable[Repair]:
 
 
 def repeated(case: Case) -> Iterable[Repair]:
-    """The second of two equal keys: taken away if it says the same, merged with the first, or deleted."""
+    """The second of two equal keys: taken away if it says the same and no other key is there twice, merged with the first, or deleted."""
     here = case.key
     if here is None or here.key is None:
         return
@@ -275,6 +285,8 @@ def repeated(case: Case) -> Iterable[Repair]:
     assert first
     name = here.key.value
     if case.slice(tight(case, first)) == case.slice(tight(case, here.value)):
+        if len(set(here.parent.names())) + 1 < len(here.parent.entries):
+            return
         yield case.of(f'delete the second "{name}", which is equal', without_entry(case, here.parent, here.key), is_safe=True)
         return
     yield from _merged(case, here, first)
@@ -424,14 +436,19 @@ def _first_value(case: Case, here: Found, name: str) -> str | None:
 
 
 def new_step(case: Case) -> Iterable[Repair]:
-    """A step that has a second `uses` or `run`, cut in two: at the name, the id or the condition before that key, or at the key."""
+    """A step that has a second `uses` or `run`, or another key twice, cut in two: at the name, the id or the condition before that key, or
+    at the key. The key with which other steps begin comes first."""
     here = case.key
     if here is None or here.key is None or here.path[-3:-2] != ("steps",) or here.parent.is_flow:
         return
     keys = [key for key, _ in here.parent.entries]
+    names_ = [key.value for key in keys]
     number = next(number for number, key in enumerate(keys) if key is here.key)
-    begun = max((one for one in range(number) if keys[one].value in ("uses", "run", "with")), default=0)
-    start = next((one for one in range(begun + 1, number) if keys[one].value in STEP_STARTS), number)
+    number = min(number, next((one for one, name in enumerate(names_) if name in names_[:one]), number))
+    begun = max((one for one in range(number) if names_[one] in ("uses", "run", "with")), default=0)
+    starts = [one for one in range(begun + 1, number) if names_[one] in STEP_STARTS]
+    begins = _first_keys(case, here)
+    start = next((one for one in (*starts, number) if names_[one] in begins), next(iter(starts), number))
     first = here.parent.span.start
     dash = case.lines[first.line][:first.column]
     for one in dict.fromkeys([start, number]):
@@ -439,6 +456,13 @@ def new_step(case: Case) -> Iterable[Repair]:
         at = keys[one].span.start
         if before & {"run", "uses"} and dash.strip() == "-" and not case.lines[at.line][:at.column].strip():
             yield case.replace(f'begin a new step at "{keys[one].value}"', dash, Span(Point(at.line, 0), at))
+
+
+def _first_keys(case: Case, here: Found) -> set[str]:
+    """The keys with which the other steps begin, and the step of a key if that is a name, an id or a condition."""
+    steps = case.at(*here.path[:-2])
+    others = {step.entries[0][0].value for step in (steps.items if steps else ()) if step.entries and step is not here.parent}
+    return others | {here.parent.entries[0][0].value} & set(STEP_STARTS)
 
 
 def excluded_patterns(case: Case) -> Iterable[Repair]:
@@ -458,8 +482,9 @@ def excluded_patterns(case: Case) -> Iterable[Repair]:
 
 
 REPAIRS: dict[str, tuple[Callable[[Case], Iterable[Repair]], ...]] = {
-    "K1": (near_key, beside_short_form, below_sibling, below_empty, below_inputs, one_level_deeper, step_of_keys, part_of_value, deleted),
+    "K1": (near_key, beside_short_form, below_sibling, below_empty, below_inputs, one_level_deeper, step_of_keys, part_of_value, deleted,
+           emptied_event),
     "K2": (missing_key,),
     "K3": (new_step, another_job, repeated),
-    "K6": (unknown_beside, new_step, excluded_patterns, deleted),
+    "K6": (unknown_beside, below_inputs, new_step, excluded_patterns, deleted),
 }

@@ -78,13 +78,30 @@ def as_json(case: Case) -> Iterable[Repair]:
     if is_in_condition(case) and case.code == "X18":
         return
     if chain:
+        joined = list(_joined(case, chain, span)) if span.end.column > span.start.column else []
+        yield from joined if _is_list_of_texts(case, chain) else ()
         yield case.replace("convert it to JSON", f"toJSON({case.slice(span)})", span)
-        if span.end.column > span.start.column and "*" in chain:
-            expression = expression_of(case)
-            literal = in_yaml("', '", expression) if expression else "', '"
-            yield case.replace("join its entries", f"join({case.slice(span)}, {literal})", span)
+        yield from joined if "*" in chain else ()
     elif (expression := expression_of(case)) and expression.text.strip():
         yield case.replace("convert it to JSON", f" toJSON({expression.text.strip()}) ", expression.span)
+
+
+def _joined(case: Case, chain: Sequence[str], span: Span) -> Iterable[Repair]:
+    """The entries of a list as a text, with commas between them; with spaces only in a script, if the matrix has the list."""
+    expression, here = expression_of(case), case.scalar
+    between = "' '" if here and here.path[-1:] == ("run",) and chain[0].lower() == "matrix" else "', '"
+    literal = in_yaml(between, expression) if expression else between
+    yield case.replace("join its entries", f"join({case.slice(span)}, {literal})", span)
+
+
+def _is_list_of_texts(case: Case, chain: Sequence[str]) -> bool:
+    """Whether each value of a matrix's row is a list of texts."""
+    matrix = case.at("jobs", case.job, "strategy", "matrix") if case.job else None
+    if matrix is None or len(chain) != 2 or chain[0].lower() != "matrix":
+        return False
+    row, include = matrix.get(chain[1]), matrix.get("include")
+    values = [*(row.items if row else ()), *(value for item in (include.items if include else ()) if (value := item.get(chain[1])))]
+    return bool(values) and all(value.items and all(item.kind == "scalar" for item in value.items) for value in values)
 
 
 def fewer_arguments(case: Case) -> Iterable[Repair]:
