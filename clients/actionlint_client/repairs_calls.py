@@ -350,6 +350,8 @@ def _right_calls(case: Case, text: str) -> Iterable[tuple[str, bool]]:
     if named:
         yield "./" + named[0], True
         return
+    folders = (path.rpartition("/")[0] for path in case.project.paths() if path.endswith(tuple(f"/{text}/{name}" for name in ACTION_NAMES)))
+    yield from (("./" + folder, False) for folder in dict.fromkeys(folders) if re.fullmatch(r"[\w.-]+", text))
     if is_workflow(case.file) and text.rpartition("/")[2] and case.project.has(f"{WORKFLOWS}/{text.rpartition('/')[2]}"):
         yield f"./{WORKFLOWS}/{text.rpartition('/')[2]}", False
     if not is_workflow(case.file) or (here := case.value) is None or len(here.path) > 3:

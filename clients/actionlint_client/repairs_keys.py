@@ -31,7 +31,7 @@ OTHER_NAMES = {"timeout": "timeout-minutes", "command": "run", "script": "run", 
                "continue-on-failure": "continue-on-error", "ignore-errors": "continue-on-error", "matrix": "strategy",
                "choices": "options", "values": "options", "enum": "options", "name": "group", "dependson": "needs", "displayname": "name",
                "bash": "run", "pwsh": "run", "powershell": "run", "task": "uses", "settings": "with", "stages": "jobs", "pool": "runs-on",
-               "executor": "runs-on", "agent": "runs-on", "platform": "runs-on", "machine": "runs-on", "vmimage": "runs-on"}
+               "executor": "runs-on", "agent": "runs-on", "platform": "runs-on", "machine": "runs-on", "vmimage": "runs-on", "trigger": "on"}
 # What shows by a value which key it belongs to.
 VALUES_OF_KEYS = {"image": re.compile(r"(?:[\w./-]*/)?Dockerfile[\w.-]*|docker://\S+"), "main": re.compile(r"[\w./-]+\.[cm]?js"),
                   "uses": re.compile(r"[\w.-]+/[\w./-]+@[\w./-]+|\./[\w./-]+"), "cron": re.compile(r"[\d*][\d*/,-]*(?: [\w*/,-]+){4}"),
@@ -54,7 +54,7 @@ def near_key(case: Case) -> Iterable[Repair]:
         return
     known = case.known_keys(here.path[:-1], (name for name in here.parent.names() if name != wrong))
     found = likely(wrong, known)
-    meant = OTHER_NAMES.get(wrong.lower()) or next((key for key in known if fits(key, here.value)), None)
+    meant = other_name(wrong, here.value) or next((key for key in known if fits(key, here.value)), None)
     if meant in known and not any(is_slip for _, is_slip in found):
         only = here.value.entries[0][1] if len(here.value.entries) == 1 else None
         if only and here.key and fits(str(meant), only):
@@ -62,6 +62,13 @@ def near_key(case: Case) -> Iterable[Repair]:
         else:
             yield in_its_quotes(case, str(meant))
     yield from (in_its_quotes(case, name, is_slip) for name, is_slip in found)
+
+
+def other_name(word: str, value: Node) -> str | None:
+    """The key that is meant by another word: `on` only if its value has events."""
+    name = OTHER_NAMES.get(word.lower())
+    events = {*value.names(), *(item.value for item in value.items), *([value.value] if value.kind == "scalar" else [])}
+    return None if name == "on" and not events <= {*names()["events"], *table()["shapes"]["On"]["keys"]} else name
 
 
 def fits(key: str, value: Node) -> bool:
@@ -362,7 +369,7 @@ def _renamed(case: Case, unknown: list[tuple[Node, Node]], wanted: list[str]) ->
     """The keys that are a slip of a wanted one, like it, another word for it, or have a value for it."""
     for key, value in unknown:
         meant = misspelled(key.value, wanted)
-        other = OTHER_NAMES.get(key.value.lower())
+        other = other_name(key.value, value)
         having = [one for one in wanted if one == other or fits(one, value) or one in near(key.value, [one])]
         name = meant or (having[0] if having else None)
         if name:
@@ -447,8 +454,11 @@ def new_step(case: Case) -> Iterable[Repair]:
     number = min(number, next((one for one, name in enumerate(names_) if name in names_[:one]), number))
     begun = max((one for one in range(number) if names_[one] in ("uses", "run", "with")), default=0)
     starts = [one for one in range(begun + 1, number) if names_[one] in STEP_STARTS]
-    begins = _first_keys(case, here)
-    start = next((one for one in (*starts, number) if names_[one] in begins), next(iter(starts), number))
+    start = next(iter(starts), number)
+    if names_[start] == "if":
+        # which often is the last key of a step too
+        begins = _first_keys(case, here)
+        start = next((one for one in (*starts, number) if names_[one] in begins), start)
     first = here.parent.span.start
     dash = case.lines[first.line][:first.column]
     for one in dict.fromkeys([start, number]):

@@ -194,7 +194,7 @@ def _sections_around(case: Case, here: Found) -> list[tuple[Path, list[str], int
 
 
 REPAIRS: dict[str, tuple[Callable[[Case], Iterable[Repair]], ...]] = {
-    "K1": (of_all_jobs, another_level),
+    "K1": (another_level, of_all_jobs),
     "K4": (entry_of_another,),
     "Y4": (line_above,),
     "Y13": (line_above,),

@@ -12,7 +12,7 @@ from .repair import Case, Edit, Found, Repair, first_entry, next_entry, quoted, 
 from .other_syntax import with_empty_text
 from .repairs_expressions import (choice_by_call, expression_of, in_yaml, is_alternative, is_in_condition, is_operand, rewritten,
                                   whole_chain)
-from .repairs_needs import declared_output, needed_job, needs_for_jobs, output_of_job
+from .repairs_needs import declared_output, is_written_elsewhere, needed_job, needs_for_jobs, output_of_job
 from .repairs_steps import (OF_CONTEXTS, named_step, names_before, only_output, only_step, output_of_any_job, properties_before,
                             same_name_elsewhere, scope_of, shorter_chain, unused_name)
 from .repairs_values import joined_property
@@ -103,7 +103,12 @@ def declared_row(case: Case) -> Iterable[Repair]:
     added to the new row's only value."""
     chain, _ = whole_chain(case)
     job = case.at("jobs", case.job) if case.job else None
-    if job is None or job.get("matrix") or len(chain) != 2 or chain[0].lower() != "matrix" or likely(chain[1], properties_before(case)):
+    if job is None or case.job is None or is_written_elsewhere(case, case.job, "strategy"):
+        return
+    include = case.at("jobs", case.job, "strategy", "matrix", "include")
+    if include and include.kind == "mapping" or job.get("matrix") or len(chain) != 2 or chain[0].lower() != "matrix":
+        return
+    if likely(chain[1], properties_before(case)):
         return
     value = "ubuntu-latest" if chain[1] == "os" else ""
     row = f"{chain[1]}: [{value or quoted('')}]"

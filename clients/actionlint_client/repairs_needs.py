@@ -24,7 +24,7 @@ def needed_job(case: Case) -> Iterable[Repair]:
     free = [name for name in tree.names("jobs") if name not in files.dependents(tree, job) and name not in files.needed(tree, job)]
     name = next((name for name in free if name.lower() == case.arguments[0].lower()), None)
     needs = case.at("jobs", job, "needs")
-    if needs is not None and needs.kind == "mapping" or needs is None and _is_written_elsewhere(case, job, "needs"):
+    if needs is not None and needs.kind == "mapping" or needs is None and is_written_elsewhere(case, job, "needs"):
         return
     wrong = [item for item in (needs.items or [needs]) if item.value not in tree.names("jobs")] if needs else []
     slip = next((item for item in wrong if name and misspelled(item.value, [name])), None)
@@ -40,7 +40,7 @@ def needed_job(case: Case) -> Iterable[Repair]:
                     for one, _ in likely(case.arguments[0], free))
 
 
-def _is_written_elsewhere(case: Case, job: str, name: str) -> bool:
+def is_written_elsewhere(case: Case, job: str, name: str) -> bool:
     """Whether a job has a key by another word or as a slip, or one of its steps has it."""
     node = case.at("jobs", job)
     steps = node.get("steps") if node else None
@@ -129,7 +129,7 @@ def declared_output(case: Case) -> Iterable[Repair]:
     step = writes[-1].text("id") if writes else None
     entry = f"{name}: {quoted('${{ steps.%s.outputs.%s }}' % (step, name)) if step else quoted('')}"
     outputs = job.get("outputs")
-    if outputs is None and _is_written_elsewhere(case, chain[1], "outputs"):
+    if outputs is None and is_written_elsewhere(case, chain[1], "outputs"):
         return
     title = f'add the output "{name}" to "{chain[1]}", ' + (f'from its step "{step}"' if step else "without a value")
     if outputs and outputs.entries:

@@ -121,7 +121,7 @@ def pair_below(case: Case) -> Iterable[Repair]:
     """A key with its value that follow another key, on a line of their own."""
     span = case.rest_span(case.span.start.line)
     elements = case.outline.lines[case.span.start.line].elements
-    if span and elements and elements[-1].name is not None and re.match(r"[\w-]+: ", case.slice(span)):
+    if span and elements and elements[-1].name is not None and re.match(r"[\w-]+:(?: |$)", case.slice(span)):
         start = Point(case.span.start.line, elements[-1].end)
         indent = "\n" + " " * (elements[-1].column + 2)
         yield case.replace("move it to a line of its own", indent + case.slice(span), Span(start, span.end))
