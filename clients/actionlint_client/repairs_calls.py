@@ -6,7 +6,7 @@ from collections import Counter
 from typing import Callable, Iterable
 
 from . import project as files
-from .action_versions import versions
+from .action_versions import VERSIONS, owners_of, versions
 from .names import likely
 from .operators import operators
 from .paths import ACTION_NAMES, WORKFLOW_ENDINGS, WORKFLOWS, is_workflow
@@ -373,7 +373,9 @@ def _right_calls(case: Case, text: str) -> Iterable[tuple[str, bool]]:
         yield f"{turned[1]}/{turned[2]}@{turned[3]}", False
         return
     name, version = re.sub(r"\s+", "", name).rstrip("/"), version.strip()
-    name = f"actions/{name}" if re.fullmatch(r"[\w.-]+", name) else name
+    if re.fullmatch(r"[\w.-]+", name):
+        owners = [f"actions/{name}"] if f"actions/{name}".lower() in VERSIONS else owners_of(case.project, name)
+        name = owners[0] if len(owners) == 1 else ""
     if not OWNER_AND_NAME.fullmatch(name):
         return
     if version and "${{" not in version and " " not in version:

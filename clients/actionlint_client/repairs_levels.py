@@ -52,10 +52,12 @@ def line_above(case: Case) -> Iterable[Repair]:
 
 
 def _is_below_empty_key(case: Case, number: int, path: Path) -> bool:
-    """Whether the line above another one is the key of a section, which has no value yet."""
+    """Whether the line above another one, which isn't deeper, is the key of a section without a value."""
     above = next((one for one in range(number - 1, -1, -1) if case.lines[one].strip()), None)
     found = case.outline.lines[above] if above is not None else None
-    return found is not None and bool(found.elements) and not found.rest and found.elements[-1].name == path[-1]
+    if found is None or not found.elements or found.rest:
+        return False
+    return found.elements[-1].name == path[-1] and found.elements[-1].column >= indent_of(case.lines[number])
 
 
 def indent_of(line: str) -> int:

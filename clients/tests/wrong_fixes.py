@@ -278,5 +278,9 @@ WRONG_FIXES = (
      ' or chain[:2] == ("needs", "*") and chain[2:3] not in (("result",), ("outputs",)):', ":"),
     ("an_action_has_a_long_name", "repairs_calls.py", LAST, "for folder in dict.fromkeys(folders) if", "for folder in () if"),
     ("a_misspelled_strategy_is_none", "repairs_names.py", LAST, ' or is_written_elsewhere(case, case.job, "strategy"):', ":"),
+    ("a_key_is_no_group", "repairs_keys.py", LAST, '"key": "group"', '"key": "name"'),
+    ("each_action_is_of_github", "repairs_calls.py", LAST, 'name = owners[0] if len(owners) == 1 else ""', 'name = f"actions/{name}"'),
+    ("the_folder_has_no_owners", "action_versions.py", LAST, "for action in used.findall(project.text(path))]", "for action in ()]"),
+    ("only_the_folder_has_owners", "action_versions.py", LAST, '*(action for action in VERSIONS if action.partition("/")[2] == name)', "*()"),
     ("an_include_without_dashes_has_no_rows", "repairs_names.py", LAST, 'if include and include.kind == "mapping" or job', "if job"),
 )
