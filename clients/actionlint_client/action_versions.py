@@ -17,6 +17,13 @@ VERSIONS = {
 }
 
 
+def owners_of(project: Project, name: str) -> list[str]:
+    """The actions with a name that the folder uses or that are known to exist, with their owners."""
+    used = re.compile(rf"uses['\"]?\s*:\s*['\"]?([\w-]+/{re.escape(name)})@")
+    found = [action for path in project.paths() for action in used.findall(project.text(path))]
+    return list(dict.fromkeys((*found, *(action for action in VERSIONS if action.partition("/")[2] == name))))
+
+
 def versions(project: Project, name: str) -> list[str]:
     """The versions of an action that the folder uses, the most frequent first, or else one that is known to exist."""
     used = re.compile(rf"uses['\"]?\s*:\s*['\"]?{re.escape(name)}@([\w./-]+)", re.I)

@@ -9,8 +9,8 @@ from enum import Enum
 from itertools import islice
 from typing import Callable, Iterable, NamedTuple, Sequence, Tuple
 
-from . import (repairs_blocks, repairs_calls, repairs_expressions, repairs_keys, repairs_kinds, repairs_levels, repairs_names,
-               repairs_rules, repairs_scripts, repairs_steps, repairs_values, repairs_yaml)
+from . import (repairs_blocks, repairs_calls, repairs_expressions, repairs_keys, repairs_kinds, repairs_leftovers, repairs_levels,
+               repairs_names, repairs_rules, repairs_scripts, repairs_steps, repairs_values, repairs_yaml)
 from .child import LinterEnded
 from .disk import MAX_FILE_BYTES
 from .entries import entry_of
@@ -31,13 +31,12 @@ MAX_REPORT_BYTES = 4 * 1_048_576
 UNREADABLE = ("X1", "X2", "X3", "X4", "X5", "X6", "X20")
 # What isn't looked at as long as the event, the kind of an action or the called file isn't known.
 HIDES = {"G1": ("G2", "G3", "K1", "K6"), "G20": ("K1", "K2", "K6", "G21"), "C1": ("C2", "C3", "C4", "C5", "C6"),
-         "C7": ("C2", "C3", "C4", "C5", "C6"),
-         "C2": ("C4",)}
+         "C7": ("C2", "C3", "C4", "C5", "C6"), "C8": ("C2", "C3", "C4", "C5", "C6"), "C2": ("C4",)}
 INDENT = re.compile(r" *(?:- +)*")
 KEY = re.compile(r"['\"]?[\w-]+['\"]?:(?:\s|$)|\s*$")
 LOCAL_CALL = re.compile(r"\./[^\s'\"#,}\]]*")
-MODULES = (repairs_blocks, repairs_yaml, repairs_levels, repairs_steps, repairs_keys, repairs_kinds, repairs_rules, repairs_expressions,
-           repairs_names, repairs_values, repairs_scripts, repairs_calls)
+MODULES = (repairs_leftovers, repairs_blocks, repairs_yaml, repairs_levels, repairs_steps, repairs_keys, repairs_kinds, repairs_rules,
+           repairs_expressions, repairs_names, repairs_values, repairs_scripts, repairs_calls)
 REPAIRS: dict[str, tuple[Callable[[Case], Iterable[Repair]], ...]] = {
     code: tuple(each for module in MODULES for each in module.REPAIRS.get(code, ())) for found in MODULES for code in found.REPAIRS}
 

@@ -19,8 +19,13 @@ STAR_IN_BRACKETS = re.compile(r"\.?\[\*\]")
 IS_NOT = re.compile(r"(?<=\s)is\s+not(?=\s)|(?<=[\w\])]\s)not(?=\s+$)", re.I)
 WORD_OF_CHOICE = re.compile(r"(?<![\w.-])(if|then|else)(?![\w.-])")
 IS = re.compile(r"(?<=\s)(?:is|equals?)(?=\s)", re.I)
+OPTION_OF_TEST = re.compile(r"(?<=\s)-(eq|ne|lt|le|gt|ge)(?=\s)")
+OPERATOR_OF_OPTION = {"eq": "==", "ne": "!=", "lt": "<", "le": "<=", "gt": ">", "ge": ">="}
 SPACE_IN_OPERATOR = re.compile(r"([=!]) =|& &|\| \|")
 BRACKETED_WORDS = re.compile(r"(,\s*)(\[[A-Za-z][\w -]*\])(?=\s*\))")
+SEARCH = re.compile(r"(?<![\w.*-])([\w.*-]+)\s*=~\s*(?:'([^']*)'|/((?:[^/\\ ]|\\.)+)/)")
+PLAIN_TEXT = re.compile(r"[\w/:@. -]+")
+EMPTY = re.compile(r"(!\s*)?(?<![\w.-])(?:is_?)?(not_?)?(?:empty|null|blank)\(\s*([\w.-]+)\s*\)", re.I)
 IF_AND_THEN = re.compile(r"(?<!.)(\s*)if\b\s*|(?<!\s)\s+then(?=\s*$)", re.S)
 
 
@@ -78,8 +83,8 @@ def with_stars(text: str) -> str:
 
 
 def with_comparison(text: str) -> str:
-    """A text with operators in place of words that compare."""
-    return IS.sub("==", IS_NOT.sub("!=", text))
+    """A text with operators in place of words and options of a shell that compare."""
+    return OPTION_OF_TEST.sub(lambda match: OPERATOR_OF_OPTION[match[1]], IS.sub("==", IS_NOT.sub("!=", text)))
 
 
 def without_spaces_in_operators(text: str) -> str:
@@ -96,6 +101,26 @@ def with_equal_quotes(text: str) -> str:
     if text.count('"') == 1 and text.count("'") % 2:
         return text.replace('"', "'")
     return re.sub(r"([=!]=\s*)([\w./-]+')", r"\1'\2", text) if text.count("'") % 2 else text
+
+
+def with_search(text: str) -> str:
+    """A text with `startsWith`, `endsWith`, `contains` or `==` in place of a regular expression without other signs than those of its
+    ends."""
+    def call(match: re.Match[str]) -> str:
+        pattern = (match[2] if match[2] is not None else match[3]).replace("\\/", "/").replace("\\.", ".")
+        begins, ends = pattern.startswith("^"), pattern.endswith("$")
+        wanted = pattern.removeprefix("^").removesuffix("$").removesuffix(".*")
+        if not PLAIN_TEXT.fullmatch(wanted) or ends and not begins:
+            return str(match[0])
+        if begins and ends and not pattern.endswith(".*$"):
+            return f"{match[1]} == '{wanted}'"
+        return f"{'startsWith' if begins else 'contains'}({match[1]}, '{wanted}')"
+    return SEARCH.sub(call, text)
+
+
+def with_empty_text(text: str) -> str:
+    """A text with comparisons in place of calls that ask whether a text is empty."""
+    return EMPTY.sub(lambda match: f"{match[3]} {'!=' if bool(match[1]) != bool(match[2]) else '=='} ''", text)
 
 
 def choice_in_words(text: str) -> Choice | None:

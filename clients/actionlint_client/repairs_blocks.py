@@ -132,6 +132,22 @@ def entry_without_dash(case: Case) -> Iterable[Repair]:
         yield begun
 
 
+def first_entry_without_dash(case: Case) -> Iterable[Repair]:
+    """The keys between a key without a value and its list, as the first entry of that list."""
+    number, lines, outline = case.span.start.line, case.lines, case.outline.lines
+    if not outline[number].elements or outline[number].elements[0].name is not None:
+        return
+    column = outline[number].elements[0].column
+    above = [one for one in range(number - 1, max(number - MAX_LINES_OF_ENTRY, -1), -1) if lines[one].strip()]
+    body = list(takewhile(lambda one: indent_of(lines[one]) > column, above))
+    header = above[len(body)] if len(body) < len(above) else None
+    if not body or header is None or indent_of(lines[header]) > column or outline[header].rest or not outline[header].elements:
+        return
+    is_deeper = all(outline[one].owner is not None or indent_of(lines[one]) >= column + 2 for one in body)
+    if is_deeper and _is_key_at(case, body[-1], column + 2):
+        yield case.of("add a dash", Edit(Span.on_line(body[-1], column, column + 2), "- "))
+
+
 def _keys_of_entry_above(case: Case, number: int, column: int) -> set[str | None]:
     """The keys of the entry of a list that begins above a line at a column."""
     found: set[str | None] = set()
@@ -236,7 +252,8 @@ def space_in_brackets(case: Case) -> Iterable[Repair]:
 
 
 REPAIRS: dict[str, tuple[Callable[[Case], Iterable[Repair]], ...]] = {
-    "Y4": (shallow_lines, entry_without_dash, keys_with_dashes),
-    "Y13": (list_without_brackets, with_comma, other_bracket, shallow_lines, as_folded_text, entry_without_dash, keys_with_dashes),
+    "Y4": (shallow_lines, entry_without_dash, first_entry_without_dash, keys_with_dashes),
+    "Y13": (list_without_brackets, with_comma, other_bracket, shallow_lines, as_folded_text, entry_without_dash, first_entry_without_dash,
+            keys_with_dashes),
     **{code: (space_in_brackets,) for code in ("K1", "G11", "G13", "G15", "C2", "C5")},
 }

@@ -6,16 +6,17 @@ from collections import Counter
 from typing import Callable, Iterable
 
 from . import project as files
-from .action_versions import versions
+from .action_versions import VERSIONS, owners_of, versions
 from .names import likely
 from .operators import operators
 from .paths import ACTION_NAMES, WORKFLOW_ENDINGS, WORKFLOWS, is_workflow
-from .repair import Case, Edit, Found, Repair, as_scalar, entries_of, is_within_flow, next_entry, quoted, tight, without_entry
+from .repair import (Case, Edit, Found, Repair, as_scalar, entries_of, is_within_flow, next_entry, quoted, tight, without_entry,
+                     without_key)
 from .repairs_keys import deleted, moved_below
 from .repairs_names import as_secret
 from .repairs_kinds import as_flag, as_number
 from .text import Point, Span
-from .tree import Node, Path, walk
+from .tree import Node, Path, last_line, walk
 
 CALLED = "on:\n  workflow_call:\njobs:\n  build:\n    runs-on: ubuntu-latest\n    steps:\n      - run: make\n"
 VALUES = {"boolean": "true", "number": "0", "string": "''"}
@@ -25,6 +26,9 @@ OTHER_FOLDER = re.compile(r"([\w-]+/[\w.-]+)/(?:\.?github/)?(?:workflows?/)?([\w
 TOKEN_OF_JOB = re.compile(r"(?:(?:github|gh|repo|repository)[-_]?)?token", re.I)
 NAME_OF_SECRET = re.compile(r"(?:^|[-_])(?:token|password|passphrase|secret|(?:api|access|private|signing|ssh)[-_]?key)$", re.I)
 PLAIN_VALUE = re.compile(r"[\w./-]+")
+SEPARATORS = re.compile(r"[-_]")
+# A program with its arguments, not an action with its version.
+COMMAND = re.compile(r"(?:\./)?[\w.-]+ +(?!v?\d)[^\s@#:].*")
 OWNER_AND_NAME = re.compile(r"[\w.-]+/[\w./-]+")
 
 
@@ -226,7 +230,13 @@ def _value_of(case: Case, one: files.Declaration, below: str) -> str:
         return "${{ github.token }}"
     if is_workflow(case.file) and NAME_OF_SECRET.search(one.name) and _call(case)[2] is False:
         return "${{ secrets.%s }}" % re.sub(r"\W", "_", one.name).upper()
+    if is_workflow(case.file) and case.at("on", "workflow_call", "inputs", one.name):
+        return "${{ inputs.%s }}" % one.name
     others = _given_elsewhere(case, one.name)
+    if not others and SEPARATORS.search(one.name):
+        others = _given_to_any(case, one.name)
+        if len(others) == 1:
+            return as_scalar(next(iter(others)), "'" if one.value.text("type") == "string" else "", False)
     if len(others) == 1 and (one.value.text("type") == "number" or max(others.values()) > 1):
         return next(iter(others))
     default = one.value.text("default")
@@ -245,6 +255,32 @@ def _given_elsewhere(case: Case, name: str) -> Counter[str]:
             if given and given.kind == "scalar" and PLAIN_VALUE.fullmatch(given.value):
                 found[given.value] += 1
     return found
+
+
+def _given_to_any(case: Case, name: str) -> Counter[str]:
+    """The plain values that calls of any action or workflow in this file give an input of this name."""
+    given = (found.value for found in case.nodes.keys.values() if found.path[-2:] == ("with", name))
+    return Counter(value.value for value in given if value.kind == "scalar" and PLAIN_VALUE.fullmatch(value.value))
+
+
+def key_of_call(case: Case) -> Iterable[Repair]:
+    """A key below `with` that the call itself lacks, such as `secrets`, moved beside `with`."""
+    here, node = case.key, _call(case)[0]
+    if here is None or here.key is None or node is None or here.path[-2:-1] != ("with",) or here.parent.is_flow or node.is_flow:
+        return
+    name, column = here.key.value, here.key.span.start.column
+    if name in case.known_keys(here.path[:-2], node.names()):
+        entry = case.slice(Span(here.key.span.start, tight(case, here.value).end)).replace("\n" + " " * column, "\n")
+        removed = without_entry(case, here.parent, here.key) if len(here.parent.entries) > 1 else without_key(case, node, "with")
+        yield case.of(f'move "{name}" beside "with"', removed, next_entry(case, node, "uses", entry))
+
+
+def script_for_call(case: Case) -> Iterable[Repair]:
+    """A command that is written as a call, as the script of its step."""
+    here = case.value
+    step = here.parent if here else None
+    if here and here.key and step and COMMAND.fullmatch(here.value.value.strip()) and not step.get("with") and not step.get("run"):
+        yield case.replace('change "uses" to "run"', "run", here.key.span)
 
 
 def other_type(case: Case) -> Iterable[Repair]:
@@ -314,6 +350,8 @@ def _right_calls(case: Case, text: str) -> Iterable[tuple[str, bool]]:
     if named:
         yield "./" + named[0], True
         return
+    folders = (path.rpartition("/")[0] for path in case.project.paths() if path.endswith(tuple(f"/{text}/{name}" for name in ACTION_NAMES)))
+    yield from (("./" + folder, False) for folder in dict.fromkeys(folders) if re.fullmatch(r"[\w.-]+", text))
     if is_workflow(case.file) and text.rpartition("/")[2] and case.project.has(f"{WORKFLOWS}/{text.rpartition('/')[2]}"):
         yield f"./{WORKFLOWS}/{text.rpartition('/')[2]}", False
     if not is_workflow(case.file) or (here := case.value) is None or len(here.path) > 3:
@@ -328,14 +366,16 @@ def _right_calls(case: Case, text: str) -> Iterable[tuple[str, bool]]:
     bare = re.sub(r"\.git(?=@|$)", "", bare).strip("/")
     name, sign, version = bare.partition("@")
     if not sign:
-        match = re.fullmatch(r"([\w.-]+/[\w./-]+?)\s*(?:[:=# ]|==)\s*([\w.-]+)", bare)
+        match = re.fullmatch(r"([\w.-]+/[\w./-]+?)\s*(?:[:=# ]|==)\s*([\w.-]+)", bare) or re.fullmatch(r"([\w.-]+) +(v\d[\w.]*)", bare)
         name, version = (match[1], match[2]) if match else (bare, "")
     turned = re.fullmatch(r"([\w-]+)[@/]([\w.-]+)/(v?\d[\w.]*)", bare)
     if turned:
         yield f"{turned[1]}/{turned[2]}@{turned[3]}", False
         return
     name, version = re.sub(r"\s+", "", name).rstrip("/"), version.strip()
-    name = f"actions/{name}" if re.fullmatch(r"[\w.-]+", name) else name
+    if re.fullmatch(r"[\w.-]+", name):
+        owners = [f"actions/{name}"] if f"actions/{name}".lower() in VERSIONS else owners_of(case.project, name)
+        name = owners[0] if len(owners) == 1 else ""
     if not OWNER_AND_NAME.fullmatch(name):
         return
     if version and "${{" not in version and " " not in version:
@@ -369,9 +409,20 @@ def made_callable(case: Case) -> Iterable[Repair]:
         yield Repair(title, {callee: (Edit(Span.at(after), entry),)})
     else:
         start = on.entries[0][0].span.start if on.entries else on.span.start
-        entry = "workflow_call:" if on.entries else "- workflow_call"
+        entry = "workflow_call:" + _inputs_of_dispatch(on, text) if on.entries else "- workflow_call"
         indent = "\n" + " " * start.column
         yield Repair(title, {callee: (Edit(Span.at(start), entry + indent),)})
+
+
+def _inputs_of_dispatch(on: Node, lines: list[str]) -> str:
+    """The lines of the inputs of `workflow_dispatch`, if a caller can give each of them too."""
+    dispatch = on.get("workflow_dispatch")
+    key, inputs = (dispatch.key("inputs"), dispatch.get("inputs")) if dispatch else (None, None)
+    if key is None or inputs is None or inputs.is_flow or not inputs.entries:
+        return ""
+    if any(value.text("type") not in VALUES or value.get("options") for _, value in inputs.entries):
+        return ""
+    return "".join("\n" + line for line in lines[key.span.start.line:last_line(inputs, lines) + 1])
 
 
 def without_step(case: Case) -> Iterable[Repair]:
@@ -393,12 +444,12 @@ REPAIRS: dict[str, tuple[Callable[[Case], Iterable[Repair]], ...]] = {
     "C1": (near_file,),
     "K4": (list_as_text,),
     "K6": (action_of_job, variables_as_inputs),
-    "C2": (declared_as_secret, near_declared("inputs"),),
+    "C2": (declared_as_secret, key_of_call, near_declared("inputs")),
     "C3": (variables_as_inputs, required("inputs")),
     "C4": (other_type,),
     "C5": (near_declared("secrets"),),
     "C6": (required("secrets"),),
-    "C7": (right_uses,),
+    "C7": (script_for_call, right_uses),
     "C8": (local_action_of_job, made_callable),
     "C9": (without_step,),
 }

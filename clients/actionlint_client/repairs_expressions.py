@@ -11,8 +11,8 @@ from .expressions import CHAIN, STRING, links
 from .missing_signs import closed_at_ends, with_apostrophes, with_closed_json
 from .operators import Choice, Token, choice, choice_in, grouped, operators, tokens
 from .other_syntax import (choice_in_words, template_as_format, with_comparison, with_default, with_dots, with_equal_quotes,
-                           with_matching_brackets, with_round_brackets, with_single_commas, with_stars, with_text_in_brackets, without_if,
-                           without_spaces_in_operators, without_stray_brackets)
+                           with_matching_brackets, with_round_brackets, with_search, with_single_commas, with_stars, with_text_in_brackets,
+                           without_if, without_spaces_in_operators, without_stray_brackets)
 from .repair import NEEDS_QUOTES, Case, Repair, as_scalar, is_within_flow
 from .syntax import is_condition
 from .text import Point, Span
@@ -28,6 +28,7 @@ ARGUMENT = re.compile(r"(?:'(?:[^']|'')*'|\((?:[^()']|'[^']*')*\)|[^,()'])+")
 MAX_CONDITION_CHARACTERS = 5_000
 TWO_QUOTES = "''"
 NO_SIGNS = (";", "$", "\\")
+TWO_ARGUMENTS = re.compile(r"\b(?:contains|startsWith|endsWith)\([^()',]{1,200},\s*'[^']*'\s*$", re.I)
 WORD = re.compile(r"[^\s'\"()=!,]*")
 TEST = re.compile(r"[=!<>]=|[<>]|\w\(")
 
@@ -214,10 +215,11 @@ def without_rest(case: Case) -> Iterable[Repair]:
 
 
 def with_comma(case: Case) -> Iterable[Repair]:
-    """A comma between two arguments of a call."""
+    """A comma between two arguments of a call, unless the function takes no more."""
     expression = expression_of(case)
     before = case.line[:case.span.start.column]
-    if expression and _unclosed(STRING.sub("", before[before.rfind("${{") + 1:])) and re.search(r"[\w')]\s+$", before):
+    is_argument = not TWO_ARGUMENTS.search(before) and re.search(r"[\w')]\s+$", before)
+    if expression and is_argument and _unclosed(STRING.sub("", before[before.rfind("${{") + 1:])):
         yield case.replace("add a comma", ",", Span.at(Point(case.span.start.line, len(before.rstrip()))))
 
 
@@ -293,7 +295,9 @@ def closed_braces(case: Case) -> Iterable[Repair]:
     ends += [] if is_one else [len(text)]
     for end in dict.fromkeys(ends):
         tail = rest[end:end + 1]
-        span = Span.on_line(case.span.start.line, case.span.start.column + end, case.span.start.column + end + (1 if tail == "}" else 0))
+        braces = re.match(r"\}(?:\s+\}(?!\}))?", rest[end:])
+        width = braces.end() if braces else 0
+        span = Span.on_line(case.span.start.line, case.span.start.column + end, case.span.start.column + end + width)
         before = "" if rest[:end].endswith(" ") else " "
         yield case.replace("close the braces", before + "}}", span, is_safe=tail == "}" and end == ends[0])
 
@@ -381,6 +385,7 @@ OTHER_SYNTAX = (
     rewritten("delete the space in the operator", outside(without_spaces_in_operators), True), DOTS,
     rewritten("write a call with round brackets", with_round_brackets), rewritten("write one comma", outside(with_single_commas)),
     rewritten("write the other bracket", with_matching_brackets),
+    rewritten("call a function", with_search),
     rewritten("write the operator", outside(with_comparison)), rewritten('write ".*"', outside(with_stars), True),
     rewritten('write "||"', with_default),
     rewritten("write single quotes", with_equal_quotes),

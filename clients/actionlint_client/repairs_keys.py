@@ -31,7 +31,8 @@ OTHER_NAMES = {"timeout": "timeout-minutes", "command": "run", "script": "run", 
                "continue-on-failure": "continue-on-error", "ignore-errors": "continue-on-error", "matrix": "strategy",
                "choices": "options", "values": "options", "enum": "options", "name": "group", "dependson": "needs", "displayname": "name",
                "bash": "run", "pwsh": "run", "powershell": "run", "task": "uses", "settings": "with", "stages": "jobs", "pool": "runs-on",
-               "executor": "runs-on", "agent": "runs-on", "platform": "runs-on", "machine": "runs-on", "vmimage": "runs-on"}
+               "executor": "runs-on", "agent": "runs-on", "platform": "runs-on", "machine": "runs-on", "vmimage": "runs-on", "trigger": "on",
+               "key": "group"}
 # What shows by a value which key it belongs to.
 VALUES_OF_KEYS = {"image": re.compile(r"(?:[\w./-]*/)?Dockerfile[\w.-]*|docker://\S+"), "main": re.compile(r"[\w./-]+\.[cm]?js"),
                   "uses": re.compile(r"[\w.-]+/[\w./-]+@[\w./-]+|\./[\w./-]+"), "cron": re.compile(r"[\d*][\d*/,-]*(?: [\w*/,-]+){4}"),
@@ -54,7 +55,7 @@ def near_key(case: Case) -> Iterable[Repair]:
         return
     known = case.known_keys(here.path[:-1], (name for name in here.parent.names() if name != wrong))
     found = likely(wrong, known)
-    meant = OTHER_NAMES.get(wrong.lower()) or next((key for key in known if fits(key, here.value)), None)
+    meant = other_name(wrong, here.value) or next((key for key in known if fits(key, here.value)), None)
     if meant in known and not any(is_slip for _, is_slip in found):
         only = here.value.entries[0][1] if len(here.value.entries) == 1 else None
         if only and here.key and fits(str(meant), only):
@@ -62,6 +63,13 @@ def near_key(case: Case) -> Iterable[Repair]:
         else:
             yield in_its_quotes(case, str(meant))
     yield from (in_its_quotes(case, name, is_slip) for name, is_slip in found)
+
+
+def other_name(word: str, value: Node) -> str | None:
+    """The key that is meant by another word: `on` only if its value has events."""
+    name = OTHER_NAMES.get(word.lower())
+    events = {*value.names(), *(item.value for item in value.items), *([value.value] if value.kind == "scalar" else [])}
+    return None if name == "on" and not events <= {*names()["events"], *table()["shapes"]["On"]["keys"]} else name
 
 
 def fits(key: str, value: Node) -> bool:
@@ -259,6 +267,16 @@ def deleted(case: Case) -> Iterable[Repair]:
         yield case.of(f'delete "{here.key.value}"{entries_of(here.value)}', without_entry(case, here.parent, here.key), deletes=True)
 
 
+def emptied_event(case: Case) -> Iterable[Repair]:
+    """An event without its only setting, which it doesn't have."""
+    here = case.key
+    if here and here.key and here.path[:1] == ("on",) and len(here.path) == 3 and len(here.parent.entries) == 1 and not here.parent.is_flow:
+        last = last_line(here.value, case.lines)
+        if last + 1 < len(case.lines):
+            span = Span(Point(here.key.span.start.line, 0), Point(last + 1, 0))
+            yield case.replace(f'delete "{here.key.value}"{entries_of(here.value)}', "", span, deletes=True)
+
+
 def another_job(case: Case) -> Iterable[Repair]:
     """A second job with the same key under a new key."""
     here = case.key
@@ -267,7 +285,7 @@ def another_job(case: Case) -> Iterable[Repair]:
 
 
 def repeated(case: Case) -> Iterable[Repair]:
-    """The second of two equal keys: taken away if it says the same, merged with the first, or deleted."""
+    """The second of two equal keys: taken away if it says the same and no other key is there twice, merged with the first, or deleted."""
     here = case.key
     if here is None or here.key is None:
         return
@@ -275,6 +293,8 @@ def repeated(case: Case) -> Iterable[Repair]:
     assert first
     name = here.key.value
     if case.slice(tight(case, first)) == case.slice(tight(case, here.value)):
+        if len(set(here.parent.names())) + 1 < len(here.parent.entries):
+            return
         yield case.of(f'delete the second "{name}", which is equal', without_entry(case, here.parent, here.key), is_safe=True)
         return
     yield from _merged(case, here, first)
@@ -350,7 +370,7 @@ def _renamed(case: Case, unknown: list[tuple[Node, Node]], wanted: list[str]) ->
     """The keys that are a slip of a wanted one, like it, another word for it, or have a value for it."""
     for key, value in unknown:
         meant = misspelled(key.value, wanted)
-        other = OTHER_NAMES.get(key.value.lower())
+        other = other_name(key.value, value)
         having = [one for one in wanted if one == other or fits(one, value) or one in near(key.value, [one])]
         name = meant or (having[0] if having else None)
         if name:
@@ -424,14 +444,22 @@ def _first_value(case: Case, here: Found, name: str) -> str | None:
 
 
 def new_step(case: Case) -> Iterable[Repair]:
-    """A step that has a second `uses` or `run`, cut in two: at the name, the id or the condition before that key, or at the key."""
+    """A step that has a second `uses` or `run`, or another key twice, cut in two: at the name, the id or the condition before that key, or
+    at the key. The key with which other steps begin comes first."""
     here = case.key
     if here is None or here.key is None or here.path[-3:-2] != ("steps",) or here.parent.is_flow:
         return
     keys = [key for key, _ in here.parent.entries]
+    names_ = [key.value for key in keys]
     number = next(number for number, key in enumerate(keys) if key is here.key)
-    begun = max((one for one in range(number) if keys[one].value in ("uses", "run", "with")), default=0)
-    start = next((one for one in range(begun + 1, number) if keys[one].value in STEP_STARTS), number)
+    number = min(number, next((one for one, name in enumerate(names_) if name in names_[:one]), number))
+    begun = max((one for one in range(number) if names_[one] in ("uses", "run", "with")), default=0)
+    starts = [one for one in range(begun + 1, number) if names_[one] in STEP_STARTS]
+    start = next(iter(starts), number)
+    if names_[start] == "if":
+        # which often is the last key of a step too
+        begins = _first_keys(case, here)
+        start = next((one for one in (*starts, number) if names_[one] in begins), start)
     first = here.parent.span.start
     dash = case.lines[first.line][:first.column]
     for one in dict.fromkeys([start, number]):
@@ -439,6 +467,13 @@ def new_step(case: Case) -> Iterable[Repair]:
         at = keys[one].span.start
         if before & {"run", "uses"} and dash.strip() == "-" and not case.lines[at.line][:at.column].strip():
             yield case.replace(f'begin a new step at "{keys[one].value}"', dash, Span(Point(at.line, 0), at))
+
+
+def _first_keys(case: Case, here: Found) -> set[str]:
+    """The keys with which the other steps begin, and the step of a key if that is a name, an id or a condition."""
+    steps = case.at(*here.path[:-2])
+    others = {step.entries[0][0].value for step in (steps.items if steps else ()) if step.entries and step is not here.parent}
+    return others | {here.parent.entries[0][0].value} & set(STEP_STARTS)
 
 
 def excluded_patterns(case: Case) -> Iterable[Repair]:
@@ -458,8 +493,9 @@ def excluded_patterns(case: Case) -> Iterable[Repair]:
 
 
 REPAIRS: dict[str, tuple[Callable[[Case], Iterable[Repair]], ...]] = {
-    "K1": (near_key, beside_short_form, below_sibling, below_empty, below_inputs, one_level_deeper, step_of_keys, part_of_value, deleted),
+    "K1": (near_key, beside_short_form, below_sibling, below_empty, below_inputs, one_level_deeper, step_of_keys, part_of_value, deleted,
+           emptied_event),
     "K2": (missing_key,),
     "K3": (new_step, another_job, repeated),
-    "K6": (unknown_beside, new_step, excluded_patterns, deleted),
+    "K6": (unknown_beside, below_inputs, new_step, excluded_patterns, deleted),
 }

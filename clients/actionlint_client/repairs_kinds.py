@@ -305,6 +305,8 @@ def merge(case: Case) -> Iterable[Repair]:
 def script_without_sign(case: Case) -> Iterable[Repair]:
     """A script below its key that looks like a mapping or a list, with the sign of a text in lines."""
     here = case.value
+    if here and here.value.items and all(item.kind == "scalar" for item in here.value.items):
+        return
     if here and here.key and here.path[-1:] == ("run",) and here.value.kind != "scalar" and not here.value.is_flow:
         end = here.key.span.end
         if here.value.span.start.line > end.line and case.line_at(end.line)[end.column:].strip() == ":":

@@ -5,7 +5,7 @@ from typing import Callable, Iterable, Iterator
 
 from .paths import is_workflow
 from .place import Outline
-from .repair import Case, Edit, Found, Repair, known_keys
+from .repair import Case, Edit, Found, Repair, first_entry, known_keys, tight, without_entry
 from .syntax import shape_at
 from .text import Point, Span
 from .tree import Node, Path, last_line
@@ -46,9 +46,18 @@ def line_above(case: Case) -> Iterable[Repair]:
             elements = case.outline.lines[above].elements
             if column < own and elements and elements[0].name is not None:
                 path, rank = section_of(case, above, own)
-                if rank == 0:
+                if rank == 0 or rank == 1 and _is_below_empty_key(case, above, path):
                     yield moved(case, f'move "{elements[0].name}" {destination(case, path, own)}', [above], own - column)
             return
+
+
+def _is_below_empty_key(case: Case, number: int, path: Path) -> bool:
+    """Whether the line above another one, which isn't deeper, is the key of a section without a value."""
+    above = next((one for one in range(number - 1, -1, -1) if case.lines[one].strip()), None)
+    found = case.outline.lines[above] if above is not None else None
+    if found is None or not found.elements or found.rest:
+        return False
+    return found.elements[-1].name == path[-1] and found.elements[-1].column >= indent_of(case.lines[number])
 
 
 def indent_of(line: str) -> int:
@@ -106,6 +115,19 @@ def another_level(case: Case) -> Iterable[Repair]:
     it."""
     if case.key:
         yield from (repair for _, repair in moves(case, case.key))
+
+
+def of_all_jobs(case: Case) -> Iterable[Repair]:
+    """A key beside `jobs` that only a job has, moved to each job that lacks it."""
+    here, jobs = case.key, case.at("jobs")
+    if here is None or here.key is None or jobs is None or len(here.path) != 1 or not is_workflow(case.file) or jobs.is_flow:
+        return
+    entry = case.slice(Span(here.key.span.start, tight(case, here.value).end))
+    lacking = [name for name, job in jobs.entries if here.key.value in case.known_keys(("jobs", name.value), job.names())]
+    added = [first_entry(case, job, entry) for _, job in jobs.entries if job.entries and not job.is_flow]
+    if lacking and len(added) == len(lacking) == len(jobs.entries):
+        where = f'to the job "{lacking[0].value}"' if len(lacking) == 1 else "to each job"
+        yield case.of(f'move "{here.key.value}" {where}', without_entry(case, here.parent, here.key), *added)
 
 
 def entry_of_another(case: Case) -> Iterable[Repair]:
@@ -174,8 +196,9 @@ def _sections_around(case: Case, here: Found) -> list[tuple[Path, list[str], int
 
 
 REPAIRS: dict[str, tuple[Callable[[Case], Iterable[Repair]], ...]] = {
-    "K1": (another_level,),
+    "K1": (another_level, of_all_jobs),
     "K4": (entry_of_another,),
     "Y4": (line_above,),
+    "Y13": (line_above,),
     "G1": (another_level,),
 }

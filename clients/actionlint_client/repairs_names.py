@@ -9,8 +9,10 @@ from .names import likely, misspelled
 from .operators import grouped, parts
 from .paths import is_workflow
 from .repair import Case, Edit, Found, Repair, first_entry, next_entry, quoted, without_entry, without_key
-from .repairs_expressions import choice_by_call, expression_of, in_yaml, is_alternative, is_in_condition, is_operand, whole_chain
-from .repairs_needs import declared_output, needed_job, needs_for_jobs, output_of_job
+from .other_syntax import with_empty_text
+from .repairs_expressions import (choice_by_call, expression_of, in_yaml, is_alternative, is_in_condition, is_operand, rewritten,
+                                  whole_chain)
+from .repairs_needs import declared_output, is_written_elsewhere, needed_job, needs_for_jobs, output_of_job
 from .repairs_steps import (OF_CONTEXTS, named_step, names_before, only_output, only_step, output_of_any_job, properties_before,
                             same_name_elsewhere, scope_of, shorter_chain, unused_name)
 from .repairs_values import joined_property
@@ -21,7 +23,14 @@ from .tree import Path
 # Words that are often written for a property of `github`.
 OTHER_PROPERTIES = {"branch": "ref_name", "branch_name": "ref_name", "tag": "ref_name", "tag_name": "ref_name", "sha_short": "sha",
                     "commit": "sha", "commit_sha": "sha", "user": "actor", "author": "actor", "repo": "repository",
-                    "owner": "repository_owner", "event_type": "event_name", "build_number": "run_number", "run": "run_id"}
+                    "owner": "repository_owner", "event_type": "event_name", "build_number": "run_number", "run": "run_id",
+                    "username": "actor", "login": "actor", "organization": "repository_owner", "org": "repository_owner",
+                    "base_branch": "base_ref", "target_branch": "base_ref", "head_branch": "head_ref", "source_branch": "head_ref",
+                    "pr_number": "event.pull_request.number", "pull_request_number": "event.pull_request.number",
+                    "pr_title": "event.pull_request.title", "issue_number": "event.issue.number",
+                    "head_sha": "event.pull_request.head.sha", "base_sha": "event.pull_request.base.sha",
+                    "commit_message": "event.head_commit.message", "default_branch": "event.repository.default_branch",
+                    "repo_name": "event.repository.name", "repository_name": "event.repository.name"}
 # What events have, which is often written without `event`.
 OF_EVENTS = {"pull_request", "issue", "release", "inputs", "comment", "review", "discussion", "head_commit", "commits", "sender", "label",
              "workflow_run", "deployment", "client_payload", "before", "after", "forced", "number", "check_run", "check_suite"}
@@ -94,7 +103,12 @@ def declared_row(case: Case) -> Iterable[Repair]:
     added to the new row's only value."""
     chain, _ = whole_chain(case)
     job = case.at("jobs", case.job) if case.job else None
-    if job is None or job.get("matrix") or len(chain) != 2 or chain[0].lower() != "matrix" or likely(chain[1], properties_before(case)):
+    if job is None or case.job is None or is_written_elsewhere(case, case.job, "strategy"):
+        return
+    include = case.at("jobs", case.job, "strategy", "matrix", "include")
+    if include and include.kind == "mapping" or job.get("matrix") or len(chain) != 2 or chain[0].lower() != "matrix":
+        return
+    if likely(chain[1], properties_before(case)):
         return
     value = "ubuntu-latest" if chain[1] == "os" else ""
     row = f"{chain[1]}: [{value or quoted('')}]"
@@ -369,7 +383,7 @@ def moved_variable(case: Case) -> Iterable[Repair]:
 REPAIRS: dict[str, tuple[Callable[[Case], Iterable[Repair]], ...]] = {
     "X7": (near_name, unknown_word, of_github),
     "X8": (other_context, output_of_job, moved_variable),
-    "X9": (near_name, choice_by_call),
+    "X9": (near_name, choice_by_call, rewritten("compare it with an empty text", with_empty_text)),
     "X10": (moved_variable,),
     "X14": (sibling_property,),
     "X13": (other_property, same_name_elsewhere, shorter_chain, near_name, needed_job, named_step, output_of_job, only_step,

@@ -7,8 +7,10 @@ from . import project as files
 from .names import likely, misspelled
 from .repair import Case, Edit, Repair, first_entry, next_entry, quoted
 from .repairs_expressions import whole_chain
+from .repairs_keys import OTHER_NAMES
 from .repairs_steps import properties_before
 from .report import Fault
+from .syntax import table
 from .text import Point, Span
 from .tree import Node
 
@@ -22,6 +24,8 @@ def needed_job(case: Case) -> Iterable[Repair]:
     free = [name for name in tree.names("jobs") if name not in files.dependents(tree, job) and name not in files.needed(tree, job)]
     name = next((name for name in free if name.lower() == case.arguments[0].lower()), None)
     needs = case.at("jobs", job, "needs")
+    if needs is not None and needs.kind == "mapping" or needs is None and is_written_elsewhere(case, job, "needs"):
+        return
     wrong = [item for item in (needs.items or [needs]) if item.value not in tree.names("jobs")] if needs else []
     slip = next((item for item in wrong if name and misspelled(item.value, [name])), None)
     if name and slip:
@@ -34,6 +38,15 @@ def needed_job(case: Case) -> Iterable[Repair]:
     elif not likely(case.arguments[0], files.needed(tree, job)):
         yield from (case.of(f'change to "{one}", and add it to "needs"', Edit(case.span, one), need_of(case, job, one))
                     for one, _ in likely(case.arguments[0], free))
+
+
+def is_written_elsewhere(case: Case, job: str, name: str) -> bool:
+    """Whether a job has a key by another word or as a slip, or one of its steps has it."""
+    node = case.at("jobs", job)
+    steps = node.get("steps") if node else None
+    unknown = [key for key in node.names() if key not in table()["shapes"]["Job"]["keys"]] if node else []
+    of_steps = any(step.get(name) for step in steps.items) if steps else False
+    return of_steps or any(OTHER_NAMES.get(key.lower()) == name or misspelled(key, [name]) for key in unknown)
 
 
 def need_of(case: Case, job: str, name: str) -> Edit:
@@ -116,6 +129,8 @@ def declared_output(case: Case) -> Iterable[Repair]:
     step = writes[-1].text("id") if writes else None
     entry = f"{name}: {quoted('${{ steps.%s.outputs.%s }}' % (step, name)) if step else quoted('')}"
     outputs = job.get("outputs")
+    if outputs is None and is_written_elsewhere(case, chain[1], "outputs"):
+        return
     title = f'add the output "{name}" to "{chain[1]}", ' + (f'from its step "{step}"' if step else "without a value")
     if outputs and outputs.entries:
         yield case.of(title, first_entry(case, outputs, entry))

@@ -151,8 +151,8 @@ def pattern(case: Case) -> Iterable[Repair]:
         yield case.of("add a space after each dash", *(Edit(Span.at(Point(line, case.lines[line].index("-") + 1)), " ") for line in dashes),
                       is_safe=True)
         return
-    words = text.replace(",", " ").split()
-    if "," in text and len(words) > 1 and not is_within_flow(case, here.path) and not isinstance(here.path[-1], int):
+    words = [word.strip() for word in text.split(",") if word.strip()]
+    if len(words) > 1 and not is_within_flow(case, here.path) and not isinstance(here.path[-1], int):
         yield case.replace("make it a list", "[" + ", ".join(quoted(word) for word in words) + "]", here.value.span)
         return
     without_dot = re.sub(r"^(!?)(?:\./)+", r"\1", text)
@@ -429,7 +429,7 @@ def output_value(case: Case) -> Iterable[Repair]:
 
 
 REPAIRS: dict[str, tuple[Callable[[Case], Iterable[Repair]], ...]] = {
-    "G1": (several_events, near_listed, other_event),
+    "G1": (several_events, other_event, near_listed),
     "G2": (near_listed,),
     "G3": (pattern,),
     "G4": (schedule,),

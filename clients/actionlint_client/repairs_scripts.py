@@ -10,7 +10,8 @@ from .repair import Case, Edit, Found, Repair, first_entry, next_entry, quoted
 from .repairs_expressions import BRACES
 from .text import Point, Span
 
-POSIX = ("bash", "sh")
+# `msys2 {0}` is bash too.
+POSIX = ("bash", "sh", "msys2")
 POWERSHELLS = ("pwsh", "powershell")
 WORD = re.compile(r"[A-Za-z_]\w*")
 # Variables that systems and shells use.
@@ -23,6 +24,8 @@ COMMAND = re.compile(r"""(?P<head>(?:echo|printf|Write-Output|Write-Host)\s+(?:-
                      r"""(?(call)\))(?=\s{0,9}(?:$|[;&]|\|\||\n)|\s{1,9}#)""", re.M)
 ADD_PATH = re.compile(r"""(?P<head>(?:echo|Write-Output|Write-Host)\s+)?(?P<quote>["']?)::add-path::(?P<value>[^\n]*?)(?P=quote)"""
                       r"""(?=\s{0,9}(?:$|[;&]|\|\||\n)|\s{1,9}#)""", re.M)
+PRINTED = re.compile(r"""printf\s+(?P<quote>["'])::(?P<command>set-output|save-state|set-env) name=(?P<name>[^:\n'"]+?)::"""
+                     r"""(?P<value>[^\n'"]*)\\n(?P=quote)(?P<arguments>\s[^\n]+)$""", re.M)
 FILES = {"set-output": "GITHUB_OUTPUT", "save-state": "GITHUB_STATE", "set-env": "GITHUB_ENV", "add-path": "GITHUB_PATH"}
 # What a shell reads in a text without quotes, beside substitutions and variables.
 SUBSTITUTION = re.compile(r"\$\([^()]*\)|`[^`]*`|\$\{\{[^{}]*\}\}")
@@ -199,6 +202,22 @@ def written_to_file(case: Case) -> Iterable[Repair]:
             yield case.replace(title, text, Span.on_line(case.span.start.line, match.start(), match.end()), is_safe)
 
 
+def printed_to_file(case: Case) -> Iterable[Repair]:
+    """The command that `printf` makes of its arguments, as a line that is appended to a file."""
+    here = case.scalar
+    match = next((match for match in PRINTED.finditer(case.line) if match.start() <= case.span.start.column <= match.end()), None)
+    if here is None or match is None or here.value.style in ("'", '"') or case.shell_of(here) not in POSIX or _is_in_document(case, here):
+        return
+    rest = match["arguments"]
+    while SUBSTITUTION.search(rest):
+        rest = SUBSTITUTION.sub("", rest)
+    if not re.search(r"[;&|<>#()`]", rest):
+        text = f"printf {match['quote']}{match['name']}={match['value']}\\n{match['quote']}{match['arguments']}"
+        file = FILES[match["command"]]
+        yield case.replace(f"append to {file}", f'{text.rstrip()} >> "${file}"',
+                           Span.on_line(case.span.start.line, match.start(), match.end()))
+
+
 def _is_in_document(case: Case, script: Found) -> bool:
     """Whether the fault is in a here-document of a script, whose lines aren't commands."""
     before = case.slice(Span(Point(script.value.span.start.line + 1, 0), case.span.start))
@@ -267,7 +286,7 @@ def _can_be_number(operand: str) -> bool:
 
 
 REPAIRS: dict[str, tuple[Callable[[Case], Iterable[Repair]], ...]] = {
-    "G17": (written_to_file,),
+    "G17": (written_to_file, printed_to_file),
     "X1": (computed_by_shell,),
     "X3": (computed_by_shell,),
     "X9": (computed_by_shell,),

@@ -10,6 +10,7 @@ from .repair import Case, Repair
 from .repairs_expressions import TWO_QUOTES, arguments_at, expression_of, in_yaml, is_compared, is_in_condition, is_operand, whole_chain
 from .syntax import table
 from .text import Point, Span
+from .tree import Node
 
 PLACEHOLDER = re.compile(r"\{(\d{1,3})\}")
 # What expressions can't ask of a text.
@@ -75,16 +76,46 @@ def all_results(case: Case) -> Iterable[Repair]:
 def as_json(case: Case) -> Iterable[Repair]:
     """The value as a text, except in a condition, where a text is always true."""
     chain, span = whole_chain(case)
-    if is_in_condition(case) and case.code == "X18":
+    if is_in_condition(case) and case.code == "X18" or chain[:2] == ("needs", "*") and chain[2:3] not in (("result",), ("outputs",)):
         return
     if chain:
+        joined = list(_joined(case, chain, span)) if span.end.column > span.start.column else []
+        yield from joined if _is_list_of_texts(case, chain) else ()
+        yield from _by_its_name(case, chain, span)
         yield case.replace("convert it to JSON", f"toJSON({case.slice(span)})", span)
-        if span.end.column > span.start.column and "*" in chain:
-            expression = expression_of(case)
-            literal = in_yaml("', '", expression) if expression else "', '"
-            yield case.replace("join its entries", f"join({case.slice(span)}, {literal})", span)
+        yield from joined if "*" in chain else ()
     elif (expression := expression_of(case)) and expression.text.strip():
         yield case.replace("convert it to JSON", f" toJSON({expression.text.strip()}) ", expression.span)
+
+
+def _joined(case: Case, chain: Sequence[str], span: Span) -> Iterable[Repair]:
+    """The entries of a list as a text, with commas between them; with spaces only in a script, if the matrix has the list."""
+    expression, here = expression_of(case), case.scalar
+    between = "' '" if here and here.path[-1:] == ("run",) and chain[0].lower() == "matrix" else "', '"
+    literal = in_yaml(between, expression) if expression else between
+    yield case.replace("join its entries", f"join({case.slice(span)}, {literal})", span)
+
+
+def _is_list_of_texts(case: Case, chain: Sequence[str]) -> bool:
+    """Whether each value of a matrix's row is a list of texts."""
+    values = _values_of_row(case, chain)
+    return bool(values) and all(value.items and all(item.kind == "scalar" for item in value.items) for value in values)
+
+
+def _by_its_name(case: Case, chain: Sequence[str], span: Span) -> Iterable[Repair]:
+    """The name of a row's value, if each is a mapping that has one."""
+    values = _values_of_row(case, chain)
+    if values and all(value.text("name") for value in values):
+        yield case.replace(f"change to {case.slice(span)}.name", f"{case.slice(span)}.name", span)
+
+
+def _values_of_row(case: Case, chain: Sequence[str]) -> list[Node]:
+    """The values of a matrix's row, those of `include` too."""
+    matrix = case.at("jobs", case.job, "strategy", "matrix") if case.job else None
+    if matrix is None or len(chain) != 2 or chain[0].lower() != "matrix":
+        return []
+    row, include = matrix.get(chain[1]), matrix.get("include")
+    return [*(row.items if row else ()), *(value for item in (include.items if include else ()) if (value := item.get(chain[1])))]
 
 
 def fewer_arguments(case: Case) -> Iterable[Repair]:

@@ -121,7 +121,7 @@ def pair_below(case: Case) -> Iterable[Repair]:
     """A key with its value that follow another key, on a line of their own."""
     span = case.rest_span(case.span.start.line)
     elements = case.outline.lines[case.span.start.line].elements
-    if span and elements and elements[-1].name is not None and re.match(r"[\w-]+: ", case.slice(span)):
+    if span and elements and elements[-1].name is not None and re.match(r"[\w-]+:(?: |$)", case.slice(span)):
         start = Point(case.span.start.line, elements[-1].end)
         indent = "\n" + " " * (elements[-1].column + 2)
         yield case.replace("move it to a line of its own", indent + case.slice(span), Span(start, span.end))
@@ -165,6 +165,7 @@ def closed_above(case: Case) -> Iterable[Repair]:
         span = case.rest_span(line)
         text = case.slice(span) if span else ""
         if span and _opens_quote(text):
+            yield from _other_quote_at_end(case, text, span)
             yield case.replace("close the quotes", text[:1], Span.at(span.end))
             return
         open_quote = next((sign for sign in "'\"" if text[:1] in CLOSERS and text.count(sign) % 2), None)
@@ -175,6 +176,14 @@ def closed_above(case: Case) -> Iterable[Repair]:
             return
 
 
+def _other_quote_at_end(case: Case, text: str, span: Span) -> Iterable[Repair]:
+    """A text that begins with one quote and ends with the other, with the first one at its end too."""
+    other = "'" if text[:1] == '"' else '"'
+    if len(text) > 2 and text.endswith(other) and text.count(other) % 2:
+        end = Span.on_line(span.end.line, span.end.column - 1, span.end.column)
+        yield case.replace(f"close the quotes with {text[:1]}", text[:1], end)
+
+
 def _has_whole_items(text: str) -> bool:
     """Whether the quotes of a list or mapping in brackets are around whole values."""
     return all(ITEM.fullmatch(item.strip(" []{}")) for item in text.split(","))
@@ -183,6 +192,9 @@ def _has_whole_items(text: str) -> bool:
 def closed_quote(case: Case) -> Iterable[Repair]:
     """A quote at the end of its line, or before what follows on it."""
     line = case.line
+    span = case.rest_span(case.span.start.line)
+    if span and span.start == case.span.start:
+        yield from _other_quote_at_end(case, case.slice(span), span)
     quote = line[case.span.start.column:case.span.start.column + 1]
     signs = (at for at in (line.find(sign) for sign in (" #", "]", "}", ",")) if at > case.span.start.column)
     ends = dict.fromkeys([len(line.rstrip()), *(len(line[:at].rstrip()) for at in signs)])

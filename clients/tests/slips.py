@@ -187,6 +187,13 @@ def in_a_workflow(program: str) -> None:
         check(program, slip)
 
 
+@CASES.case
+def collected_last(program: str) -> None:
+    """Mistakes of all kinds that were collected last: of merges and copies, of other services and shells, of keys at the wrong place."""
+    for slip in read_slips(SLIPS / "last.txt"):
+        check(program, slip)
+
+
 def every_text() -> Iterator[tuple[str, dict[str, str]]]:
     """The texts of all slips, and those of the examples of all faults."""
     for path in sorted(SLIPS.glob("*.txt")):
