@@ -19,9 +19,8 @@ from pathlib import Path
 from cases import Cases
 from clones_and_releases import ANYWHERE, Place, Room, in_each_clone, in_each_place
 from editors import in_terminal
+from readers import values
 from repositories import CLIENTS, FILE, FILES, RIGHT, TOP, UNDEFINED, WORKFLOWS, git, reported, write
-
-import yaml  # type: ignore[import]
 
 CASES = Cases("snippets")
 PAGES = ("README.md", "docs/EDITORS.md", "docs/CI.md", "docs/COMMAND-LINE.md")
@@ -161,7 +160,7 @@ def run_workflow(place: Place, text: str, uploaded: str | None = None) -> None:
     """Runs the steps of a workflow's one job as a runner would, in a repository with a fault beside the workflow."""
     with place.repository({**FILES, WORKFLOWS + "lint.yml": text}) as room:
         assert {one[0] for one in reported(place.program, os.fsencode(room.root))} == {FILE, WORKFLOWS + "c.yml"}
-        ((job),) = yaml.safe_load(text)["jobs"].values()
+        ((job),) = values(text)["jobs"].values()
         for step in job["steps"]:
             name, _, reference = step["uses"].partition("@")
             if name == "OWNER/REPOSITORY":
@@ -176,7 +175,7 @@ def run_workflow(place: Place, text: str, uploaded: str | None = None) -> None:
 
 def run_action(place: Place, room: Room, inputs: dict[str, str]) -> tuple[int, str]:
     """Runs the only step of the action like a runner, with the clone as the folder into which the action was downloaded."""
-    action = yaml.safe_load((place.folder / "action.yml").read_text(encoding="utf-8"))
+    action = values((place.folder / "action.yml").read_text(encoding="utf-8"))
     (step,) = action["runs"]["steps"]
     values = {f"inputs.{name}": inputs.get(name, one["default"]) for name, one in action["inputs"].items()}
     values["github.action_path"] = str(place.folder)
@@ -196,7 +195,7 @@ def run_lines(place: Place, name: str, room: Room, *replaced: tuple[str, str]) -
     (text,) = of_page(name, place)
     for old, new in replaced:
         text = text.replace(old, new)
-    lines = text.splitlines() if not text.startswith("actionlint:\n") else yaml.safe_load(text)["actionlint"]["script"]
+    lines = text.splitlines() if not text.startswith("actionlint:\n") else values(text)["actionlint"]["script"]
     return [subprocess.run(["sh", "-c", line], cwd=room.root, env=room.environment, stdout=subprocess.PIPE, check=False,
                            **place.as_user()).returncode for line in lines]
 
@@ -205,10 +204,10 @@ def run_lines(place: Place, name: str, room: Room, *replaced: tuple[str, str]) -
 def ignoring(place: Place) -> None:
     """The inputs of the action in one step."""
     (text,) = snippets()["ignore"]
-    (step,) = yaml.safe_load(text)
+    (step,) = values(text)
     with place.repository({**{f"repository/{path}": text for path, text in FILES.items()}, "known-faults.txt": "C3\n"}) as room:
         status, said = run_action(place, room, {**step["with"], "shellcheck": "false"})
-        assert step["with"]["shellcheck"] is True and step["with"]["root"] == "repository"
+        assert step["with"]["shellcheck"] == "true" and step["with"]["root"] == "repository"
         assert status == 1 and f"repository/{FILE}:6:30: {UNDEFINED}" in said.splitlines() and "required input" not in said, said
 
 
