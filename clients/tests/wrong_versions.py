@@ -403,6 +403,8 @@ WRONG_VERSIONS = {name: WrongVersion(*row) for name, *row in (
     ("quotes_belong_to_names", "references.py", "renaming.py each_place",
      "begin = self._data.find(name, chain[number].start, chain[number].end)", "begin = chain[number].start"),
     ("bases_are_chains_of_their_own", "facts_tree.py", "slips.py calls_and_names", " and id(part) not in bases", ""),
+    ("names_in_an_index_are_those_around_it", "repair.py", "slips.py calls_and_names",
+     "return self._chains_here[-1]", "return self._chains_here[0]"),
     ("an_index_is_all_there_is", "repair.py", "slips.py expressions", "return self._chains_here[0]", "return self._chains_here[-1]"),
     ("names_that_are_taken_are_not_refused", "renaming.py", "renaming.py names_that_are_refused",
      "if new != symbol.name and any(", "if False and any("),
