@@ -172,7 +172,8 @@ def shape_name(name: str) -> str:
 def shape(name: str, row: Tables) -> dict:
     found = {"scalars": SCALARS[row["scalars"]], "items": row.get("items"), "free": row.get("any_key")}
     if "keys" in row:
-        found |= {"section": lists_page.name_of(shape_name(name)), "others": row["others"], "keys": {key: field(it) for key, it in row["keys"].items()}}
+        keys = {key: field(it) for key, it in row["keys"].items()}
+        found |= {"section": lists_page.name_of(shape_name(name)), "others": row["others"], "keys": keys}
     return found
 
 

@@ -16,7 +16,7 @@ from .sections import activity_types, can_stand, github
 from .stricter import takes_access, takes_filter
 from .structure import address_of
 from .syntax import Shape, available, is_condition, key_of, meaning, section_at, shape_at, table, value_words
-from .text import Point, Span, end_of
+from .text import Point, Span
 from .tree import Node, Path
 from .used import Used, used_in
 

@@ -30,8 +30,8 @@ def cannot_start(program: str, error: OSError) -> str:
 
 
 def find_facts(linter: str) -> str:
-    """The absolute path of actionlint-facts: the one that the variable ACTIONLINT_FACTS names, else the one beside the linter, by the linter's
-    name, else in a clone the one that was built last or is carried, else the one on the PATH."""
+    """The absolute path of actionlint-facts: the one that the variable ACTIONLINT_FACTS names, else the one beside the linter, by its name,
+    else in a clone the one that was built last or is carried, else the one on the PATH."""
     named = os.environ.get("ACTIONLINT_FACTS")
     if named:
         return os.path.abspath(named)

@@ -35,12 +35,6 @@ class Span(NamedTuple):
         return self.start <= point <= self.end
 
 
-def end_of(pattern: re.Pattern[str], text: str, start: int, end: int | None = None) -> int:
-    """Where what a pattern finds at an offset ends: at the offset itself if it finds nothing."""
-    found = pattern.match(text, start, len(text) if end is None else end)
-    return found.end() if found else start
-
-
 class Places:
     """The points of a text and their offsets. What is before the offset `begin` belongs to no line."""
 

@@ -121,6 +121,7 @@ def a_reader_whose_program_ends(program: str) -> None:
     text = FILES[CALLED].encode()
     reader = Reader(program, SECONDS)
     for path in (CALLED, FILE):
+        assert not fails_with(reader, LinterEnded)
         assert reader.calls(path, text) == frozenset(("a/action.yml", "a/action.yaml")) and reader.tree(path, text)
         os.kill(reader._facts._child.pid, signal.SIGKILL)
     reader.close()
