@@ -163,7 +163,8 @@ def which_program(_: str) -> None:
     with tempfile.TemporaryDirectory(prefix="actionlint-test-") as folder:
         programs = (f"bin/{FACTS}", "bin/juzbrost", "bin/juzbrost-facts", f"clone/prebuilt/{FACTS}", "clone/actionlint")
         write(folder, {**dict.fromkeys(programs, "#!/bin/sh\n"), f"named/{FACTS}": ""})
-        for link, leads_to in {f"clone/{FACTS}": "actionlint", "link": "bin/juzbrost", f"share/{FACTS}": "../bin/juzbrost-facts"}.items():
+        links = {f"clone/{FACTS}": "actionlint", "link": "bin/juzbrost", f"share/{FACTS}": "../bin/juzbrost-facts"}
+        for link, leads_to in links.items():
             os.makedirs(os.path.dirname(f"{folder}/{link}"), exist_ok=True)
             os.symlink(leads_to, f"{folder}/{link}")
         for path in programs:
