@@ -164,14 +164,29 @@ class Folder:
 
     def _refresh(self) -> Result:
         if self._files.is_stale():
-            changed = self._files.update()
-            self._unsent |= changed
-            self._untold |= changed
+            self._update_files()
         self._send_changes()
         if self._needs_report:
             self._read_report()
         told, self._untold = self._untold, set()
         return Result(self._reader.files, self._refused | self._files.unreadable, told)
+
+    def _update_files(self) -> None:
+        try:
+            changed = self._files.update()
+        except LinterMissing:
+            # If the linter is missing as well, that is told.
+            self._started()
+            raise
+        self._unsent |= changed
+        self._untold |= changed
+
+    def _started(self) -> Session:
+        if self._session is None:
+            self._session = Session(self._program.words, self._oneline, self._program.timeout)
+            self.reader.check()
+            self._missing = ""
+        return self._session
 
     def _forget_session(self) -> None:
         self._end_session()
@@ -240,11 +255,9 @@ class Folder:
         left_out = self._left_out.get(path)
         if left_out is not None and left_out.data == data and left_out.ends >= ENDS_OF_A_FILE:
             return left_out.reply
-        if self._session is None:
-            self._session = Session(self._program.words, self._oneline, self._program.timeout)
-            self._missing = ""
+        session = self._started()
         try:
-            return self._session.put(path, data[:MAX_FILE_BYTES + 1])
+            return session.put(path, data[:MAX_FILE_BYTES + 1])
         except LinterEnded:
             ends = left_out.ends if left_out is not None and left_out.data == data else 0
             self._left_out[path] = LeftOut(data, ENDED_AT, ends + 1)

@@ -35,10 +35,13 @@ def find_facts(linter: str) -> str:
     named = os.environ.get("ACTIONLINT_FACTS")
     if named:
         return os.path.abspath(named)
-    beside = [one.with_name(one.name + SUFFIX) for one in (Path(linter), Path(os.path.realpath(linter)))]
-    places = beside + [folder / path for folder in (Path(linter).parent, FINDER.parents[1]) for path in (FACTS, *FACTS_OF_A_CLONE)]
-    found = next((str(place) for place in places if _is_facts(place)), None)
-    return os.path.abspath(found or shutil.which(FACTS) or Path(linter).with_name(FACTS))
+    # (a linter without a folder is none that was found)
+    linters = [Path(linter), Path(os.path.realpath(linter))] if os.path.dirname(linter) else []
+    beside = [one.with_name(one.name + SUFFIX) for one in linters]
+    folders = [*(one.parent for one in linters[:1]), FINDER.parents[1]]
+    places = beside + [folder / path for folder in folders for path in (FACTS, *FACTS_OF_A_CLONE)]
+    found = next((os.path.abspath(place) for place in places if _is_facts(place)), None)
+    return found or shutil.which(FACTS) or str(Path(linter).with_name(FACTS))
 
 
 def _is_facts(place: Path) -> bool:

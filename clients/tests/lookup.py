@@ -262,12 +262,14 @@ def without_actionlint_facts(program: str) -> None:
     no file; another one has no fixes."""
     tree = Tree()
     root = tree.room / "repository"
-    write(str(root), FILES)
     nowhere = {**os.environ, "ACTIONLINT_FACTS": f"{tree.room}/nowhere"}
-    editor = Editor(program, os.fsencode(root), environment=nowhere)
-    editor.settle()
-    assert not editor.diagnostics() and any(f"cannot start {tree.room}/nowhere" in said for said in editor.messages), editor.messages
-    assert editor.quit() == 0
+    # (first without calls)
+    for files in ({FILE: FILES[FILE]}, FILES):
+        write(str(root), files)
+        editor = Editor(program, os.fsencode(root), environment=nowhere)
+        editor.settle()
+        assert not editor.diagnostics() and any(f"cannot start {tree.room}/nowhere" in said for said in editor.messages), editor.messages
+        assert editor.quit() == 0
     report: list[str | Path] = [CLIENTS / "actionlint-report", "--program", program]
     for words in (["--shellcheck", "--out", "report", "--form", "jsonl"], ["--fix"], ["--diff"]):
         status, out, said = ran([*report, *words], cwd=root, env=nowhere)

@@ -19,6 +19,9 @@ from typing import NamedTuple
 from wrong_fixes import WRONG_FIXES
 
 CLIENTS = Path(__file__).resolve().parent.parent
+sys.path.insert(0, str(CLIENTS))
+from actionlint_client.program import find_facts
+
 SECONDS = 600
 SIDE_BY_SIDE = 4
 RANDOM_EDITS = "random_edits.py 250 1"
@@ -246,7 +249,9 @@ WRONG_VERSIONS = {name: WrongVersion(*row) for name, *row in (
      'given.get("ignoreFiles")', 'given.get("")'),
     ("facts_have_their_usual_name_alone", "program.py", "facts_process.py which_program", "places = beside + [", "places = ["),
     ("links_to_the_linter_have_no_facts", "program.py", "facts_process.py which_program",
-     "in (Path(linter), Path(os.path.realpath(linter)))]", "in (Path(linter),)]"),
+     "[Path(linter), Path(os.path.realpath(linter))]", "[Path(linter)]"),
+    ("files_without_calls_need_no_facts", "folder.py", "lookup.py without_actionlint_facts", "            self.reader.check()\n", ""),
+    ("a_linter_is_not_missed", "folder.py", "lookup.py language_server", "            self._started()\n            raise", "            raise"),
     ("the_program_of_the_settings_is_not_run", "server.py", "lookup.py a_program_of_the_settings",
      'isinstance(given.get("program"), str)', "False"),
     ("the_program_of_the_settings_may_be_anything", "server.py", "lookup.py a_program_of_the_settings",
@@ -546,7 +551,9 @@ def is_refused(version: WrongVersion, program: str) -> bool:
     script, *words = version.test.split()
     with tempfile.TemporaryDirectory(prefix="actionlint-test-") as top:
         copy = edited_copy(version, top)
-        done = subprocess.run([sys.executable, str(copy / "tests" / script), program, *words], stdin=subprocess.DEVNULL,
+        # (beside the copy there is none)
+        environment = {**os.environ, "ACTIONLINT_FACTS": find_facts(program)}
+        done = subprocess.run([sys.executable, str(copy / "tests" / script), program, *words], stdin=subprocess.DEVNULL, env=environment,
                               stdout=subprocess.PIPE, stderr=subprocess.STDOUT, timeout=SECONDS, check=False)
     return done.returncode == 1 and (b"AssertionError" in done.stdout or b"only shown: " in done.stdout)
 
