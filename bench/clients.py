@@ -4,8 +4,8 @@ language server.
 Measures the time from a change in the editor until the diagnostics of that version arrive, through the language server and the linter: in a
 folder of 200 workflows with one fault each and with ten, beside 4,095 files without faults and with one each, and of an action that all 200
 workflows call. Then completion, hovering and definitions among 200 workflows; what hostile files cost, each shape at two sizes, the second
-twice the first, so the ratio shows whether the work is linear; the memory of the server and its programs over 20,000 edits; and the time of 1,000 folders
-with a SARIF file each, as on docs/CI.md.
+twice the first, so the ratio shows whether the work is linear; the memory of the server and its programs over 20,000 edits; and the time of
+1,000 folders with a SARIF file each, as on docs/CI.md.
 """
 
 import os
