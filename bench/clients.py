@@ -4,8 +4,8 @@ language server.
 Measures the time from a change in the editor until the diagnostics of that version arrive, through the language server and the linter: in a
 folder of 200 workflows with one fault each and with ten, beside 4,095 files without faults and with one each, and of an action that all 200
 workflows call. Then completion, hovering and definitions among 200 workflows; what hostile files cost, each shape at two sizes, the second
-twice the first, so the ratio shows whether the work is linear; the memory of both programs over 20,000 edits; and the time of 1,000 folders
-with a SARIF file each, as on docs/CI.md.
+twice the first, so the ratio shows whether the work is linear; the memory of the server and its programs over 20,000 edits; and the time of
+1,000 folders with a SARIF file each, as on docs/CI.md.
 """
 
 import os
@@ -71,8 +71,7 @@ class Folder:
         self.editor.open(self.path, self.text)
         self.editor.settle()
         self.version = 1
-        (child,) = children(self.editor.child.pid)
-        self.processes = (self.editor.child.pid, child)
+        self.server = self.editor.child.pid
 
     def edit(self):
         """Changes the open workflow; returns the seconds until its diagnostics arrive."""
@@ -92,8 +91,12 @@ class Folder:
         return time.monotonic() - sent
 
     def processor_seconds(self):
-        """What the server and the linter have used so far."""
-        return [processor_seconds(process) for process in self.processes]
+        """What the server, and the programs that it runs, have used so far."""
+        return [processor_seconds(self.server), sum(map(processor_seconds, children(self.server)))]
+
+    def memory(self):
+        """The memory of the server, and of the programs that it runs, in KiB."""
+        return [memory(self.server), sum(map(memory, children(self.server)))]
 
     def close(self):
         status = self.editor.quit()
@@ -116,10 +119,10 @@ def tell_times(name, what, seconds):
 
 
 def tell_processor_time(what, before, folder, count):
-    """Prints the processor time of server and linter since that before, for each of so many edits."""
-    server, child = ((after - first) / count for first, after in zip(before, folder.processor_seconds()))
-    line = f"    of which processor time: server {1e3 * server:.2f} ms, linter {1e3 * child:.2f} ms"
-    tell(line, f"processor time of {what}", this=server + child)
+    """Prints the processor time of the server and its programs since that before, for each of so many edits."""
+    server, programs = ((after - first) / count for first, after in zip(before, folder.processor_seconds()))
+    line = f"    of which processor time: server {1e3 * server:.2f} ms, programs {1e3 * programs:.2f} ms"
+    tell(line, f"processor time of {what}", this=server + programs)
 
 
 def tell_edits(linter, count, faults):
@@ -209,7 +212,7 @@ def tell_shapes(linter):
                 begun = time.monotonic()
                 ask()
                 seconds[what] = time.monotonic() - begun
-            seconds["memory"] = memory(folder.processes[0], "VmHWM")
+            seconds["memory"] = memory(folder.server, "VmHWM")
             rows.append(seconds)
             folder.close()
         told = ", ".join(f"{what} {1000 * row:.0f} ms ({row / first:.1f})" for (what, row), first in zip(rows[1].items(), rows[0].values())
@@ -242,20 +245,20 @@ def tell_missing_inputs(linter):
     folder = Folder(linter, {f"{WORKFLOWS}a.yml": caller, "b/action.yml": action})
     name = "600 calls that lack 1,000 inputs each"
     tell_times(f"{name}: {folder.start_seconds:.1f} s; an edit", name, [folder.edit() for _ in range(5)])
-    most = memory(folder.processes[0], "VmHWM")
+    most = memory(folder.server, "VmHWM")
     tell(f"    server {most:,} KiB", f"start and memory of {name}", start=folder.start_seconds, memory=most)
     folder.close()
 
 
 def tell_memory(linter):
-    """The memory of both programs over many edits."""
+    """The memory of the server and its programs over many edits."""
     folder = Folder(linter, workflows(20, workflow(1)))
     sizes = []
     for number in range(EDITS_OF_MEMORY + EDITS_BETWEEN):
         folder.edit()
         if number % EDITS_BETWEEN == EDITS_BETWEEN - 1:
-            sizes.append([memory(process) for process in folder.processes])
-    for name, first, last in zip(("server", "linter"), sizes[0], sizes[-1]):
+            sizes.append(folder.memory())
+    for name, first, last in zip(("server", "programs"), sizes[0], sizes[-1]):
         line = f"memory of the {name} after {EDITS_BETWEEN:,} edits {first:,} KiB, after {EDITS_OF_MEMORY:,} more {last:,} KiB"
         tell(line, f"memory of the {name}", first=first, last=last)
     folder.close()

@@ -1,20 +1,23 @@
 #!/usr/bin/env python3
 """Writes the tables of the clients from the rest of the repository:
 
-    make_tables.py [--check]        --check compares them, and writes nothing
+    make_tables.py [--check] [FACTS]        --check compares them, and writes nothing
 
 `actionlint_client/faults.json` has the entries of docs/FAULTS*.md: the code, message and place of each fault, and what the page says;
 `actionlint_client/notes/notes.json` those of docs/NOTES.md.
-`actionlint_client/names.json` has the lists of names that the linter knows, from the definitions that its code is proved to match.
-`actionlint_client/syntax.json` has what is allowed where, from the same definitions, and what meanings.toml says about each name.
+The others are from what FACTS, by default the actionlint-facts that the clients run, answers to `tables`: `names.json` has the lists of
+names, `limits.json` the limits, and `syntax.json` what is allowed where, with what meanings.toml says about each name. Properties of
+contexts aren't among the answers; they are from the definitions that the linter's code is proved to match.
 """
 from __future__ import annotations
 
 import json
 import re
+import subprocess
 import sys
 import tomllib
 from pathlib import Path
+from typing import Any
 
 TOP = Path(__file__).resolve().parent.parent
 sys.path[:0] = [str(TOP / "tests"), str(TOP / "clients/tests")]
@@ -22,8 +25,16 @@ import fault_entries
 import lists_page
 from note_cases import cases_by_name
 
+from actionlint_client.program import find_facts, find_program
+
+Tables = dict[str, Any]
 OUT = Path(__file__).resolve().parent / "actionlint_client"
 LINK_IN_PAGE = re.compile(r"\]\((#[^)]*)\)")
+# A property of the object of a job or a step.
+OBJECT_PROPERTY = re.compile(r'\(codes "([^"]+)", ')
+SCALARS = {"none": "NoScalar", "any": "AnyScalar", "not null": "NotNull", "boolean": "Bools", "number": "Numbers", "expression": "Chunks"}
+# The shape of the mapping under `on`, whose section is named by its key.
+EVENTS = "Events"
 UNCHECKED = " (unchecked)"
 # The places of the sections that the linter doesn't check: the key of a shape above each, and whether free names come between.
 UNCHECKED_PLACES = {("Job", "environment"): ("Environment", False), ("Job", "services"): ("Container", True),
@@ -33,20 +44,31 @@ UNCHECKED_PLACES = {("Job", "environment"): ("Environment", False), ("Job", "ser
 
 
 def main(words: list[str]) -> int:
-    if words not in ([], ["--check"]):
-        print("make_tables.py [--check]", file=sys.stderr)
+    is_check = words[:1] == ["--check"]
+    named = words[is_check:]
+    if len(named) > 1 or any(word.startswith("-") for word in named):
+        print("make_tables.py [--check] [FACTS]", file=sys.stderr)
         return 2
-    tables = {"faults.json": faults(TOP / "docs"), "notes/notes.json": notes(TOP / "docs/NOTES.md"), "names.json": names(TOP / "crates"), "syntax.json": syntax(TOP)}
+    linter = tables_of(*named or [find_facts(find_program(None))])
+    tables = {"faults.json": faults(TOP / "docs"), "notes/notes.json": notes(TOP / "docs/NOTES.md"),
+              "names.json": names(linter, TOP / "crates"), "syntax.json": syntax(linter, TOP), "limits.json": linter["limits"]}
     differing = []
     for file, table in tables.items():
         text = json.dumps(table, indent=1, ensure_ascii=False) + "\n"
-        if words and not ((OUT / file).exists() and (OUT / file).read_text(encoding="utf-8") == text):
+        if is_check and not ((OUT / file).exists() and (OUT / file).read_text(encoding="utf-8") == text):
             differing.append(file)
-        elif not words:
+        elif not is_check:
             (OUT / file).write_text(text, encoding="utf-8")
     for file in differing:
         print(f"{file} is not the one that make_tables.py makes")
     return 1 if differing else 0
+
+
+def tables_of(facts: str) -> Tables:
+    """What the linter accepts."""
+    done = subprocess.run([facts], input=b"tables\n", stdout=subprocess.PIPE, check=True)
+    found: Tables = json.loads(done.stdout)
+    return found
 
 
 def faults(docs: Path) -> list[dict]:
@@ -77,88 +99,88 @@ def shown_files(files: dict[str, str]) -> list[str]:
     return [*shown, f"```yaml\n{list(files.values())[-1]}```"]
 
 
-def names(crates: Path) -> dict[str, list[str]]:
+def names(linter: Tables, crates: Path) -> dict[str, list[str]]:
     """The lists of names, each sorted."""
-    settings = definitions(crates / lists_page.SETTINGS)
-    events = definitions(crates / lists_page.ACTIVITIES)
-    rules = [lists_page.parts_of(right.strip()) for _, right in lists_page.EQUATION.findall(lists_page.shape_table(crates))
-             if right.strip() != "None"]
-    types = definitions(crates / lists_page.FUNCTION_NAMES)
-    objects = definitions(crates / "al_check_contexts/specs/Contexts.antt")
+    permissions = linter["permissions"]
     lists = {
-        "events": lists_page.NAME.findall(definitions(crates / lists_page.EVENTS)["event_names"]),
-        # The rows are pairs of lists, each ended by `[]`: events, and their types.
-        "activity types": [name for types_of in events["activities"].split("[]")[1::2] for name in lists_page.NAME.findall(types_of)],
-        "input types": lists_page.NAME.findall(events["dispatch_types"]),
-        "keys": [field[0] for parts in rules for field in lists_page.fields_of(parts["fields"] or "")],
-        "contexts": lists_page.NAME.findall(types["context_name"]),
-        "functions": lists_page.NAME.findall(types["function_name"]),
-        "properties": lists_page.NAME.findall((crates / lists_page.FIXED).read_text(encoding="utf-8"))
-        + re.findall(r'\(codes "([^"]+)", ', objects["step_type"] + objects["job_field"]),
-        "shells": lists_page.NAME.findall(settings["shells"]),
-        "permission scopes": lists_page.NAME.findall(settings["permissions"]),
-        "permission values": lists_page.NAME.findall(settings["scope_values"] + settings["whole_values"]),
-        "using": lists_page.NAME.findall(definitions(crates / lists_page.USINGS)["runs_of"]),
+        "events": linter["events"],
+        "activity types": [name for types in linter["events"].values() for name in types or ()],
+        "input types": [name for types in linter["input_types"].values() for name in types],
+        "keys": [key for shape in linter["shapes"].values() for key in shape.get("keys", ())],
+        "contexts": linter["contexts"],
+        "functions": linter["signatures"],
+        "properties": properties(crates),
+        "shells": linter["shells"],
+        "permission scopes": permissions["scopes"],
+        "permission values": permissions["values"] + permissions["whole"],
+        "using": linter["runs_by_using"],
     }
-    empty = [name for name, found in lists.items() if not found]
-    if empty:
-        sys.exit(f"no names are found of {', '.join(empty)}")
     return {name: sorted(set(found)) for name, found in lists.items()}
 
 
-def syntax(top: Path) -> dict[str, dict | list]:
-    """What each shape of a value accepts, the rows of the table of places, contexts, functions, activity types, and meanings by list."""
-    crates = top / "crates"
+def properties(crates: Path) -> list[str]:
+    """The names of properties of contexts, from the definitions."""
+    objects = (crates / "al_check_contexts/specs/Contexts.antt").read_text(encoding="utf-8")
+    return [*lists_page.NAME.findall((crates / lists_page.FIXED).read_text(encoding="utf-8")), *OBJECT_PROPERTY.findall(objects)]
+
+
+def syntax(linter: Tables, top: Path) -> dict[str, dict | list]:
+    """What each shape of a value accepts, where expressions are and what is available to them, activity types, and meanings by list."""
     meanings = tomllib.loads((top / "clients/meanings.toml").read_text(encoding="utf-8"))
-    rows = lists_page.availability_rows(crates)
     return {
-        "shapes": shapes(lists_page.shape_table(crates), meanings),
-        "activity types": {name: types for name, types in lists_page.activity_types(crates).items() if types},
-        "call input types": lists_page.names_of((crates / lists_page.ACTIVITIES).read_text(encoding="utf-8"), "call_types"),
-        "permission values": {name: lists_page.names_of((crates / lists_page.SETTINGS).read_text(encoding="utf-8"), name)
-                              for name in ("scope_values", "whole_values")},
-        "places": {path: {"contexts": contexts, "functions": functions} for paths, contexts, functions in rows for path in paths},
-        "contexts": {name: {"properties": fields_of, "strict": others == "none"}
-                     for name, (fields_of, others) in lists_page.fixed_contexts(crates).items()},
-        "functions": {name: {"takes": takes, "gives": gives} for name, (takes, gives) in lists_page.functions(crates).items()},
+        "shapes": shapes(linter["shapes"], meanings),
+        "runs by using": linter["runs_by_using"],
+        "activity types": {name: types for name, types in sorted(linter["events"].items()) if types},
+        "call input types": linter["input_types"]["workflow_call"],
+        "permission values": {"scope_values": linter["permissions"]["values"], "whole_values": linter["permissions"]["whole"]},
+        "places": {".".join(row["path"]): {"contexts": row["contexts"], "functions": row["functions"]} for row in linter["places"]},
+        "other places": {name: linter["other_places"][name] for name in ("action", "condition of an action")},
+        "expressions": {"conditions": linter["conditions"],
+                        **{name: linter["expressions"][name] for name in ("only_outside_runs", "not_in_runs")}},
+        "contexts": {name: {"properties": fields_of} for name, (fields_of, _) in lists_page.fixed_contexts(top / "crates").items()},
+        "functions": {name: function(row) for name, row in linter["signatures"].items()},
         "meanings": {heading.removesuffix(UNCHECKED): found for heading, found in meanings.items() if found},
     }
 
 
-def shapes(text: str, meanings: dict[str, dict]) -> dict[str, dict]:
+def function(row: Tables) -> dict[str, str | bool]:
+    """What a function takes and gives, in words."""
+    parameters = [name.replace("not ", "any but ").replace("array or object", "object and array") for name in row["parameters"]]
+    takes = [name if number < row["least"] or row["more"] else f"optional {name}" for number, name in enumerate(parameters)]
+    return {"takes": ", ".join(takes) + (".." if row["more"] else ""), "gives": row["returns"], "everywhere": row["everywhere"]}
+
+
+def shapes(known: Tables, meanings: dict[str, dict]) -> dict[str, dict]:
     """For each shape, the scalars and items that it accepts, and its keys: those of a section, or free ones with values of a shape."""
-    found: dict[str, dict] = {}
-    for name, right in lists_page.EQUATION.findall(text):
-        anything = right.strip() == "None"
-        parts = {"scalars": "AnyScalar", "items": "Any", "free": None, "fields": None} if anything else lists_page.parts_of(right.strip())
-        shape = {"scalars": parts["scalars"], "items": parts["items"], "free": parts["free"]}
-        if parts["fields"]:
-            others = "wrong" if lists_page.NAME.search(parts["others"]) else parts["others"]
-            shape |= {"section": lists_page.name_of(name), "others": others, "keys": fields(parts["fields"])}
-        found[name] = shape
+    found: dict[str, dict] = {shape_name(name): shape(name, row) for name, row in known.items()}
     for heading, rows in meanings.items():
         if heading.endswith(UNCHECKED):
             section = heading.removesuffix(UNCHECKED)
             keys = {key: {"shape": "Any", "need": None, "clash": None} for key in rows}
             found[section.title().replace(" ", "")] = {"scalars": "AnyScalar", "items": None, "free": None, "section": section,
                                                        "others": "unchecked", "keys": keys}
-    for (shape_name, key), (below, is_named) in UNCHECKED_PLACES.items():
+    for (above, key), (below, is_named) in UNCHECKED_PLACES.items():
         found[f"Named{below}"] = {"scalars": "NoScalar", "items": None, "free": below}
-        found[shape_name]["keys"][key]["shape"] = f"Named{below}" if is_named else below
+        found[above]["keys"][key]["shape"] = f"Named{below}" if is_named else below
     return found
 
 
-def fields(text: str) -> dict[str, dict]:
-    """The fields of a section: `need` is True, None, or the key that can replace it; `clash` is the key that it can't be combined with."""
-    return {key: {"shape": shape, "need": need, "clash": other} for key, shape, need, _, other in lists_page.fields_of(text)}
+def shape_name(name: str) -> str:
+    return "On" if name == EVENTS else name
 
 
-def definitions(file: Path) -> dict[str, str]:
-    """The right sides of the equations of each name, one after another."""
-    found: dict[str, str] = {}
-    for name, right in re.findall(r"^(\w+)\b[^\n:]*? =(.*?)(?=^[\w-]|\Z)", file.read_text(encoding="utf-8"), re.M | re.S):
-        found[name] = found.get(name, "") + right
+def shape(name: str, row: Tables) -> dict:
+    found = {"scalars": SCALARS[row["scalars"]], "items": row.get("items"), "free": row.get("any_key")}
+    if "keys" in row:
+        keys = {key: field(it) for key, it in row["keys"].items()}
+        found |= {"section": lists_page.name_of(shape_name(name)), "others": row["others"], "keys": keys}
     return found
+
+
+def field(row: Tables) -> dict:
+    """A key of a section: `need` is True, None, or the key that can replace it; `clash` is the key that it can't be combined with."""
+    need = row.get("unless", True) if row["need"] == "must" else None
+    return {"shape": shape_name(row["shape"]), "need": need, "clash": row.get("not_after", row.get("not_beside"))}
 
 
 if __name__ == "__main__":

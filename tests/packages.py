@@ -86,7 +86,7 @@ def control(package, version):
     """What the package says about itself."""
     said = run(["dpkg-deb", "-f", package]).stdout.decode()
     wanted = ["Package: juzbrost-actionlint", f"Version: {version}", "Architecture: amd64", "Depends: libc6 (>= 2.34)",
-              "Recommends: python3, python3-pylsp-jsonrpc, python3-yaml"]
+              "Recommends: python3, python3-pylsp-jsonrpc"]
     return [f"{it} is missing" for it in wanted if it not in said.splitlines()]
 
 

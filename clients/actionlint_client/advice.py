@@ -9,6 +9,7 @@ from dataclasses import replace
 from itertools import chain, groupby, islice
 from typing import TYPE_CHECKING, Callable, Iterable, Iterator, NamedTuple
 
+from .child import LinterMissing
 from .entries import plain_text
 from .names import names
 from .problems import Problem
@@ -38,16 +39,17 @@ class FirstFixes:
 
     def __init__(self, program: str, root: str | None, files: Iterable[str]):
         """`files` are those that were named, which the server would have open."""
-        # Reports without fixes need no PyYAML.
         from .actions_on_disk import actions_below
         from .files import Files
         from .project import Project
+        from .reader import Reader
 
         folder = os.fsencode(root or ".")
         self._program, self._left, self._named = program, MAX_TRIED, files
         self._seconds_left = SECONDS_OF_A_REPORT
-        self._files = Files(folder, lambda _: None, False)
-        self._project = Project(self._files.read, lambda: list(self._files.wanted), lambda: actions_below(folder))
+        reader = Reader(program, SECONDS_OF_AN_ANSWER)
+        self._files = Files(folder, lambda _: None, reader, False)
+        self._project = Project(reader, self._files.read, lambda: list(self._files.wanted), lambda: actions_below(folder))
 
     def add_to(self, problems: Iterable[Problem]) -> Iterator[Problem]:
         """The same problems, the first ones of each file with the first fix that would be offered."""
@@ -69,7 +71,10 @@ class FirstFixes:
             data = self._files.read(path.removeprefix("./"))
             if data is not None:
                 self._files.edit(path.removeprefix("./"), data)
-        self._files.update()
+        try:
+            self._files.update()
+        except LinterMissing as error:
+            print(f"actionlint-report: no fixes, since {error}", file=sys.stderr)
 
     def _first_fixes(self, path: str, faults: list[Fault]) -> dict[Fault, Repair]:
         from .fixes import fixes

@@ -3,20 +3,14 @@ from __future__ import annotations
 
 import re
 from dataclasses import dataclass
-from typing import NamedTuple, Optional
+from typing import Optional
 
 TOKEN = re.compile(r"\s+|'[^']*(?:''[^']*)*'?|[A-Za-z_][\w-]*|[0-9][\w.]*|.", re.S)
 ANY = "*"
 
 
-class Link(NamedTuple):
-    """A name in a chain, and the offset of its first character. The name of an index that isn't one text is `*`."""
-
-    name: str
-    start: int
-
-
-Chain = Optional[list[Link]]
+# The names of a chain. The name of an index that isn't one text is `*`.
+Chain = Optional[list[str]]
 
 
 @dataclass
@@ -26,14 +20,13 @@ class _Open:
     sign: str
     chain: Chain
     parts: int = 0
-    text: Link | None = None
+    text: str | None = None
 
 
 class ChainReader:
-    """Reads an expression to its end. `found` are the chains that have ended, `chain` is the one that the text ends with, if it does."""
+    """Reads an expression to its end. `chain` is the one that the text ends with, if it does."""
 
     def __init__(self, text: str):
-        self.found: list[list[Link]] = []
         self.chain: Chain = None
         self.is_after_dot = self.is_after_operand = self.ends_in_name = False
         # Whether the last chain begins where an operator is expected.
@@ -44,7 +37,7 @@ class ChainReader:
         self._operators = ""
         self._open: list[_Open] = [_Open("", None)]
         for token in TOKEN.finditer(text):
-            self._take(token[0], token.start())
+            self._take(token[0])
 
     def indexed(self) -> Chain:
         """The chain whose index is the open text at the end."""
@@ -55,56 +48,50 @@ class ChainReader:
         """The chain that the open text at the end is compared with."""
         return self._compared if self.open_text is not None and self._operators in ("==", "!=") else None
 
-    def all_chains(self) -> list[list[Link]]:
-        """The chains of the whole text, in its order."""
-        self._end_chain()
-        left = [open_.chain for open_ in self._open if open_.chain]
-        return sorted(self.found + left, key=lambda chain: chain[0].start)
-
-    def _take(self, token: str, start: int) -> None:
+    def _take(self, token: str) -> None:
         self.ends_in_name = token[0].isalpha() or token[0] == "_"
         if token.isspace():
             return
         if token[0] == "'":
-            self._take_text(token, start)
+            self._take_text(token)
         elif self.ends_in_name:
-            self._take_name(Link(token, start))
+            self._take_name(token)
         elif token == ".":
             self.is_after_dot = True
         elif token == "*" and self.is_after_dot:
-            self._add(Link(ANY, start))
+            self._add(ANY)
         elif token in "[(":
             self._take_opening(token)
         elif token in "])":
-            self._take_closing(token, start)
+            self._take_closing(token)
         else:
             self._end_chain()
             self._operators += token
             self._open[-1].parts += 1
             self.is_after_operand = token[0].isdigit()
 
-    def _take_text(self, token: str, start: int) -> None:
+    def _take_text(self, token: str) -> None:
         self._end_chain()
         last = self._open[-1]
         last.parts += 1
         is_closed = len(token) > 1 and token.count("'") % 2 == 0
-        last.text = Link(token[1:-1], start + 1) if is_closed else None
+        last.text = token[1:-1] if is_closed else None
         self.open_text = None if is_closed else token[1:]
         self.is_after_operand = True
 
-    def _take_name(self, link: Link) -> None:
+    def _take_name(self, name: str) -> None:
         if self.is_after_dot:
-            self._add(link)
+            self._add(name)
             return
         self._end_chain()
         self.begins_after_operand = self.is_after_operand
-        self.chain, self.is_after_operand = [link], True
+        self.chain, self.is_after_operand = [name], True
         self._open[-1].parts += 1
 
-    def _add(self, link: Link) -> None:
+    def _add(self, name: str) -> None:
         """Continues the chain, if there is one before the dot."""
         if self.chain is not None:
-            self.chain.append(link)
+            self.chain.append(name)
         self.is_after_dot, self.is_after_operand = False, True
 
     def _take_opening(self, token: str) -> None:
@@ -119,7 +106,7 @@ class ChainReader:
         self._compared = None
         self.is_after_dot = self.is_after_operand = False
 
-    def _take_closing(self, token: str, start: int) -> None:
+    def _take_closing(self, token: str) -> None:
         last = self._open[-1]
         if last.sign == "(" and token == ")" and last.parts == 1:
             self._open.pop()
@@ -130,17 +117,12 @@ class ChainReader:
                 self._open.pop()
                 self.chain = last.chain
                 if self.chain is not None:
-                    self.chain.append(last.text if last.parts == 1 and last.text else Link(ANY, start))
+                    self.chain.append(last.text if last.parts == 1 and last.text is not None else ANY)
             elif last.sign in ("(", "f") and token == ")":
                 self._open.pop()
         self.is_after_dot, self.is_after_operand = False, True
 
     def _end_chain(self) -> None:
         if self.chain:
-            self.found.append(self.chain)
             self._compared, self._operators = self.chain, ""
         self.chain, self.is_after_dot = None, False
-
-
-def chains_in(expression: str) -> list[list[Link]]:
-    return ChainReader(expression).all_chains()

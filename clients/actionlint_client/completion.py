@@ -16,7 +16,7 @@ from .sections import activity_types, can_stand, github
 from .stricter import takes_access, takes_filter
 from .structure import address_of
 from .syntax import Shape, available, is_condition, key_of, meaning, section_at, shape_at, table, value_words
-from .text import Point, Span, end_of
+from .text import Point, Span
 from .tree import Node, Path
 from .used import Used, used_in
 
@@ -25,8 +25,8 @@ REST = re.compile(r"[^#,}\]\n]*")
 PLAIN = re.compile(r"[A-Za-z0-9_./][\w./@-]*")
 # The scalars of a shape that takes a mapping or a list, or one expression in place of it.
 NO_SCALARS = ("NoScalar", "Chunks")
-# GitHub has no such context in an action; the linter accepts it.
-NOT_IN_ACTIONS = ("vars",)
+# GitHub has no such contexts in an action; the linter accepts them.
+NOT_IN_ACTIONS = ("vars", "needs", "jobs")
 # What is inserted after a key that must have a value.
 FIRST_VALUES = {("workflow", "on"): " push", ("workflow", "jobs"): "\n  build:\n    runs-on: ubuntu-latest\n    steps:\n      - run: make"}
 
@@ -84,7 +84,7 @@ def offers(project: Project, file: str, point: Point, is_strict: bool = True) ->
         return place.span, []
     expression = None
     if place.role is not Role.KEY:
-        expression = expression_before(place.before, is_condition(file, place.path, cursor.levels))
+        expression = expression_before(place.before, is_condition(place.path))
     if expression is not None:
         before = chain_before(expression)
         line = project.lines(file)[point.line]
@@ -121,9 +121,9 @@ def is_after_sign(line: str, place: Place) -> bool:
 def names_in_expression(cursor: Cursor, before: Before) -> list[Offer]:
     """Contexts and functions, or properties of what is before the dot."""
     place = cursor.place
-    if available(cursor.file, place.path, cursor.levels) is None:
+    if available(cursor.file, place.path) is None:
         return []
-    scope = Scope(cursor.project, cursor.file, cursor.tree, place.path, cursor.levels)
+    scope = Scope(cursor.project, cursor.file, cursor.tree, place.path)
     quote = "''''" if place.before[:1] == "'" else "''"
     if before.is_compared:
         return [Offer(value, "value", value, "value") for value in dict.fromkeys(scope.values(before.chain))]

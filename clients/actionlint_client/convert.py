@@ -11,9 +11,10 @@ import sys
 import textwrap
 from typing import TYPE_CHECKING, BinaryIO, Iterable
 
-from . import library, shellcheck
-from .advice import FirstFixes
+from . import shellcheck
+from .advice import SECONDS_OF_AN_ANSWER, FirstFixes
 from .characters import terminal_text
+from .child import LinterEnded
 from .console import add_help_and_version
 from .entries import entries, explained
 from .forms import Annotations, CodeQuality, Form, JsonLines, OneLine, Outcome
@@ -23,7 +24,8 @@ from .notes.entries import NoNotes, entries_of_notes
 from .output import STANDARD_OUTPUT, report_output
 from .paths import path_of_word
 from .problems import Problem, problem_of
-from .program import WHICH, find_program
+from .program import WHICH, find_program, missing_facts
+from .reader import Reader
 from .report import BadReport
 from .sarif import Sarif, left_out_line
 from .terminal import WIDTH, Text, has_color
@@ -34,8 +36,6 @@ if TYPE_CHECKING:
 WRONG_WORDS = 2
 # The option that shows notes, and the value with which they count as faults do.
 NOTES, COUNT = "--notes", "error"
-# What scripts and trees of files are read with.
-LIBRARY = "yaml.cyaml"
 FORMS: dict[str, type[Form]] = {
     "sarif": Sarif, "codequality": CodeQuality, "jsonl": JsonLines, "github": Annotations, "oneline": OneLine, "text": Text}
 
@@ -50,10 +50,10 @@ def main(words: list[str] | None = None) -> int:
         if options.explain is not None:
             return explain(options.explain)
         is_needed = options.shellcheck or options.diff or options.fix
-        lacks = library.missing([LIBRARY]) if is_needed or FORMS[options.form].shows_fixes else ""
+        lacks = missing_facts(options.program) if is_needed or FORMS[options.form].shows_fixes else ""
         if is_needed and lacks:
             return _fail(lacks)
-        # Without the library a report has no fixes.
+        # Without actionlint-facts a report has no fixes.
         options.shows_fixes = FORMS[options.form].shows_fixes and not lacks
         ignored = Ignored([*map(path_of_word, options.ignore), *(rule for file in options.ignore_file for rule in rules_in(file))])
         if options.diff:
@@ -69,6 +69,8 @@ def main(words: list[str] | None = None) -> int:
         return _fail(str(error), WRONG_WORDS)
     except (CannotStart, NoNotes, shellcheck.ShellcheckFailed) as error:
         return _fail(str(error))
+    except LinterEnded as error:
+        return _fail(f"actionlint-facts: {error}")
     except BadReport as error:
         return _fail(f"{options.program} is not the linter: {error}")
     except OSError as error:
@@ -170,7 +172,8 @@ def _notes(options: argparse.Namespace, unread: set[str], outcome: Outcome) -> I
 
         yield from notes(options.program, root, files, options.notes == COUNT, outcome.say)
     if options.shellcheck:
-        yield from shellcheck.notes(root, files, unread, outcome.say)
+        reader = Reader(options.program, SECONDS_OF_AN_ANSWER)
+        yield from shellcheck.notes(reader, root, files, unread, outcome.say)
 
 
 def _tell(problem: Problem, form: Form, ignored: Ignored, outcome: Outcome) -> None:

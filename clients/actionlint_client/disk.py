@@ -7,9 +7,9 @@ import stat
 from dataclasses import dataclass
 from typing import Callable, Iterable
 
+from .linter_limits import MAX_FILE_BYTES
 from .paths import WORKFLOWS, is_below, is_workflow
 
-MAX_FILE_BYTES = 1_048_576
 READ_BYTES = 65_536
 MAX_TOLD = 10
 # Pipes, devices and kernel logs are opened without waiting, and no terminal becomes this program's.

@@ -4,7 +4,7 @@ from __future__ import annotations
 import re
 from typing import Callable
 
-from .expressions import CHAIN, NAME, STRING
+from .expressions import NAME, STRING
 from .operators import grouped, operators, parts, tokens
 
 DOUBLE_QUOTED = re.compile(r'\\?"([^"\\]*)\\?"')
@@ -24,6 +24,8 @@ AMONG = re.compile(rf"(?<![\w.-])({NAME}(?:\.{NAME})*)\s+(not\s+)?in\s+[\[(]([^\
 LISTED = re.compile(rf"(?<![\w.-])({NAME}(?:\.{NAME})*)\s*([=!])=\s*\[([^\[\]()]*)\]")
 TEXT_IN = re.compile(rf"(?:\bcontains\(\s*)?('[^']*')\s+in\s+({NAME}(?:\.(?:{NAME}|\*))*)(?![\w.(\[])")
 LIST_ARGUMENT = re.compile(r"\(\s*\[([^\[\]]*)\]\s*,")
+# A chain of names in a text that isn't an expression.
+CHAIN = re.compile(rf"(?<![\w.'-]){NAME}(?:\s*\.\s*(?:{NAME}|\*)|\[\s*'[^']*'\s*\]|\[[^\[\]']*\])*")
 SUM = re.compile(rf"({CHAIN.pattern}|'[^']*')((?:\s*\+\s*(?:{CHAIN.pattern}|'[^']*'))+)")
 COMPARISONS = ("==", "!=", "<", ">", "<=", ">=")
 

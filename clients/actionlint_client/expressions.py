@@ -3,10 +3,11 @@ from __future__ import annotations
 
 import re
 from dataclasses import dataclass
-from typing import Iterator, NamedTuple
+from typing import NamedTuple
 
 from . import project as files
 from .chains import ChainReader
+from .linter_limits import MAX_EXPRESSION_BYTES
 from .names import names as known_names
 from .markdown import Markdown, escaped_or_none
 from .paths import is_workflow
@@ -16,12 +17,7 @@ from .syntax import available, meaning, table
 from .tree import Node, Path
 
 NAME = r"[A-Za-z_][\w-]*"
-CHAIN = re.compile(rf"(?<![\w.'-]){NAME}(?:\s*\.\s*(?:{NAME}|\*)|\[\s*'[^']*'\s*\]|\[[^\[\]']*\])*")
-LINK = re.compile(rf"({NAME}|\*)|\[\s*'([^']*)'\s*\]|\[[^\[\]']*\]")
 STRING = re.compile(r"'[^']*(?:''[^']*)*'")
-STRING_OR_END = re.compile(r"'[^']*(?:''[^']*)*'|\}\}")
-# The linter refuses longer ones.
-MAX_EXPRESSION_BYTES = 21_000
 
 
 class Before(NamedTuple):
@@ -57,32 +53,14 @@ def chain_before(expression: str) -> Before | None:
     reader = ChainReader(expression)
     if reader.open_text is not None:
         before = reader.indexed() or reader.compared()
-        return Before(tuple(link.name for link in before), reader.open_text, reader.indexed() is None) if before else None
-    names = tuple(link.name for link in reader.chain or ())
+        return Before(tuple(before), reader.open_text, reader.indexed() is None) if before else None
+    names = tuple(reader.chain or ())
     if reader.is_after_dot:
         return Before(names, "") if names else None
     if names and reader.ends_in_name:
         is_first = len(names) == 1
         return None if is_first and reader.begins_after_operand else Before(names[:-1], names[-1])
     return None if reader.is_after_operand else Before((), "")
-
-
-def expressions_in(text: str) -> Iterator[tuple[int, str]]:
-    """The expressions in braces of a text, and the offset of each. Braces in their strings don't end them."""
-    end = 0
-    while (start := text.find("${{", end)) >= 0 and (end := _end_of_expression(text, start)) >= 0:
-        yield start + len("${{"), text[start + len("${{"):end]
-
-
-def _end_of_expression(text: str, start: int) -> int:
-    """The offset of the closing braces, -1 without any."""
-    found = next((token for token in STRING_OR_END.finditer(text, start) if token[0] == "}}"), None)
-    return found.start() if found else -1
-
-
-def links(chain: str) -> tuple[str, ...]:
-    """The names of a chain. An index that isn't a string is `*`."""
-    return tuple(match[1] or match[2] or "*" for match in LINK.finditer(chain))
 
 
 @dataclass(frozen=True)
@@ -93,7 +71,6 @@ class Scope:
     file: str
     tree: Node | None
     path: Path
-    levels: tuple[dict[str, str], ...]
 
     @property
     def job(self) -> str | None:
@@ -101,12 +78,12 @@ class Scope:
 
     def contexts(self) -> list[Property]:
         """The contexts that are available here and have properties."""
-        found = available(self.file, self.path, self.levels)
+        found = available(self.file, self.path)
         return [Property(name, "context", meaning("contexts", name)) for name in (found[0] if found else [])
                 if name in ("env", "vars", "secrets") or self.properties((name,))]
 
     def functions(self) -> list[str]:
-        found = available(self.file, self.path, self.levels)
+        found = available(self.file, self.path)
         return found[1] if found else []
 
     def properties(self, chain: tuple[str, ...]) -> list[Property]:

@@ -82,7 +82,12 @@ class Facts(Child):
         return list(self._asked("lacks")["lacks"])
 
     def tree(self, path: str) -> Node:
-        return read_node(self._asked("tree", path)["tree"])
+        return read_node(self.answered_tree(path))
+
+    def answered_tree(self, path: str) -> Json:
+        """The tree as it is answered (docs/FACTS.md). Raises `NoTree`."""
+        root: Json = self._asked("tree", path)["tree"]
+        return root
 
     def expressions(self, path: str) -> list[Place]:
         return [read_place(one) for one in self._asked("expressions", path)["expressions"]]

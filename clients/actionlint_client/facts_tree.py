@@ -51,6 +51,11 @@ class Node:
     def is_null(self) -> bool:
         return self.schema_class == "null"
 
+    @property
+    def is_empty(self) -> bool:
+        """Whether nothing is written in its place."""
+        return self.kind == "scalar" and self.start == self.end
+
     def get(self, *path: Key) -> Node | None:
         """The node at the end of a path of keys and positions."""
         node: Node | None = self
@@ -200,6 +205,38 @@ def walk(expression: Expression) -> Iterator[Expression]:
         yield from walk(expression.first)
         for _, operand in expression.rest:
             yield from walk(operand)
+
+
+def chains_in(expression: Expression) -> Iterator[tuple[Expression, list[Word]]]:
+    """The chains of names in an expression, such as `needs.build.outputs['list']`, with the names of each; one in an index comes after the
+    one around it."""
+    bases: set[int] = set()
+    for part in walk(expression):
+        if isinstance(part, Path):
+            bases.add(id(_inner(part.base)))
+        names = _names_of(part) if isinstance(part, (Path, Word)) and id(part) not in bases else []
+        if names:
+            yield part, names
+
+
+def _names_of(chain: Expression) -> list[Word]:
+    """The names of a chain. An index that isn't a string is `*`. Nothing if it begins otherwise."""
+    chain = _inner(chain)
+    if isinstance(chain, Word):
+        return [chain] if chain.kind == "name" else []
+    found = _names_of(chain.base) if isinstance(chain, Path) else []
+    for step in chain.steps if found and isinstance(chain, Path) else ():
+        index = step.index
+        if isinstance(index, Word) and index.kind == "string":
+            found.append(Word("name", index.text[1:-1].replace("''", "'"), index.start, index.end))
+        else:
+            found.append(Word("name", step.text or "*", step.start, step.end))
+    return found
+
+
+def _inner(expression: Expression) -> Expression:
+    """An expression without the brackets around it."""
+    return _inner(expression.inner) if isinstance(expression, Group) else expression
 
 
 def read_fault(said: Json) -> CodedFault:

@@ -3,9 +3,10 @@ from __future__ import annotations
 
 from typing import Callable, Iterable
 
-from .calls import callees
+from .child import LinterEnded, LinterMissing
 from .disk import Disk
-from .paths import is_linted
+from .paths import is_action, is_linted
+from .reader import Reader
 
 NO_CALLS: frozenset[str] = frozenset()
 
@@ -14,16 +15,19 @@ class Files:
     """The folder holds what `actionlint --root DIR` lints, the workflows and the actions that they call, and every open file. `update`
     computes that, if possible from the edited files only."""
 
-    def __init__(self, root: bytes, say: Callable[[str], None], keeps_calls: bool):
+    def __init__(self, root: bytes, say: Callable[[str], None], reader: Reader, keeps_calls: bool):
         """With `keeps_calls`, a file that isn't valid YAML while it is edited still calls what it called before."""
         self.wanted: dict[str, bytes] = {}
         self.unreadable: dict[str, str] = {}
         self._disk = Disk(root, say)
+        self._say, self._reader = say, reader
         self._keeps_calls = keeps_calls
         self._buffers: dict[str, bytes] = {}
         self._calls: dict[str, tuple[bytes, frozenset[str]]] = {}
         self._edited: set[str] = set()
         self._disk_may_differ = True
+        # Whether `wanted` is what was last found.
+        self._is_found = False
 
     def edit(self, path: str, data: bytes | None) -> None:
         """Sets the bytes of a file's buffer, or None if it is no longer open."""
@@ -46,14 +50,22 @@ class Files:
         return self._data(path)
 
     def is_stale(self) -> bool:
-        return self._disk_may_differ or bool(self._edited)
+        return self._disk_may_differ or bool(self._edited) or not self._is_found
 
     def update(self) -> set[str]:
-        """Updates `wanted` and `unreadable`, and returns the paths at which they may have changed."""
+        """Updates `wanted` and `unreadable`, and returns the paths at which they may have changed. Raises `LinterMissing`; then the next
+        update begins anew."""
         edited, self._edited = self._edited, set()
+        try:
+            return self._update(edited)
+        except LinterMissing:
+            self._is_found = False
+            raise
+
+    def _update(self, edited: set[str]) -> set[str]:
         disk_differs = self._disk_may_differ and self._disk.rescan()
         self._disk_may_differ = False
-        if not disk_differs and all(map(self._stays_where_it_is, edited)):
+        if self._is_found and not disk_differs and all(map(self._stays_where_it_is, edited)):
             self.wanted.update((path, data) for path in edited if (data := self._data(path)) is not None)
             return edited
         wanted, unreadable = self.wanted, self.unreadable
@@ -75,7 +87,8 @@ class Files:
 
     def _find(self) -> None:
         """The workflows, the open files, and the actions that these call, one after another."""
-        self.wanted, self.unreadable = {}, {}
+        wanted: dict[str, bytes] = {}
+        unreadable: dict[str, str] = {}
         seen: set[str] = set()
         waiting = [*self._disk.workflows, *self._buffers]
         while waiting:
@@ -85,17 +98,34 @@ class Files:
             seen.add(path)
             data = self._data(path)
             if data is not None:
-                self.wanted[path] = data
+                wanted[path] = data
                 waiting.extend(self._calls_of(path, data))
             elif error := self._disk.file(path).error:
-                self.unreadable[path] = error
-        self._calls = {path: known for path, known in self._calls.items() if path in self.wanted}
+                unreadable[path] = error
+        self.wanted, self.unreadable, self._is_found = wanted, unreadable, True
+        self._calls = {path: known for path, known in self._calls.items() if path in wanted}
         self._disk.keep(seen)
 
     def _calls_of(self, path: str, data: bytes) -> frozenset[str]:
         before, known = self._calls.get(path, (None, NO_CALLS))
         if before is not data:
-            found = callees(path, data)
+            found = self._called(path, data) if known or may_call(data) else NO_CALLS
             known = found if found is not None else known if self._keeps_calls else NO_CALLS
             self._calls[path] = data, known
         return known
+
+    def _called(self, path: str, data: bytes) -> frozenset[str] | None:
+        """The paths at which a file's calls look for actions, or None if that isn't known."""
+        try:
+            called = self._reader.calls(path, data)
+            return None if called is None else frozenset(filter(is_action, called))
+        except LinterMissing:
+            raise
+        except LinterEnded as error:
+            self._say(f"{path}: the actions that it calls aren't known: {error}")
+            return None
+
+
+def may_call(data: bytes) -> bool:
+    """Whether a file may call another one of its folder: such a call is written out, or it has escapes."""
+    return b"uses" in data and b"./" in data or b"\\" in data

@@ -12,8 +12,8 @@ from typing import Callable, Iterable, NamedTuple, Sequence, Tuple
 from . import (repairs_blocks, repairs_calls, repairs_expressions, repairs_keys, repairs_kinds, repairs_leftovers, repairs_levels,
                repairs_names, repairs_rules, repairs_scripts, repairs_steps, repairs_values, repairs_yaml)
 from .child import LinterEnded
-from .disk import MAX_FILE_BYTES
 from .entries import entry_of
+from .linter_limits import MAX_FILE_BYTES
 from .paths import is_workflow
 from .project import Project
 from .repair import Case, Edit, Repair, replaced

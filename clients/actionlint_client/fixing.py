@@ -52,7 +52,7 @@ class Fixing:
         self.is_cut = False
         self._program, self._root, self._choice = program, root, choice
         self._folder = Folder(root, program, say)
-        self._project = Project(self._folder.read, self._folder.paths, lambda: actions_below(root))
+        self._project = Project(self._folder.reader, self._folder.read, self._folder.paths, lambda: actions_below(root))
         self._before: dict[str, bytes] = {}
         # The faults of which no fix was to be taken, by file, message and line, and those whose fixes didn't leave the folder better.
         self._hopeless: set[tuple[str, str, str]] = set()

@@ -10,22 +10,22 @@ from dataclasses import dataclass
 from typing import Callable, Iterable
 
 from .child import LinterEnded, LinterMissing, LinterSilent
-from .disk import MAX_FILE_BYTES
 from .faults import FaultReader, FileFaults, Form, LongReport
 from .files import Files
-from .paths import MAX_PATH_BYTES, is_workflow
+from .linter_limits import MAX_FILE_BYTES, MAX_FILES, MAX_PATH_BYTES
+from .paths import is_workflow
+from .reader import Reader
 from .report import BadReport
 from .session import Session
 
-MAX_FILES = 4_096
 ENDS_OF_A_FILE = 2
 
 BAD_PATH, TOO_LARGE, FULL = "refused E1", "refused E3", "refused E4"
 ENDED_AT, REPORTS_TOO_MUCH = "ended", "reports too much"
 REASONS = {
-    BAD_PATH: "not linted, since its path has more than 1,024 bytes, a control character or a backslash",
-    TOO_LARGE: "not linted, since it has more than 1,048,576 bytes",
-    FULL: "not linted, since the folder has 4,096 other workflows and actions",
+    BAD_PATH: f"not linted, since its path has more than {MAX_PATH_BYTES:,} bytes, a control character or a backslash",
+    TOO_LARGE: f"not linted, since it has more than {MAX_FILE_BYTES:,} bytes",
+    FULL: f"not linted, since the folder has {MAX_FILES:,} other workflows and actions",
     ENDED_AT: "not linted, since the linter stopped at it twice",
     REPORTS_TOO_MUCH: "not linted, since the report of its faults is too long",
 }
@@ -89,7 +89,8 @@ class Folder:
     def __init__(self, root: bytes, program: Program, say: Callable[[str], None], keeps_calls: bool = False):
         """`keeps_calls` is that of `Files`."""
         self._program, self._say = program, say
-        self._files = Files(root, say, keeps_calls)
+        self.reader = Reader(program.words[0], program.timeout)
+        self._files = Files(root, say, self.reader, keeps_calls)
         self._session: Session | None = None
         self._oneline = False
         self._put_files: dict[str, PutFile] = {}
@@ -153,23 +154,42 @@ class Folder:
         return put.data if put else b""
 
     def close(self) -> None:
+        self.reader.close()
+        self._end_session()
+
+    def _end_session(self) -> None:
         if self._session:
             self._session.stop()
             self._session = None
 
     def _refresh(self) -> Result:
         if self._files.is_stale():
-            changed = self._files.update()
-            self._unsent |= changed
-            self._untold |= changed
+            self._update_files()
         self._send_changes()
         if self._needs_report:
             self._read_report()
         told, self._untold = self._untold, set()
         return Result(self._reader.files, self._refused | self._files.unreadable, told)
 
+    def _update_files(self) -> None:
+        try:
+            changed = self._files.update()
+        except LinterMissing:
+            # If the linter is missing as well, that is told.
+            self._started()
+            raise
+        self._unsent |= changed
+        self._untold |= changed
+
+    def _started(self) -> Session:
+        if self._session is None:
+            self._session = Session(self._program.words, self._oneline, self._program.timeout)
+            self.reader.check()
+            self._missing = ""
+        return self._session
+
     def _forget_session(self) -> None:
-        self.close()
+        self._end_session()
         self._untold |= {*self._put_files, *self._reader.files}
         self._unsent = set(self._files.wanted)
         self._put_files.clear()
@@ -235,11 +255,9 @@ class Folder:
         left_out = self._left_out.get(path)
         if left_out is not None and left_out.data == data and left_out.ends >= ENDS_OF_A_FILE:
             return left_out.reply
-        if self._session is None:
-            self._session = Session(self._program.words, self._oneline, self._program.timeout)
-            self._missing = ""
+        session = self._started()
         try:
-            return self._session.put(path, data[:MAX_FILE_BYTES + 1])
+            return session.put(path, data[:MAX_FILE_BYTES + 1])
         except LinterEnded:
             ends = left_out.ends if left_out is not None and left_out.data == data else 0
             self._left_out[path] = LeftOut(data, ENDED_AT, ends + 1)

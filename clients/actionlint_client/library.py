@@ -8,9 +8,8 @@ import sys
 from typing import Iterable
 
 SYSTEM_PYTHON = "/usr/bin/python3"
-# The modules that the language server needs, and the package of each. `yaml.cyaml` is there if PyYAML has libyaml: without it, PyYAML refuses
-# some files that the linter reads, and is ten times slower.
-DEBIAN_PACKAGES = {"pylsp_jsonrpc": "python3-pylsp-jsonrpc", "yaml.cyaml": "python3-yaml"}
+# The modules that the language server needs, and the package of each.
+DEBIAN_PACKAGES = {"pylsp_jsonrpc.endpoint": "python3-pylsp-jsonrpc"}
 
 
 def missing(names: Iterable[str] = DEBIAN_PACKAGES) -> str:

@@ -3,11 +3,12 @@ from __future__ import annotations
 
 import re
 
+from .names import names
 from .operators import Choice, choice, tokens
 
 PAIRS = {"(": ")", "[": "]"}
-CONTEXTS = "github|env|vars|job|jobs|steps|runner|secrets|strategy|matrix|needs|inputs"
-FUNCTIONS = "contains|startsWith|endsWith|format|join|toJSON|fromJSON|hashFiles|success|always|cancelled|failure"
+CONTEXTS = "|".join(names()["contexts"])
+FUNCTIONS = "|".join(names()["functions"])
 TEMPLATE = re.compile(r"`([^`'{}]*(?:\$\{[\w.-]+\}[^`'{}]*)+)`")
 IN_TEMPLATE = re.compile(r"\$\{([\w.-]+)\}")
 BETWEEN_NAMES = re.compile(rf"(?<![\w.-])({CONTEXTS})(?:->|\.\.|::?|/)(?=[A-Za-z_])")

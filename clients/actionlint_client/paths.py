@@ -4,10 +4,11 @@ from __future__ import annotations
 import os
 import re
 
+from .linter_limits import MAX_PATH_BYTES
+
 WORKFLOWS = ".github/workflows"
 WORKFLOW_ENDINGS = (".yml", ".yaml")
 ACTION_NAMES = ("action.yml", "action.yaml")
-MAX_PATH_BYTES = 1_024
 # A control character, a backslash, or a part between slashes that is empty or dots.
 NO_PATH = re.compile(r"[\x00-\x1f\x7f\\]|(?:^|/)\.{0,2}(?:/|\Z)")
 

@@ -8,7 +8,7 @@ from enum import Enum
 from functools import lru_cache
 from typing import NamedTuple, Sequence
 
-from .text import Point, Span, end_of
+from .text import Point, Span
 from .tree import Path
 
 DASH = re.compile(r"-(?= |$)")

@@ -8,6 +8,7 @@ from pathlib import Path
 
 FINDER = Path(__file__).resolve().parents[1] / "which-actionlint"
 FACTS = "actionlint-facts"
+SUFFIX = "-facts"
 FACTS_OF_A_CLONE = ("crates/al_facts/out/al_facts", f"prebuilt/{FACTS}")
 WHICH = "the one that the variable ACTIONLINT names, else that of this release or clone, else actionlint on the PATH"
 WHERE_NAMED = "--program or the variable ACTIONLINT names the linter"
@@ -24,18 +25,31 @@ def find_program(named: str | None) -> str:
 
 def cannot_start(program: str, error: OSError) -> str:
     """Why a program can't be started, and how to name another one."""
-    where = FACTS_NAMED if os.path.basename(program) == FACTS else WHERE_NAMED
+    where = FACTS_NAMED if program.endswith(SUFFIX) else WHERE_NAMED
     return f"cannot start {program}: {error.strerror}; {where}"
 
 
 def find_facts(linter: str) -> str:
-    """The absolute path of actionlint-facts: the one that the variable ACTIONLINT_FACTS names, else the one beside a linter, which may have
-    the linter's own name, in a clone the one that was built last or the prebuilt one, else the one on the PATH."""
+    """The absolute path of actionlint-facts: the one that the variable ACTIONLINT_FACTS names, else the one beside the linter, by its name,
+    else in a clone the one that was built last or is carried, else the one on the PATH."""
     named = os.environ.get("ACTIONLINT_FACTS")
-    beside = Path(linter).with_name(f"{Path(linter).name}-facts")
-    folders = [Path(linter).parent, FINDER.parents[1]]
-    places = [Path(named)] if named else [beside, *(folder / path for folder in folders for path in (FACTS, *FACTS_OF_A_CLONE))]
-    # (the link in a clone points to a script, which builds the program if none fits)
-    found = next((place for place in places if named or not place.is_symlink() and place.is_file() and os.access(place, os.X_OK)), None)
-    on_path = shutil.which(FACTS)
-    return os.path.abspath(found or on_path or Path(linter).with_name(FACTS))
+    if named:
+        return os.path.abspath(named)
+    # (a linter without a folder is none that was found)
+    linters = [Path(linter), Path(os.path.realpath(linter))] if os.path.dirname(linter) else []
+    beside = [one.with_name(one.name + SUFFIX) for one in linters]
+    folders = [*(one.parent for one in linters[:1]), FINDER.parents[1]]
+    places = beside + [folder / path for folder in folders for path in (FACTS, *FACTS_OF_A_CLONE)]
+    found = next((os.path.abspath(place) for place in places if _is_facts(place)), None)
+    return found or shutil.which(FACTS) or str(Path(linter).with_name(FACTS))
+
+
+def _is_facts(place: Path) -> bool:
+    """Whether there is such a program. The link in a clone leads to a script, which builds the program if none fits."""
+    return os.access(place, os.X_OK) and place.resolve().name.endswith((SUFFIX, FACTS_OF_A_CLONE[0].rpartition("/")[2]))
+
+
+def missing_facts(linter: str) -> str:
+    """Says that actionlint-facts can't be run, and is empty if it can."""
+    found = find_facts(linter)
+    return "" if os.access(found, os.X_OK) else f"cannot start {found}: there is no such program; {FACTS_NAMED}"

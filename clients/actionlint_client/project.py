@@ -3,11 +3,16 @@ from __future__ import annotations
 
 import re
 from dataclasses import dataclass
-from typing import Callable, Collection, Iterable, NamedTuple
+from typing import TYPE_CHECKING, Callable, Collection, Iterable, NamedTuple
 
+from .child import LinterEnded
 from .paths import ACTION_NAMES, is_action, is_path, is_workflow
 from .text import LINE_BREAK
-from .tree import Node, Path, read_tree
+from .tree import Node, Path
+
+if TYPE_CHECKING:
+    from .facts_tree import Place
+    from .reader import Reader
 
 # Files whose texts and trees are held, besides those that are open.
 MAX_HELD = 64
@@ -28,7 +33,7 @@ class Declaration(NamedTuple):
 
 @dataclass
 class _Known:
-    """A file's bytes and text, its lines and tree if they were asked for, and its last valid tree."""
+    """A file's bytes and text, its lines, tree and expressions if they were asked for, and its last valid tree."""
 
     data: bytes
     text: str
@@ -36,18 +41,20 @@ class _Known:
     tree: Node | None = None
     is_read: bool = False
     good: Node | None = None
+    expressions: dict[int, Place] | None = None
 
 
-NO_FILE = _Known(b"", "", [""], is_read=True)
+NO_FILE = _Known(b"", "", [""], is_read=True, expressions={})
 
 
 class Project:
     """`read` returns the current bytes of a file, `paths` the linted workflows and actions, `actions` all actions. `is_open` tells whether
     a file is open in the editor, and `is_too_large` whether the linter refuses it as too large; such a file has no tree."""
 
-    def __init__(self, read: Callable[[str], bytes | None], paths: Callable[[], Iterable[str]],
+    def __init__(self, reader: Reader, read: Callable[[str], bytes | None], paths: Callable[[], Iterable[str]],
                  actions: Callable[[], Iterable[str]] | None = None, is_open: Callable[[str], bool] = lambda _: False,
                  is_too_large: Callable[[str], bool] = lambda _: False):
+        self._reader = reader
         self.read, self.paths, self.is_too_large, self._is_open = read, paths, is_too_large, is_open
         self.actions = actions or (lambda: (path for path in paths() if is_action(path)))
         # What other modules remember about a file, each by a name of its own.
@@ -86,8 +93,19 @@ class Project:
         lines = [*self.lines(file)]
         if line < len(lines):
             lines[line] = ""
-        known.good = read_tree("\n".join(lines)) or known.good
+        known.good = self._tree_of(file, "\n".join(lines).encode("utf-8", "surrogatepass")) or known.good
         return known.good
+
+    def expressions(self, file: str) -> dict[int, Place]:
+        """The scalars of a file that have expressions, by the byte at which they begin. None of them while it isn't valid YAML."""
+        known = self._read(file)
+        if known.expressions is None:
+            try:
+                # A scalar with an anchor is there for each of its aliases too.
+                known.expressions = {place.start: place for place in self._reader.expressions(file, known.data)}
+            except LinterEnded:
+                return {}
+        return known.expressions
 
     def has(self, file: str) -> bool:
         return self.read(file) is not None
@@ -109,6 +127,13 @@ class Project:
             self._let_go()
         return known
 
+    def _tree_of(self, file: str, data: bytes) -> Node | None:
+        """The tree of a text, or None if it isn't valid YAML or can't be read now."""
+        try:
+            return self._reader.tree(file, data)
+        except LinterEnded:
+            return None
+
     def _let_go(self) -> None:
         """Forgets the files that were used least lately."""
         too_many = len(self._known) - MAX_HELD
@@ -124,7 +149,7 @@ class Project:
         if self.is_too_large(file):
             return NO_FILE
         if not known.is_read:
-            tree = read_tree(known.text)
+            tree = self._tree_of(file, known.data)
             known.good = tree or known.good
             known.tree, known.is_read = tree, True
         return known

@@ -1,24 +1,14 @@
 """Which names of a file refer to the same thing: jobs, steps, inputs, outputs, secrets, rows of a matrix, anchors, called files."""
 from __future__ import annotations
 
-import re
 from typing import Iterator, NamedTuple
 
 from . import project as files
-from .chains import Link, chains_in
-from .expressions import MAX_EXPRESSION_BYTES, expressions_in
+from .facts_tree import Place, Word, chains_in
 from .paths import is_workflow
 from .project import Project
-from .syntax import CONDITIONS
-from .text import Places, Point, Span, end_of
+from .text import Point, Span
 from .tree import Node, Path, walk
-
-# Two quotes for one in single quotes, and the start of an expression; escapes in double quotes.
-DOUBLED = re.compile(r"''|\$\{\{")
-ESCAPE = re.compile(r"\\.")
-ANCHOR = re.compile(r"[&*]([^\s,\[\]{}]+)")
-PROPERTY = re.compile(r"&\S+\s+|")
-CONDITION_KEYS = {key for keys in CONDITIONS.values() for key in keys}
 
 
 class Symbol(NamedTuple):
@@ -54,7 +44,7 @@ def occurrences(project: Project, file: str) -> list[Occurrence]:
     if not isinstance(known, _Known) or known.data != data or any(project.callee(*call) != callee for call, callee in known.calls.items()):
         tree = project.tree(file)
         finder = _Finder(project, file, tree) if tree else None
-        found = list(finder.find()) if finder else []
+        found = finder.find() if finder else []
         known = project.memory["names", file] = _Known(data, finder.calls if finder else {}, found)
     return known.found
 
@@ -80,8 +70,7 @@ def callers(project: Project, file: str) -> list[str]:
 class _Finder:
     def __init__(self, project: Project, file: str, tree: Node):
         self.project, self.file, self.tree = project, file, tree
-        self.text = project.text(file)
-        self._places = Places(self.text)
+        self._data = project.read(file) or b""
         self.calls: dict[tuple[str | None, bool], str | None] = {}
         self._anchors: dict[str, int] = {}
         self._jobs = {name.lower(): name for name in tree.names("jobs")}
@@ -92,14 +81,21 @@ class _Finder:
             self.calls[uses, of_job] = self.project.callee(uses, of_job)
         return self.calls[uses, of_job]
 
-    def find(self) -> Iterator[Occurrence]:
+    def find(self) -> list[Occurrence]:
+        """The places of names, in the order of the text."""
+        found: list[Occurrence] = []
+        jobs: dict[int, str | None] = {}
         for path, key, value in walk(self.tree):
             if key is not None:
-                yield from self._of_key(path, key)
+                found += self._of_key(path, key)
             if value.anchor or value.alias:
-                yield from self._of_anchor(value)
+                found.append(self._of_anchor(value))
             if value.kind == "scalar" and value.alias is None:
-                yield from self._of_scalar(path, value)
+                found += self._of_scalar(path, value)
+                jobs[value.start] = self._job_of(path)
+        for start, place in self.project.expressions(self.file).items():
+            found += self._of_expressions(place, jobs.get(start))
+        return sorted(found, key=lambda one: one.span.start)
 
     def _of_key(self, path: Path, key: Node) -> Iterator[Occurrence]:
         declared = self._declared_by_key(path)
@@ -140,21 +136,21 @@ class _Finder:
         kind = "input" if path[-2] == "with" else "secret"
         return Symbol(kind, callee, "", str(path[-1]).lower()) if callee else None
 
-    def _of_anchor(self, node: Node) -> Iterator[Occurrence]:
+    def _of_anchor(self, node: Node) -> Occurrence:
         """An anchor, or an alias of the last anchor of its name."""
-        start = self._places.offset(node.span.start)
-        match = ANCHOR.match(self.text, start)
-        if match is None:
-            return
         if node.anchor:
             self._anchors[node.anchor] = self._anchors.get(node.anchor, 0) + 1
         name = node.anchor or node.alias or ""
         symbol = Symbol("anchor", self.file, str(self._anchors.get(name, 0)), name)
-        yield Occurrence(symbol, self.file, self._places.span(*match.span(1)), node.anchor is not None)
+        start = node.sign + 1
+        return Occurrence(symbol, self.file, node.places.span(start, start + len(name.encode("utf-8"))), node.anchor is not None)
+
+    def _job_of(self, path: Path) -> str | None:
+        return str(path[1]) if is_workflow(self.file) and path[:1] == ("jobs",) and len(path) > 1 else None
 
     def _of_scalar(self, path: Path, value: Node) -> Iterator[Occurrence]:
         key = next((step for step in reversed(path) if isinstance(step, str)), "")
-        job = str(path[1]) if is_workflow(self.file) and path[:1] == ("jobs",) and len(path) > 1 else None
+        job = self._job_of(path)
         is_of_step = len(path) > 2 and isinstance(path[-2], int) and path[-3] == "steps"
         if key == "id" and is_of_step:
             yield Occurrence(Symbol("step", self.file, (job or "").lower(), value.value.lower()), self.file, self._inner(value), True)
@@ -164,33 +160,26 @@ class _Finder:
                 yield Occurrence(Symbol("file", callee, "", ""), self.file, self._inner(value), False)
         elif key == "needs" and job is not None and path[2:3] == ("needs",):
             yield Occurrence(Symbol("job", self.file, "", value.value.lower()), self.file, self._inner(value), False)
-        else:
-            yield from self._of_expressions(value, job, key in CONDITION_KEYS)
 
-    def _of_expressions(self, value: Node, job: str | None, is_condition: bool) -> Iterator[Occurrence]:
-        if "${{" not in value.value and not is_condition:
-            return
-        start, end = self._content(value)
-        written = _without_escapes(self.text[start:end], value.style)
-        parts = list(expressions_in(written))
-        if not parts and is_condition and "${{" not in written:
-            first = 1 if value.style in ("'", '"') else 0
-            parts = [(first, written[first:len(written) - first])]
-        for at, text in parts:
-            for chain in chains_in(text) if len(text) <= MAX_EXPRESSION_BYTES else ():
-                yield from self._of_chain(chain, start + at, job)
+    def _of_expressions(self, place: Place, job: str | None) -> Iterator[Occurrence]:
+        for chunk in place.chunks:
+            for _, chain in chains_in(chunk.tree) if chunk.tree else ():
+                yield from self._of_chain(chain, job)
 
-    def _of_chain(self, chain: list[Link], start: int, job: str | None) -> Iterator[Occurrence]:
-        for number, symbol in self._symbols_of([link.name.lower() for link in chain], job):
-            begin = start + chain[number].start
-            yield Occurrence(symbol, self.file, self._places.span(begin, begin + len(chain[number].name)), False)
+    def _of_chain(self, chain: list[Word], job: str | None) -> Iterator[Occurrence]:
+        for number, symbol in self._symbols_of([word.text.lower() for word in chain], job):
+            name = chain[number].text.encode("utf-8")
+            # Quotes may come before the name, and be doubled; of a name with escapes there is no place.
+            begin = self._data.find(name, chain[number].start, chain[number].end)
+            if begin >= 0:
+                yield Occurrence(symbol, self.file, self.tree.places.span(begin, begin + len(name)), False)
 
     def _symbols_of(self, names: list[str], job: str | None) -> Iterator[tuple[int, Symbol]]:
         """The indices of the names of a chain that refer to something, each with its symbol."""
-        context = names[0]
-        scope = (job or "").lower()
         if len(names) < 2:
             return
+        context = names[0]
+        scope = (job or "").lower()
         if context in ("needs", "jobs"):
             yield 1, Symbol("job", self.file, "", names[1])
             if names[2:3] == ["outputs"] and len(names) > 3:
@@ -220,31 +209,5 @@ class _Finder:
         return self._callee(step.text("uses"), False) if step else None
 
     def _inner(self, node: Node) -> Span:
-        """The place of a scalar without its anchor and its quotes."""
-        start, end = self._content(node)
-        return self._places.span(start + 1, end - 1) if node.style in ("'", '"') else self._places.span(start, end)
-
-    def _content(self, node: Node) -> tuple[int, int]:
-        """The offsets of a scalar without its anchor."""
-        start, end = self._places.offset(node.span.start), self._places.offset(node.span.end)
-        begun = PROPERTY.match(self.text, start, end) if node.anchor else None
-        return (begun.end() if begun else start), end
-
-
-def _without_escapes(written: str, style: str) -> str:
-    """A scalar with a space outside of the expression's strings beside each quote that single quotes have doubled, and with spaces in place
-    of the escapes of double quotes, so that all names stay where they are."""
-    if style == '"':
-        return ESCAPE.sub("  ", written)
-    return written[:1] + DOUBLED.sub(_Doubled().spaced, written[1:-1]) + written[-1:] if style == "'" else written
-
-
-class _Doubled:
-    """Whether the last doubled quote of an expression opened a string."""
-
-    def __init__(self) -> None:
-        self.is_open = False
-
-    def spaced(self, found: re.Match[str]) -> str:
-        self.is_open = found[0] == "''" and not self.is_open
-        return str(found[0]) if found[0] != "''" else " '" if self.is_open else "' "
+        """The place of a scalar without its quotes."""
+        return node.places.span(node.start + 1, node.end - 1) if node.style in ("'", '"') else node.span

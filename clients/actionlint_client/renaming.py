@@ -5,7 +5,7 @@ import re
 from collections import Counter
 
 from .child import LinterEnded
-from .fixes import Counted, Trial
+from .fixes import Trial
 from .folder import Program
 from .project import Project
 from .references import Occurrence, Symbol, all_of, callers, occurrence_at, occurrences

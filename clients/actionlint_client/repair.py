@@ -5,9 +5,10 @@ import re
 from bisect import bisect_right
 from dataclasses import dataclass, field
 from functools import cached_property
-from typing import Iterable, NamedTuple
+from typing import Iterable, Iterator, NamedTuple
 
 from .entries import Entry
+from .facts_tree import Chunk, chains_in
 from .names import names
 from .paths import is_workflow
 from .place import Outline
@@ -17,7 +18,7 @@ from .report import Fault
 from .shells import default_shell, shell_of
 from .stricter import is_refused_beside, takes_filter
 from .syntax import shape_at
-from .text import Places, Point, Span
+from .text import BytePlaces, Places, Point, Span
 from .tree import Node, Path, last_line, walk
 
 NEEDS_QUOTES = re.compile(r"^[!&*\[\]{}|>@`%'\"#,?-]|: | #|:$")
@@ -54,6 +55,13 @@ class Found(NamedTuple):
     key: Node | None
     value: Node
     parent: Node
+
+
+class Chain(NamedTuple):
+    """A chain of names in an expression, `*` for an index that isn't a string, and its place."""
+
+    names: tuple[str, ...]
+    span: Span
 
 
 class Nodes:
@@ -136,6 +144,39 @@ class Case:
         """The scalar value that contains the fault."""
         return self.nodes.scalar_at(self.span.start)
 
+    @property
+    def chain(self) -> Chain:
+        """The chain that has the fault, if it is on one line: the one in an index, not the one around it."""
+        return self._chains_here[-1]
+
+    @property
+    def outer_chain(self) -> Chain:
+        """The same, but the one around an index."""
+        return self._chains_here[0]
+
+    @cached_property
+    def _chains_here(self) -> list[Chain]:
+        start = self.span.start
+        found = [one for one in self.chains if one.span.start <= start < one.span.end and one.span.start.line == one.span.end.line]
+        return found or [Chain((), self.span)]
+
+    @cached_property
+    def chains(self) -> list[Chain]:
+        """Those of the expression that has the fault, in the order of the text."""
+        here = self.scalar
+        place = self.project.expressions(self.file).get(here.value.start) if here else None
+        if here is None or place is None:
+            return []
+        offset = here.value.places.offset(self.span.start)
+        return list(chains_of((chunk for chunk in place.chunks if chunk.start <= offset <= chunk.end), here.value.places))
+
+    def chains_between(self, start: int, end: int) -> Iterator[Chain]:
+        """Those of the scalars that begin between two bytes of the file."""
+        if self.tree:
+            for place in self.project.expressions(self.file).values():
+                if start <= place.start < end:
+                    yield from chains_of(place.chunks, self.tree.places)
+
     @cached_property
     def nodes(self) -> Nodes:
         known = self.project.memory.get(("nodes", self.file))
@@ -192,6 +233,13 @@ class Case:
         start += len(text[start:]) - len(text[start:].lstrip())
         end = start + len(COMMENT.sub("", text[start:]))
         return Span.on_line(line, start, end) if end > start else None
+
+
+def chains_of(chunks: Iterable[Chunk], places: BytePlaces) -> Iterator[Chain]:
+    """The chains of names in expressions."""
+    for chunk in chunks:
+        for part, words in chains_in(chunk.tree) if chunk.tree else ():
+            yield Chain(tuple(word.text for word in words), places.span(part.start, part.end))
 
 
 def known_keys(file: str, path: Path, levels: Levels, beside: set[str]) -> list[str]:

@@ -4,10 +4,10 @@ from __future__ import annotations
 import re
 from typing import Callable, Iterable, NamedTuple
 
-from .expression_texts import (COMPARISONS, coalesced, doubled, doubled_with_quotes, outside, outside_texts, spread, with_all_operators,
-                               with_calls, with_double_braces, with_equals, with_format, with_null, with_operators, with_plain_dots,
-                               with_plain_spaces, with_single_quotes, without_curly_quotes)
-from .expressions import CHAIN, STRING, links
+from .expression_texts import (CHAIN, COMPARISONS, coalesced, doubled, doubled_with_quotes, outside, outside_texts, spread,
+                               with_all_operators, with_calls, with_double_braces, with_equals, with_format, with_null, with_operators,
+                               with_plain_dots, with_plain_spaces, with_single_quotes, without_curly_quotes)
+from .expressions import STRING
 from .missing_signs import closed_at_ends, with_apostrophes, with_closed_json
 from .operators import Choice, Token, choice, choice_in, grouped, operators, tokens
 from .other_syntax import (choice_in_words, template_as_format, with_comparison, with_default, with_dots, with_equal_quotes,
@@ -302,15 +302,6 @@ def closed_braces(case: Case) -> Iterable[Repair]:
         yield case.replace("close the braces", before + "}}", span, is_safe=tail == "}" and end == ends[0])
 
 
-def whole_chain(case: Case) -> tuple[tuple[str, ...], Span]:
-    """The names of the chain that has the fault, and its place."""
-    line, column = case.line, case.span.start.column
-    for match in CHAIN.finditer(line):
-        if match.start() <= column < match.end():
-            return links(match[0]), Span.on_line(case.span.start.line, match.start(), match.end())
-    return (), case.span
-
-
 def word_as_text(case: Case) -> Iterable[Repair]:
     """The text around the fault, up to the nearest spaces, in quotes, if it is compared or an argument."""
     expression = expression_of(case)
@@ -345,7 +336,7 @@ def is_compared(before: str, after: str) -> bool:
 
 def is_in_condition(case: Case) -> bool:
     here = case.scalar
-    return here is not None and is_condition(case.file, here.path, case.levels(here.path))
+    return here is not None and is_condition(here.path)
 
 
 def one_pair(case: Case) -> Iterable[Repair]:

@@ -10,8 +10,7 @@ from .operators import grouped, parts
 from .paths import is_workflow
 from .repair import Case, Edit, Found, Repair, first_entry, next_entry, quoted, without_entry, without_key
 from .other_syntax import with_empty_text
-from .repairs_expressions import (choice_by_call, expression_of, in_yaml, is_alternative, is_in_condition, is_operand, rewritten,
-                                  whole_chain)
+from .repairs_expressions import choice_by_call, expression_of, in_yaml, is_alternative, is_in_condition, is_operand, rewritten
 from .repairs_needs import declared_output, is_written_elsewhere, needed_job, needs_for_jobs, output_of_job
 from .repairs_steps import (OF_CONTEXTS, named_step, names_before, only_output, only_step, output_of_any_job, properties_before,
                             same_name_elsewhere, scope_of, shorter_chain, unused_name)
@@ -101,7 +100,7 @@ def other_property(case: Case) -> Iterable[Repair]:
 def declared_row(case: Case) -> Iterable[Repair]:
     """A new row in the matrix of the job, if the job then runs as often as before: not beside `include` alone, whose entries would all be
     added to the new row's only value."""
-    chain, _ = whole_chain(case)
+    chain, _ = case.chain
     job = case.at("jobs", case.job) if case.job else None
     if job is None or case.job is None or is_written_elsewhere(case, case.job, "strategy"):
         return
@@ -138,7 +137,7 @@ def unknown_word(case: Case) -> Iterable[Repair]:
         return
     before, after = case.line[:case.span.start.column], case.line[case.span.end.column:]
     expression = expression_of(case)
-    chain, _ = whole_chain(case)
+    chain, _ = case.outer_chain
     if expression and before.endswith("[") and after.startswith("]") and chain[:1] and chain[0].lower() in _scope_names(case):
         yield case.replace("put it in quotes", in_yaml(f"'{case.written}'", expression))
         return
@@ -157,7 +156,7 @@ def _functions(case: Case) -> list[str]:
 def with_context(case: Case) -> Iterable[Repair]:
     """A word that is a property of contexts that are available here, with each of them."""
     scope = scope_of(case)
-    chain, span = whole_chain(case)
+    chain, span = case.chain
     if scope is None or not chain:
         return
     available = {one.name for one in scope.contexts()}
@@ -170,7 +169,7 @@ def with_context(case: Case) -> Iterable[Repair]:
 def as_text(case: Case) -> Iterable[Repair]:
     """A word that isn't a context, in quotes, if it is compared, an argument or a value to choose. What is compared on the right side can
     be nothing else."""
-    chain, span = whole_chain(case)
+    chain, span = case.outer_chain
     expression = expression_of(case)
     match = re.match(r"[\w./*-]+(?:\[\w+\])?", case.line[span.start.column:]) if chain else None
     if match is None or expression is None:
@@ -187,7 +186,7 @@ def as_text(case: Case) -> Iterable[Repair]:
 
 def sibling_property(case: Case) -> Iterable[Repair]:
     """A property of what is before the value that can't be indexed, in place of that value's."""
-    chain, span = whole_chain(case)
+    chain, span = case.chain
     scope = scope_of(case)
     before = chain_before(case.line[span.start.column:case.span.start.column] + ".") if chain else None
     number = len(before.chain) if before else 0
@@ -203,7 +202,7 @@ def sibling_property(case: Case) -> Iterable[Repair]:
 
 def declared_input(case: Case) -> Iterable[Repair]:
     """The input, as a new one of the file."""
-    chain, _ = whole_chain(case)
+    chain, _ = case.chain
     if not chain or chain[0].lower() != "inputs" or case.tree is None:
         return
     name = case.arguments[0]
@@ -234,7 +233,7 @@ def _declaring(case: Case, way: Path, name: str, title: str, *edits: Edit) -> It
 def other_context(case: Case) -> Iterable[Repair]:
     """An available context in place of one that isn't, or what it stands for: the value of a variable, a needed job, an input of an
     action."""
-    chain, span = whole_chain(case)
+    chain, span = case.chain
     if len(chain) < 2 or case.tree is None:
         return
     context = chain[0].lower()

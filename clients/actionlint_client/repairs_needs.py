@@ -6,7 +6,6 @@ from typing import Iterable
 from . import project as files
 from .names import likely, misspelled
 from .repair import Case, Edit, Repair, first_entry, next_entry, quoted
-from .repairs_expressions import whole_chain
 from .repairs_keys import OTHER_NAMES
 from .repairs_steps import properties_before
 from .report import Fault
@@ -17,7 +16,7 @@ from .tree import Node
 
 def needed_job(case: Case) -> Iterable[Repair]:
     """`needs` with the job whose name is used, or with a similar one."""
-    chain, _ = whole_chain(case)
+    chain, _ = case.chain
     tree, job = case.tree, case.job
     if tree is None or job is None or len(chain) < 2 or chain[0].lower() != "needs" or chain[1].lower() != case.arguments[0].lower():
         return
@@ -69,7 +68,7 @@ def need_of(case: Case, job: str, name: str) -> Edit:
 
 def output_of_job(case: Case) -> Iterable[Repair]:
     """An output of another job's step, as an output of that job: one that has it as its value, or a new one."""
-    chain, span = whole_chain(case)
+    chain, span = case.chain
     tree, job = case.tree, case.job
     if tree is None or job is None or len(chain) != 4 or chain[0].lower() != "steps" or chain[2].lower() != "outputs":
         return
@@ -110,7 +109,7 @@ def needs_for_jobs(case: Case, chain: tuple[str, ...], span: Span) -> Iterable[R
 
 def declared_output(case: Case) -> Iterable[Repair]:
     """The output, as a new one of the needed job or of the workflow that it calls."""
-    chain, _ = whole_chain(case)
+    chain, _ = case.chain
     job = case.at("jobs", chain[1]) if len(chain) == 4 and chain[0].lower() == "needs" and chain[2].lower() == "outputs" else None
     if job is None:
         return

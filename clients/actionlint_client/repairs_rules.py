@@ -5,7 +5,6 @@ import itertools
 import re
 from typing import Callable, Iterable
 
-from .expressions import CHAIN, links
 from .names import LISTS, likely, misspelled, names
 from .repair import Case, Edit, Found, Repair, as_scalar, is_within_flow, next_entry, quoted, without_key
 from .repairs_expressions import BRACES
@@ -232,9 +231,8 @@ def _ids_without_step(case: Case) -> list[str]:
     job = case.at("jobs", case.job) if case.job else case.at("runs")
     steps = job.get("steps") if job else None
     ids = [step.text("id") for step in steps.items] if steps else []
-    text = case.slice(job.span) if job else ""
-    used = [links(chain[0]) for braces in BRACES.finditer(text) for chain in CHAIN.finditer(braces[1])]
-    return list(dict.fromkeys(chain[1] for chain in used if len(chain) > 2 and chain[0].lower() == "steps" and chain[1] not in ids))
+    used = [chain.names for chain in case.chains_between(job.start, job.end)] if job else []
+    return list(dict.fromkeys(names[1] for names in used if len(names) > 2 and names[0].lower() == "steps" and names[1] not in ids))
 
 
 def _needs(case: Case) -> Iterable[Node]:
@@ -371,11 +369,9 @@ def right_variable(case: Case) -> Iterable[Repair]:
 
 
 def _uses_of_variable(case: Case, wrong: str, name: str) -> Iterable[Edit]:
-    for number, line in enumerate(case.lines):
-        for braces in BRACES.finditer(line):
-            for chain in CHAIN.finditer(line, braces.start(1), braces.end(1)):
-                if links(chain[0]) == ("env", wrong):
-                    yield Edit(Span.on_line(number, chain.start(), chain.end()), f"env.{name}")
+    for chain in case.chains_between(case.tree.start, case.tree.end) if case.tree else ():
+        if chain.names == ("env", wrong):
+            yield Edit(chain.span, f"env.{name}")
 
 
 def secret_password(case: Case) -> Iterable[Repair]:

@@ -4,7 +4,6 @@ from __future__ import annotations
 import re
 from typing import Callable, Iterable, NamedTuple
 
-from .expressions import links
 from .quoting import EXPRESSION, open_in_bash, quote_in_line
 from .repair import Case, Edit, Found, Repair, first_entry, next_entry, quoted
 from .repairs_expressions import BRACES
@@ -92,7 +91,7 @@ def by_variable(case: Case) -> Iterable[Repair]:
 
 def _free_name(case: Case, place: Place) -> str:
     """A name of a variable, by the last names of the expression, that nothing in the file has."""
-    words = [re.sub(r"\W", "_", link).strip("_").upper() for link in links(case.arguments[0])]
+    words = [re.sub(r"\W", "_", name).strip("_").upper() for name in case.chain.names]
     words = [word for word in words if word] or ["TEXT"]
     taken = set(WORD.findall(EXPRESSION.sub(" ", case.text))) | SYSTEM_VARIABLES
     if place.shell not in (*POSIX, "python"):

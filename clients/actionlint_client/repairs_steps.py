@@ -9,8 +9,8 @@ from . import project as files
 from .expressions import Scope, chain_before
 from .names import likely
 from .paths import is_workflow
-from .repair import Case, Repair, first_entry, levels_of, next_entry, without_entry
-from .repairs_expressions import expression_of, whole_chain
+from .repair import Case, Repair, first_entry, next_entry, without_entry
+from .repairs_expressions import expression_of
 from .text import Point, Span
 # Keys that are written for the id of a step.
 OTHER_IDS = ("id", "ids", "step-id", "step_id", "stepid", "key")
@@ -27,7 +27,7 @@ def scope_of(case: Case) -> Scope | None:
     here = case.scalar
     if here is None:
         return None
-    return Scope(case.project, case.file, case.tree, here.path, levels_of(case.tree, here.path))
+    return Scope(case.project, case.file, case.tree, here.path)
 
 
 def properties_before(case: Case) -> list[str]:
@@ -49,7 +49,7 @@ def names_before(case: Case) -> tuple[str, ...]:
 
 def shorter_chain(case: Case) -> Iterable[Repair]:
     """`matrix.os` for `matrix.include.os` and `strategy.matrix.os`; a context that is written as a property of `github`."""
-    chain, span = whole_chain(case)
+    chain, span = case.chain
     names_ = [name.lower() for name in chain]
     scope = scope_of(case)
     if len(chain) > 2 and names_[0] == "github" and names_[1] in ("secrets", "vars", "matrix", "needs", "steps", "runner"):
@@ -67,7 +67,7 @@ def shorter_chain(case: Case) -> Iterable[Repair]:
 
 def named_step(case: Case) -> Iterable[Repair]:
     """The id, for the only step before that has none and has it as its name or writes the output that is asked for."""
-    chain, _ = whole_chain(case)
+    chain, _ = case.chain
     scope = scope_of(case)
     if scope is None or len(chain) < 2 or chain[0].lower() != "steps" or chain[1].lower() != case.arguments[0].lower():
         return
@@ -87,7 +87,7 @@ def named_step(case: Case) -> Iterable[Repair]:
 
 def only_step(case: Case) -> Iterable[Repair]:
     """The id of the only step before that writes the output, or of the only one that has an id, if it calls an action."""
-    chain, span = whole_chain(case)
+    chain, span = case.chain
     scope = scope_of(case)
     if scope is None or len(chain) < 2 or chain[0].lower() != "steps" or chain[1].lower() != case.arguments[0].lower():
         return
@@ -103,7 +103,7 @@ def only_step(case: Case) -> Iterable[Repair]:
 def same_name_elsewhere(case: Case) -> Iterable[Repair]:
     """The same name in another context that the file declares it for."""
     before, name, scope = names_before(case), case.arguments[0], scope_of(case)
-    chain, span = whole_chain(case)
+    chain, span = case.chain
     if scope is None or len(before) != 1 or len(chain) < 2 or not case.line[span.start.column:].startswith(chain[0] + "."):
         return
     available = {one.name for one in scope.contexts()}

@@ -5,9 +5,9 @@ import itertools
 import re
 from typing import Callable, Iterable, Sequence
 
-from .expressions import CHAIN, NAME, STRING, links
+from .expressions import NAME, STRING
 from .repair import Case, Repair
-from .repairs_expressions import TWO_QUOTES, arguments_at, expression_of, in_yaml, is_compared, is_in_condition, is_operand, whole_chain
+from .repairs_expressions import TWO_QUOTES, arguments_at, expression_of, in_yaml, is_compared, is_in_condition, is_operand
 from .syntax import table
 from .text import Point, Span
 from .tree import Node
@@ -27,7 +27,7 @@ def joined_property(chain: Sequence[str]) -> str | None:
 
 def without_index(case: Case) -> Iterable[Repair]:
     """`github.ref_name` for `github.ref.name`; else the chain up to what can't be indexed, unless that makes a condition constant."""
-    chain, span = whole_chain(case)
+    chain, span = case.chain
     line = case.line
     joined = joined_property(chain)
     if joined:
@@ -54,28 +54,28 @@ def compared_part(case: Case) -> Iterable[Repair]:
     """What of a needed job, a step or an event is compared with a text, in place of all of it."""
     if case.code == "X18" and not is_in_condition(case):
         return
-    for match in CHAIN.finditer(case.line):
-        span = Span.on_line(case.span.start.line, match.start(), match.end())
-        if not is_compared(case.line[:match.start()], case.line[match.end():]) and not span.holds(case.span.start):
+    for names, span in case.chains:
+        before, after = case.line_at(span.start.line)[:span.start.column], case.line_at(span.end.line)[span.end.column:]
+        if not is_compared(before, after) and not span.holds(case.span.start):
             continue
-        here = [name.lower() for name in links(match[0])]
+        here = [name.lower() for name in names]
         if here == ["github", "event"]:
             yield case.replace("change to github.event_name", "github.event_name", span)
         elif here[0] in COMPARED and len(here) == (1 if here[0] == "job" else 2):
             name = COMPARED[here[0]]
-            yield case.replace(f'compare its "{name}"', f"{match[0]}.{name}", span)
+            yield case.replace(f'compare its "{name}"', f"{case.slice(span)}.{name}", span)
 
 
 def all_results(case: Case) -> Iterable[Repair]:
     """The results of all needed jobs, for `contains`."""
-    chain, span = whole_chain(case)
+    chain, span = case.chain
     if [name.lower() for name in chain] == ["needs"] and case.line[:span.start.column].lower().rstrip(" ").endswith("contains("):
         yield case.replace("take the results of all needed jobs", "needs.*.result", span)
 
 
 def as_json(case: Case) -> Iterable[Repair]:
     """The value as a text, except in a condition, where a text is always true."""
-    chain, span = whole_chain(case)
+    chain, span = case.chain
     if is_in_condition(case) and case.code == "X18" or chain[:2] == ("needs", "*") and chain[2:3] not in (("result",), ("outputs",)):
         return
     if chain:

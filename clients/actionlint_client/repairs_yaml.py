@@ -5,13 +5,13 @@ import re
 from itertools import islice
 from typing import Callable, Iterable
 
-from .expressions import expressions_in
 from .names import likely
 from .operators import OPERATORS, choice_in, grouped
 from .repair import COMMENT, Case, Edit, Repair, quoted
 from .repairs_blocks import CLOSERS, open_brackets
 from .repairs_expressions import title_of
 from .repairs_levels import indent_of, moved_line
+from .scripts import expressions_in
 from .syntax import shape_at, table
 from .text import Point, Span
 

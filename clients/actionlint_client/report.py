@@ -5,7 +5,7 @@ import re
 from dataclasses import dataclass
 from typing import Container, Iterable
 
-from .paths import MAX_PATH_BYTES
+from .linter_limits import MAX_PATH_BYTES
 
 PLACE = re.compile(rb":([1-9]\d*):([1-9]\d*): ")
 KIND = re.compile(rb" \[([a-z-]+)\]")

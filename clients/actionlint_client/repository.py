@@ -104,8 +104,8 @@ class Repository:
     @cached_property
     def project(self) -> Project:
         """The files for features that look up names."""
-        return Project(self.folder.read, self.folder.paths, lambda: actions_below(self.root), self.documents.__contains__,
-                       self.is_too_large)
+        return Project(self.folder.reader, self.folder.read, self.folder.paths, lambda: actions_below(self.root),
+                       self.documents.__contains__, self.is_too_large)
 
     def is_too_large(self, path: str) -> bool:
         """Whether the linter refuses a file since it is too large or too deep, or has an expression that is too long."""

@@ -1,7 +1,7 @@
 """shellcheck's notes on open files for the language server. A process of its own makes them, beside the server's work, so that no answer
 waits for it.
 
-    python3 -m actionlint_client.script_checks PATH      writes the notes on the text on standard input as JSON
+    python3 -m actionlint_client.script_checks LINTER PATH      writes the notes on the text on standard input as JSON
 """
 from __future__ import annotations
 
@@ -16,7 +16,9 @@ import time
 from pathlib import Path
 from typing import Callable, NamedTuple, TypedDict
 
+from .child import LinterEnded
 from .problems import Problem
+from .reader import Reader
 from .report import Fault
 from .shellcheck import ShellcheckFailed, notes_of_text, problem_of_note
 from .shellcheck_run import PROGRAM
@@ -25,6 +27,7 @@ CLIENTS = Path(__file__).resolve().parents[1]
 # How long a text has to stay as it is before it is checked.
 PAUSE_SECONDS = 0.3
 NICENESS = 10
+SECONDS_OF_AN_ANSWER = 20.0
 SHOWN_CHARACTERS = 200
 UNCHECKED = ""
 MODULE = "actionlint_client.script_checks"
@@ -57,9 +60,9 @@ class ScriptChecks:
 
     module = MODULE
 
-    def __init__(self, wake: Callable[[], None]):
+    def __init__(self, linter: str, wake: Callable[[], None]):
         self.is_on = False
-        self._wake = wake
+        self._linter, self._wake = linter, wake
         self._changed = threading.Condition()
         self._wanted: dict[Key, Wanted] = {}
         self._known: dict[Key, tuple[bytes, tuple[Problem, ...]]] = {}
@@ -73,7 +76,7 @@ class ScriptChecks:
 
     def arguments(self, key: Key) -> list[str]:
         """The arguments of the process."""
-        return [key[1]]
+        return [self._linter, key[1]]
 
     def problem(self, path: str, note: WrittenNote) -> Problem:
         fault = Fault(path, note["line"], note["column"], note["message"], PROGRAM, note["width"])
@@ -199,10 +202,11 @@ def main(words: list[str]) -> int:
     signal.signal(signal.SIGTERM, stop)
     os.nice(NICENESS)
     unchecked: list[WrittenNote] = []
+    reader = Reader(words[0], SECONDS_OF_AN_ANSWER)
     try:
-        found = notes_of_text(words[0], sys.stdin.buffer.read(), lambda fault: unchecked.append(written(fault, UNCHECKED, "note")))
+        found = notes_of_text(reader, words[1], sys.stdin.buffer.read(), lambda fault: unchecked.append(written(fault, UNCHECKED, "note")))
         notes = [written(one.fault, one.code, one.level) for one in found]
-    except ShellcheckFailed as error:
+    except (LinterEnded, ShellcheckFailed) as error:
         print(error, file=sys.stderr)
         return 3
     json.dump([*notes, *unchecked], sys.stdout)

@@ -65,9 +65,9 @@ class Server:
         self._ignored.files += options.ignore_file
         diagnostics = Diagnostics(docs, self._ignored)
         shows_earlier = not options.no_earlier_faults
-        self._checks = ScriptChecks(self._messages.wake)
+        self._checks = ScriptChecks(options.program, self._messages.wake)
         self._checks.is_on = options.shellcheck
-        self._notes = NoteChecks(self._messages.wake, options.program)
+        self._notes = NoteChecks(options.program, self._messages.wake)
         self._notes.is_on = not options.no_notes and self._notes.can_run()
         checks = (self._notes, self._checks)
         self._workspace = Workspace(

@@ -4,17 +4,16 @@ from __future__ import annotations
 import os
 from collections import deque
 from concurrent.futures import Future, ThreadPoolExecutor
-from typing import TYPE_CHECKING, Callable, Iterable, Iterator, NamedTuple
+from typing import Callable, Iterable, Iterator, NamedTuple
 
-from .disk import MAX_FILE_BYTES, Disk
-from .paths import ACTION_NAMES
+from .disk import Disk
+from .linter_limits import MAX_FILE_BYTES
 from .problems import Problem, snippet_of
+from .reader import Reader
 from .report import Fault
+from .scripts import Script, scripts_of
 from .shellcheck_run import PROGRAM, Note, NotChecked, Shellcheck, ShellcheckFailed
 from .text import LINE_BREAK, Places
-
-if TYPE_CHECKING:
-    from .scripts import Script
 
 __all__ = ["ShellcheckFailed", "notes", "notes_of_text", "problem_of_note"]
 SIDE_BY_SIDE = os.cpu_count() or 1
@@ -56,18 +55,18 @@ class Found(NamedTuple):
         return self.source.fault(offset, offset + 1, message)
 
 
-def notes(root: str, files: list[str], refused: set[str], say: Callable[[str], None]) -> Iterator[Problem]:
+def notes(reader: Reader, root: str, files: list[str], refused: set[str], say: Callable[[str], None]) -> Iterator[Problem]:
     """The notes on all scripts of the files and of what they call, or of all workflows, in the order of the scripts. Files that aren't
     valid YAML for the linter are skipped, and `say` is told about files that can't be read here and scripts that can't be checked."""
     # (the linter has already said which links it skipped)
     disk = Disk(os.fsencode(root), lambda _: None)
-    return _problems(_scripts(disk, files, refused, say), lambda fault: say(f"{fault.path}:{fault.line}: {fault.message}"))
+    return _problems(_scripts(reader, disk, files, refused, say), lambda fault: say(f"{fault.path}:{fault.line}: {fault.message}"))
 
 
-def notes_of_text(path: str, data: bytes, tell: Callable[[Fault], None]) -> Iterator[Problem]:
+def notes_of_text(reader: Reader, path: str, data: bytes, tell: Callable[[Fault], None]) -> Iterator[Problem]:
     """The notes on the scripts of one file with this text, none if it can't be read here. `tell` is told about scripts that can't be
     checked."""
-    return _problems(_read(path, data, lambda _: None)[0], tell)
+    return _problems(_read(reader, path, data, lambda _: None), tell)
 
 
 def _problems(found: Iterable[Found], tell: Callable[[Fault], None]) -> Iterator[Problem]:
@@ -99,7 +98,7 @@ def _checked(found: Iterable[Found]) -> Iterator[tuple[Found, Callable[[], list[
         pool.shutdown(cancel_futures=True)
 
 
-def _scripts(disk: Disk, files: list[str], refused: set[str], say: Callable[[str], None]) -> Iterator[Found]:
+def _scripts(reader: Reader, disk: Disk, files: list[str], refused: set[str], say: Callable[[str], None]) -> Iterator[Found]:
     """The scripts of the files and of what they call, each file once."""
     disk.rescan()
     waiting = deque(dict.fromkeys(path.removeprefix("./") for path in files) or sorted(disk.workflows))
@@ -109,35 +108,20 @@ def _scripts(disk: Disk, files: list[str], refused: set[str], say: Callable[[str
         data = None if path in refused else disk.file(path).data
         if data is None or len(data) > MAX_FILE_BYTES:
             continue
-        found, calls = _read(path, data, say)
-        yield from found
-        for called in (file for call in calls for file in _called(call)):
-            if called not in seen:
-                seen.add(called)
-                waiting.append(called)
+        yield from _read(reader, path, data, say)
+        waiting.extend(called := sorted((reader.calls(path, data) or frozenset()) - seen))
+        seen.update(called)
 
 
-def _read(path: str, data: bytes, say: Callable[[str], None]) -> tuple[list[Found], list[str]]:
-    """The scripts and the local calls of a file, none if it can't be read here."""
-    # Other reports need no PyYAML.
-    from .scripts import NotRead, scripts_and_calls
-
+def _read(reader: Reader, path: str, data: bytes, say: Callable[[str], None]) -> list[Found]:
+    """The scripts of a file, none if it can't be read here."""
     try:
         source = SourceFile(path, data.decode("utf-8"))
-        scripts, calls = scripts_and_calls(source.text)
-    except (NotRead, UnicodeDecodeError) as error:
+    except UnicodeDecodeError as error:
         say(f"{path}: no shellcheck, since {error}")
-        return [], []
-    return [Found(source, script) for script in scripts], calls
-
-
-def _called(call: str) -> list[str]:
-    """The files that a local call may lead to, none if it leaves the folder."""
-    name = call[2:].removesuffix("/")
-    parts = name.split("/") if name else []
-    if any(part in ("", ".", "..") for part in parts):
         return []
-    return [name] if name.endswith((".yml", ".yaml")) else ["/".join([*parts, file]) for file in ACTION_NAMES]
+    tree = reader.tree(path, data)
+    return [Found(source, script) for script in scripts_of(tree, data)] if tree else []
 
 
 def _problem(note: Note, found: Found) -> Problem:

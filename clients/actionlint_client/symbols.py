@@ -67,4 +67,3 @@ class Symbols:
 def _symbol(place: Asked, part: Part) -> DocumentSymbol:
     return {"name": shown(part.name), "detail": part.kind, "kind": KINDS[part.kind], "range": place.range(part.span),
             "selectionRange": place.range(part.naming), "children": [_symbol(place, inner) for inner in part.parts]}
-

@@ -14,11 +14,6 @@ if TYPE_CHECKING:
     from .tree import Path
 
 TABLE = File(__file__).parent / "syntax.json"
-CONDITIONS = {"job": ("if",), "step": ("if",), "node runs": ("pre-if", "post-if"), "docker runs": ("pre-if", "post-if")}
-STATUS_FUNCTIONS = ("always", "cancelled", "success", "failure")
-RUNS_BY_USING = {"docker": "DockerRuns", "composite": "CompositeRuns"}
-# Values of an action that aren't expressions (docs/CONTEXTS.md, "What is checked").
-NO_EXPRESSIONS = {"step": ("uses", "id"), "runs": ("using",)}
 VALUE_WORDS = {"AnyScalar": "text", "NotNull": "text", "Bools": "true or false", "Numbers": "number", "Chunks": "expression"}
 
 
@@ -45,8 +40,7 @@ def shape_at(file: str, path: Path, levels: tuple[dict[str, str], ...]) -> Shape
     shapes = table()["shapes"]
     for number, step in enumerate((*path, None)):
         using = levels[number].get("using", "").strip("'\"") if name == "Runs" and number < len(levels) else ""
-        if using in names()["using"]:
-            name = RUNS_BY_USING.get(using, "NodeRuns")
+        name = table()["runs by using"].get(using, name)
         if step is None or name is None:
             break
         name = _below(shapes[name], step)
@@ -79,44 +73,41 @@ def section_at(file: str, path: Path, levels: tuple[dict[str, str], ...]) -> str
     return shape.get("section") if shape else None
 
 
-def is_condition(file: str, path: Path, levels: tuple[dict[str, str], ...]) -> bool:
+def is_condition(path: Path) -> bool:
     """Whether the whole text at a path is an expression."""
-    around, key = key_of(path)
-    return key in CONDITIONS.get(section_at(file, around, levels) or "", ())
+    keys = _keys_of(path)
+    return any(len(row) == len(keys) and _begins(row, keys) for row in table()["expressions"]["conditions"])
 
 
-def available(file: str, path: Path, levels: tuple[dict[str, str], ...]) -> tuple[list[str], list[str]] | None:
-    """The contexts and the functions available to an expression at a path, or None if there are no expressions."""
-    around, key = key_of(path)
-    section = section_at(file, around, levels) or ""
-    if key in NO_EXPRESSIONS.get("runs" if section.endswith("runs") else section, ()):
-        return None
-    every = [name for name in table()["functions"] if name not in (*STATUS_FUNCTIONS, "hashFiles")]
-    if not is_workflow(file):
-        return _available_in_action(path, every, is_condition(file, path, levels))
-    steps = [step for step in path if isinstance(step, str)]
-    fitting = [row for row in table()["places"] if _begins(row.split("."), steps)]
-    if not fitting:
-        return None
-    row = table()["places"][max(fitting, key=_depth)]
-    return row["contexts"], every + row["functions"]
+def available(file: str, path: Path) -> tuple[list[str], list[str]] | None:
+    """The contexts and the functions available to an expression at a path, or None if there are no expressions or the place isn't one that
+    GitHub's documents list."""
+    found = _row_of_workflow(_keys_of(path)) if is_workflow(file) else _row_of_action(path)
+    everywhere = [name for name, row in table()["functions"].items() if row["everywhere"]]
+    return (found["contexts"], everywhere + found["functions"]) if found else None
 
 
-def _available_in_action(path: Path, functions: list[str], condition: bool) -> tuple[list[str], list[str]] | None:
-    is_default = len(path) == 3 and path[0] == "inputs" and path[2] == "default"
-    is_output = len(path) == 3 and path[0] == "outputs" and path[2] == "value"
-    if not (is_default or is_output or path[:1] == ("runs",)):
-        return None
-    contexts = [name for name in names()["contexts"] if name not in ("secrets", "jobs", "needs")]
-    return contexts, [*functions, "hashFiles", *(STATUS_FUNCTIONS if condition else ())]
+def _row_of_workflow(keys: list[str]) -> Shape | None:
+    """The row with the longest path that a place begins with."""
+    fitting = [row for row in table()["places"] if _begins(row.split("."), keys)]
+    return table()["places"][max(fitting, key=lambda row: row.count("."))] if fitting else None
 
 
-def _depth(row: str) -> int:
-    return row.count(".")
+def _row_of_action(path: Path) -> Shape | None:
+    keys, paths = _keys_of(path), table()["expressions"]
+    if keys[:1] == ["runs"]:
+        has_expressions = not any(_begins(row, keys) for row in paths["not_in_runs"])
+    else:
+        has_expressions = len(path) == 3 and any(_begins(row, keys) for row in paths["only_outside_runs"])
+    return table()["other places"]["condition of an action" if is_condition(path) else "action"] if has_expressions else None
 
 
-def _begins(row: list[str], steps: list[str]) -> bool:
-    return len(row) <= len(steps) and all(one in ("*", step) for one, step in zip(row, steps))
+def _keys_of(path: Path) -> list[str]:
+    return [step for step in path if isinstance(step, str)]
+
+
+def _begins(row: list[str], keys: list[str]) -> bool:
+    return len(row) <= len(keys) and all(one in ("*", key) for one, key in zip(row, keys))
 
 
 def value_words(shape: Shape | None) -> str:

@@ -2,10 +2,13 @@
 from __future__ import annotations
 
 import re
-from bisect import bisect_right
+from array import array
+from bisect import bisect_left, bisect_right
 from typing import NamedTuple
 
 LINE_BREAK = re.compile("\r\n|\n|\r")
+LINE_BREAK_OF_BYTES = re.compile(rb"\r\n|\n|\r")
+BYTE_ORDER_MARK = b"\xef\xbb\xbf"
 
 
 class Point(NamedTuple):
@@ -32,12 +35,6 @@ class Span(NamedTuple):
         return self.start <= point <= self.end
 
 
-def end_of(pattern: re.Pattern[str], text: str, start: int, end: int | None = None) -> int:
-    """Where what a pattern finds at an offset ends: at the offset itself if it finds nothing."""
-    found = pattern.match(text, start, len(text) if end is None else end)
-    return found.end() if found else start
-
-
 class Places:
     """The points of a text and their offsets. What is before the offset `begin` belongs to no line."""
 
@@ -55,3 +52,38 @@ class Places:
 
     def span(self, start: int, end: int) -> Span:
         return Span(self.point(start), self.point(end))
+
+
+class BytePlaces:
+    """The points of the bytes of a text, whose columns count characters. A byte order mark belongs to no line; `begin` is behind it."""
+
+    def __init__(self, data: bytes):
+        self.begin = len(BYTE_ORDER_MARK) if data.startswith(BYTE_ORDER_MARK) else 0
+        self._data, self._is_ascii = data, data.isascii()
+        self._starts = [self.begin, *(found.end() for found in LINE_BREAK_OF_BYTES.finditer(data))]
+        # Of lines that were asked for, where their characters begin, nothing of those whose characters are bytes.
+        self._characters: dict[int, array[int]] = {}
+
+    def point(self, offset: int) -> Point:
+        line = max(bisect_right(self._starts, offset) - 1, 0)
+        column = max(offset - self._starts[line], 0)
+        characters = None if self._is_ascii else self._characters_of(line)
+        return Point(line, bisect_left(characters, column) if characters else column)
+
+    def span(self, start: int, end: int) -> Span:
+        return Span(self.point(start), self.point(end))
+
+    def offset(self, point: Point) -> int:
+        """The byte at a point of the text."""
+        characters = None if self._is_ascii else self._characters_of(point.line)
+        column = characters[point.column] if characters and point.column < len(characters) else point.column
+        return self._starts[point.line] + column
+
+    def _characters_of(self, line: int) -> array[int]:
+        found = self._characters.get(line)
+        if found is None:
+            following = self._starts[line + 1] if line + 1 < len(self._starts) else len(self._data)
+            data = self._data[self._starts[line]:following]
+            found = array("L", () if data.isascii() else (at for at, byte in enumerate(data) if byte & 0xC0 != 0x80))
+            self._characters[line] = found
+        return found

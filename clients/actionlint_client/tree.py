@@ -1,34 +1,34 @@
-"""The tree of a YAML text with the places of its nodes, read by PyYAML."""
+"""The tree of a YAML text with the places of its nodes, as actionlint-facts reads it."""
 from __future__ import annotations
 
+import re
 from dataclasses import dataclass, field
 from functools import cached_property
 from typing import Any, Iterator, Union
 
-import yaml  # type: ignore[import]
+from .facts_tree import Json
+from .text import BytePlaces, Span
 
-from .readable import readings
-from .text import Point, Span
-
-MAX_DEPTH = 200
-STARTS = {yaml.MappingStartEvent: "mapping", yaml.SequenceStartEvent: "sequence"}
-ENDS = (yaml.MappingEndEvent, yaml.SequenceEndEvent)
+# The signs with which scalars begin.
+SIGNS = {"plain": "", "single": "'", "double": '"', "literal": "|", "folded": ">"}
+# What is between scalars besides brackets, anchors and aliases; and the name of one of these.
+BETWEEN = re.compile(rb"(?:[\s,:?\[\]{}-]|#[^\r\n]*)*")
+NAME = re.compile(rb"[&*]([^\s,\[\]{}]+)")
 # The entries and the items of scalars.
 NOTHING: list[Any] = []
 
 Path = tuple[Union[str, int], ...]
 
 
-class NotYaml(Exception):
-    """A text that isn't valid YAML or is nested too deeply."""
-
-
 @dataclass
 class Node:
-    """A node. An alias has the contents of its anchor, at its own place, and that node as `anchored`."""
+    """A node, from one byte of the text up to another. An alias has the contents of its anchor, at its own place, and that node as
+    `anchored`. `pieces` tell where the bytes of a scalar's text come from, as `places` in docs/FACTS.md."""
 
     kind: str
-    span: Span
+    start: int
+    end: int
+    places: BytePlaces = field(repr=False)
     value: str = ""
     style: str = ""
     entries: list[tuple[Node, Node]] = field(default_factory=list)
@@ -36,7 +36,14 @@ class Node:
     anchor: str | None = None
     alias: str | None = None
     anchored: Node | None = None
+    # Where the anchor or the alias begins.
+    sign: int = 0
     is_flow: bool = False
+    pieces: list[list[int]] = field(default_factory=list)
+
+    @cached_property
+    def span(self) -> Span:
+        return self.places.span(self.start, self.end)
 
     @cached_property
     def _by_key(self) -> dict[str, tuple[Node, Node]]:
@@ -82,23 +89,9 @@ class Node:
         return [key.value for key, _ in node.entries] if node else []
 
 
-def read_tree(text: str) -> Node | None:
-    """The tree of the first document, or None if the text isn't valid YAML, is empty or is nested too deeply."""
-    try:
-        return parse_tree(text)
-    except NotYaml:
-        return None
-
-
-def parse_tree(text: str) -> Node | None:
-    """The tree of the first document, or None if the text is empty. Raises `NotYaml`."""
-    why: Exception | None = None
-    for reading in readings(text):
-        try:
-            return _built(yaml.parse(reading, Loader=yaml.CSafeLoader))
-        except (yaml.YAMLError, ValueError) as error:
-            why = error
-    raise NotYaml from why
+def tree_of(root: Json, data: bytes) -> Node:
+    """The tree of a text, from what actionlint-facts answers."""
+    return _Builder(data).node(root, False)
 
 
 def walk(node: Node, path: Path = ()) -> Iterator[tuple[Path, Node | None, Node]]:
@@ -119,67 +112,62 @@ def last_line(node: Node, lines: list[str]) -> int:
     if node.alias is None and not node.is_flow and below:
         return last_line(below[-1], lines)
     line = node.span.end.line
-    if node.style in ("|", ">"):
-        # The end is the start of a line below, or the end of the text.
-        line -= node.span.end.column == 0 and line > node.span.start.line
-        while line > node.span.start.line and not lines[line].strip():
-            line -= 1
+    while node.style in ("|", ">") and line > node.span.start.line and not lines[line].strip():
+        line -= 1
     # If a key ends a text without a line feed, its value is past the end.
     return min(line, len(lines) - 1)
 
 
-def _built(events: Iterator[yaml.Event]) -> Node | None:
-    root: Node | None = None
-    open_nodes: list[Node] = []
-    keys: list[Node | None] = []
-    anchors: dict[str, Node] = {}
-    for event in events:
-        kind = type(event)
-        if kind is yaml.ScalarEvent:
-            node = Node("scalar", _span(event), event.value, event.style or "", NOTHING, NOTHING, event.anchor)
-        elif kind in ENDS:
-            closed = open_nodes.pop()
-            keys.pop()
-            closed.span = Span(closed.span.start, _point(event.end_mark))
-            continue
-        elif kind is yaml.AliasEvent:
-            known = anchors.get(event.anchor) or Node("scalar", _span(event))
-            node = Node(known.kind, _span(event), known.value, known.style, known.entries, known.items, alias=event.anchor, anchored=known)
-        elif kind in STARTS:
-            node = Node(STARTS[kind], _span(event), anchor=event.anchor, is_flow=bool(event.flow_style))
-        elif kind is yaml.DocumentEndEvent:
-            break
-        else:
-            continue
-        if event.anchor is not None and node.alias is None:
-            anchors[event.anchor] = node
-        if open_nodes:
-            _add(open_nodes[-1], keys, node)
-        else:
-            root = node
-        if kind in STARTS:
-            if len(open_nodes) == MAX_DEPTH:
-                raise NotYaml
-            open_nodes.append(node)
-            keys.append(None)
-    return root
+class _Builder:
+    """Makes the nodes of a text in its order, with the names and places of anchors and aliases, which stand between scalars."""
 
+    def __init__(self, data: bytes):
+        self._data, self._places = data, BytePlaces(data)
+        # Where the last scalar, bracket, anchor or alias ends.
+        self._end = self._places.begin
+        self._anchored: dict[str, Node] = {}
 
-def _add(parent: Node, keys: list[Node | None], node: Node) -> None:
-    key = keys[-1]
-    if parent.kind == "sequence":
-        parent.items.append(node)
-    elif key is None:
-        keys[-1] = node
-    else:
-        parent.entries.append((key, node))
-        keys[-1] = None
+    def node(self, said: Json, in_flow: bool) -> Node:
+        is_shared = "shared" in said
+        # What an alias stands for comes before it.
+        if is_shared and said["start"] < self._end:
+            return self._alias(said)
+        name, sign, _ = self._name() if is_shared else ("", 0, 0)
+        node = self._scalar(said) if said["kind"] == "scalar" else self._collection(said, in_flow)
+        if is_shared:
+            node.anchor, node.sign = name, sign
+            self._anchored[name] = node
+        return node
 
+    def _scalar(self, said: Json) -> Node:
+        self._end = max(self._end, said["end"])
+        return Node("scalar", said["start"], said["end"], self._places, said["text"], SIGNS[said["style"]], NOTHING, NOTHING,
+                    pieces=said["places"])
 
-def _span(event: yaml.NodeEvent) -> Span:
-    start, end = event.start_mark, event.end_mark
-    return Span(Point(start.line, start.column), Point(end.line, end.column))
+    def _collection(self, said: Json, in_flow: bool) -> Node:
+        start = said["start"]
+        has_brackets = self._data[start:start + 1] in (b"[", b"{")
+        is_flow = in_flow or has_brackets
+        node = Node(said["kind"], start, said["end"], self._places, is_flow=is_flow)
+        if has_brackets:
+            self._end = max(self._end, start + 1)
+        for key, value in said.get("entries", NOTHING):
+            node.entries.append((self.node(key, is_flow), self.node(value, is_flow)))
+        for item in said.get("items", NOTHING):
+            node.items.append(self.node(item, is_flow))
+        self._end = max(self._end, said["end"])
+        return node
 
+    def _alias(self, said: Json) -> Node:
+        name, start, end = self._name()
+        known = self._anchored.get(name) or Node(said["kind"], start, end, self._places)
+        return Node(known.kind, start, end, self._places, known.value, known.style, known.entries, known.items, alias=name,
+                    anchored=known, sign=start)
 
-def _point(mark: yaml.Mark) -> Point:
-    return Point(mark.line, mark.column)
+    def _name(self) -> tuple[str, int, int]:
+        """The next anchor or alias: its name, and where it begins and ends."""
+        between = BETWEEN.match(self._data, self._end)
+        start = between.end() if between else self._end
+        found = NAME.match(self._data, start)
+        self._end = found.end() if found else start
+        return (found[1].decode("utf-8", "replace") if found else ""), start, self._end

@@ -14,6 +14,7 @@ import sys
 from cases import Cases
 from completion_places import JOB, PLACES
 from promises import end, start
+from readers import reader
 from repositories import FILE, WORKFLOWS
 
 from actionlint_client import used
@@ -174,7 +175,7 @@ TOKEN = re.compile(r"[\w./-]+")
 
 def project_of(texts: dict[str, str]) -> Project:
     files = {path: text.encode() for path, text in texts.items()}
-    return Project(files.get, lambda: list(files))
+    return Project(reader(), files.get, lambda: list(files))
 
 
 def offered(text: str, file: str = FILE, folder: dict[str, str] = FOLDER) -> list[Offer]:
@@ -254,8 +255,8 @@ def in_actions(program: str) -> None:
     labels = {offer.label for offer in offered(head + "runs:\n  using: composite\n  steps:\n    - if: |", "x/action.yml")}
     assert {"github", "always", "hashFiles"} <= labels and not {"secrets", "needs", "jobs", "vars"} & labels, labels
     assert not offered(head + "runs:\n  using: composite\n  steps:\n    - uses: ./x/${{ |", "x/action.yml")
-    contexts, _ = available("x/action.yml", ("runs", "steps", 0, "run"), ({}, {}, {}, {}))
-    assert "vars" in contexts and not {"secrets", "needs", "jobs"} & set(contexts), "what the linter accepts"
+    contexts, _ = available("x/action.yml", ("runs", "steps", 0, "run"))
+    assert {"vars", "needs", "jobs"} <= set(contexts) and "secrets" not in contexts, "what the linter accepts"
 
 
 @CASES.case

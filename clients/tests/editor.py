@@ -177,6 +177,11 @@ def children(pid: int) -> list[int]:
         return [int(word) for word in opened.read().split()]
 
 
+def linters(pid: int) -> list[int]:
+    """The linters that a server runs, without what reads texts for it."""
+    return [child for child in children(pid) if b"--session" in Path(f"/proc/{child}/cmdline").read_bytes()]
+
+
 def memory(pid: int, which: str = "VmRSS") -> int:
     """The memory of a process in KiB, or with `VmHWM` the greatest that it has had."""
     with open(f"/proc/{pid}/status", encoding="utf-8") as opened:

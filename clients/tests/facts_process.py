@@ -6,10 +6,13 @@
 from __future__ import annotations
 
 import os
+import signal
 import subprocess
 import sys
 import tempfile
+from contextlib import contextmanager
 from pathlib import Path
+from typing import Iterator
 
 from cases import Cases
 from repositories import ACTION, CALLED, CLIENTS, FILE, FILES, write
@@ -19,6 +22,7 @@ from actionlint_client.child import LinterEnded, LinterMissing, LinterSilent
 from actionlint_client.facts import EditRefused, Facts, NoAnswer, NoTree
 from actionlint_client.facts_tree import Chain, Path as Dotted, Word, walk
 from actionlint_client.program import FACTS, find_facts
+from actionlint_client.reader import Reader
 
 CASES = Cases("facts-process")
 SECONDS = 60.0
@@ -112,19 +116,62 @@ def wrong_programs(_: str) -> None:
 
 
 @CASES.case
+def a_reader_whose_program_ends(program: str) -> None:
+    """Another program answers. One that ends at a text is asked twice, and one that isn't there or hangs once."""
+    text = FILES[CALLED].encode()
+    reader = Reader(program, SECONDS)
+    for path in (CALLED, FILE):
+        assert not fails_with(reader, LinterEnded)
+        assert reader.calls(path, text) == frozenset(("a/action.yml", "a/action.yaml")) and reader.tree(path, text)
+        os.kill(reader._facts._child.pid, signal.SIGKILL)
+    reader.close()
+    with tempfile.TemporaryDirectory(prefix="actionlint-test-") as folder:
+        begun = Path(folder) / "begun"
+        for end, kind, times in (("exit 3", LinterEnded, 2), ("exec sleep 600", LinterSilent, 1)):
+            begun.write_text("", encoding="utf-8")
+            reader = Reader(program, 0.5)
+            with using(fake(folder, f"echo >> {begun}; {end}")[0]):
+                assert fails_with(reader, kind) and len(begun.read_text(encoding="utf-8")) == times, end
+        with using(folder + "/absent"):
+            assert fails_with(reader, LinterMissing)
+
+
+@contextmanager
+def using(facts: str) -> Iterator[None]:
+    """Within this, clients run another program."""
+    before = os.environ.get("ACTIONLINT_FACTS")
+    os.environ["ACTIONLINT_FACTS"] = facts
+    yield
+    del os.environ["ACTIONLINT_FACTS"]
+    os.environ |= {"ACTIONLINT_FACTS": before} if before else {}
+
+
+def fails_with(reader: Reader, kind: type[LinterEnded]) -> bool:
+    try:
+        reader.tree(FILE, b"a: b\n")
+    except LinterEnded as error:
+        return type(error) is kind
+    return False
+
+
+@CASES.case
 def which_program(_: str) -> None:
-    """The named one, else the one beside the linter, which may have the linter's own name, else those of a clone, else the one on the PATH;
-    never the script that builds it."""
+    """The named one, else the one beside the linter, which may have the linter's own name, also behind links, else those of a clone, else the
+    one on the PATH; never the script that builds it."""
     finder = f"import sys; sys.path.insert(0, {str(CLIENTS)!r}); from actionlint_client.program import find_facts; "
     finder += "print(find_facts(sys.argv[1]))"
     with tempfile.TemporaryDirectory(prefix="actionlint-test-") as folder:
-        programs = (f"bin/{FACTS}", "bin/juzbrost-facts", f"clone/prebuilt/{FACTS}", "clone/actionlint")
+        programs = (f"bin/{FACTS}", "bin/juzbrost", "bin/juzbrost-facts", f"clone/prebuilt/{FACTS}", "clone/actionlint")
         write(folder, {**dict.fromkeys(programs, "#!/bin/sh\n"), f"named/{FACTS}": ""})
-        os.symlink("actionlint", f"{folder}/clone/{FACTS}")
+        links = {f"clone/{FACTS}": "actionlint", "link": "bin/juzbrost", f"share/{FACTS}": "../bin/juzbrost-facts"}
+        for link, leads_to in links.items():
+            os.makedirs(os.path.dirname(f"{folder}/{link}"), exist_ok=True)
+            os.symlink(leads_to, f"{folder}/{link}")
         for path in programs:
             os.chmod(f"{folder}/{path}", 0o755)
         for linter, named, wanted in (("bin/actionlint", None, f"bin/{FACTS}"), ("bin/juzbrost", None, "bin/juzbrost-facts"),
-                                      ("clone/actionlint", None, f"clone/prebuilt/{FACTS}"),
+                                      ("clone/actionlint", None, f"clone/prebuilt/{FACTS}"), ("link", None, "bin/juzbrost-facts"),
+                                      ("share/actionlint", None, f"share/{FACTS}"),
                                       ("bin/actionlint", f"{folder}/named/{FACTS}", f"named/{FACTS}")):
             environment = {name: value for name, value in os.environ.items() if name != "ACTIONLINT_FACTS"}
             environment |= {"ACTIONLINT_FACTS": named} if named else {}

@@ -14,6 +14,7 @@ from contextlib import contextmanager
 from typing import Iterator
 
 from cases import Cases
+from readers import reader
 from repositories import FILE
 from slips import Folder, counted, every_text
 
@@ -117,7 +118,7 @@ def lines_of_a_stranger(program: str) -> None:
         (entry,) = (entry for entry in entries() if entry.code == code)
         text = STEP + "run: " + value + "\n"
         column = text.split("\n")[5].index(value) + 1 + ("${{" in value) * len("echo ${{ ")
-        project = Project({FILE: text.encode()}.get, lambda: [FILE])
+        project = Project(reader(), {FILE: text.encode()}.get, lambda: [FILE])
         with within(2):
             found = repairs(project, Fault(FILE, 6, column, ARGUMENT.sub("f", entry.message), "k", 1))
         assert all(len(edit.text) < 10_000 for one in found for edit in one.edits[FILE]), (code, value[:50])

@@ -17,7 +17,7 @@ from typing import Any, Callable
 
 from cases import Cases
 from clones_and_releases import NOBODY
-from editor import Editor, children
+from editor import Editor, children, linters
 from promises import end, save, start
 from repositories import ACTION, CALLED, FILE, FILES, RIGHT, UNDEFINED, WORKFLOWS, WRONG, write
 
@@ -54,20 +54,20 @@ def a_folder_is_let_go(program: str) -> None:
     for number in range(20):
         editor.open(f"{number}/action.yml", BROKEN_ACTION)
     editor.settle()
-    assert len(children(editor.child.pid)) == 20 and len(editor.diagnostics()) == 20
+    assert len(linters(editor.child.pid)) == 20 and len(editor.diagnostics()) == 20
     for number in range(20):
         editor.close(f"{number}/values.yml")
         if number:
             editor.close(f"{number}/action.yml")
     editor.settle()
-    assert len(children(editor.child.pid)) == 1 and set(editor.diagnostics()) == {"0/action.yml"}, editor.diagnostics()
+    assert len(linters(editor.child.pid)) == 1 and set(editor.diagnostics()) == {"0/action.yml"}, editor.diagnostics()
     assert editor.quit() == 0
     shutil.rmtree(top)
     editor = start(program, FILES)
     editor.open(FILE, WRONG)
     editor.close(FILE)
     editor.settle()
-    assert len(children(editor.child.pid)) == 1 and editor.texts(FILE) == [UNDEFINED], "a folder of the workspace stays"
+    assert len(linters(editor.child.pid)) == 1 and editor.texts(FILE) == [UNDEFINED], "a folder of the workspace stays"
     end(editor)
 
 
@@ -94,7 +94,7 @@ def a_folder_without_files(program: str) -> None:
     editor = start(program, {"notes.yml": "a: 1\n"})
     assert children(editor.child.pid) == []
     save(editor, FILE, WRONG.encode())
-    assert len(children(editor.child.pid)) == 1 and editor.texts(FILE) == [UNDEFINED]
+    assert len(linters(editor.child.pid)) == 1 and editor.texts(FILE) == [UNDEFINED]
     os.remove(os.path.join(editor.root, FILE.encode()))
     editor.touched(FILE, kind=3)
     editor.settle()
@@ -142,12 +142,12 @@ def the_first_pause_that_ends(_: str) -> None:
 def uris_that_are_refused(program: str) -> None:
     """A URI that no file can have is ignored, and what comes after it is handled."""
     editor = start(program, FILES)
-    linters = len(children(editor.child.pid))
+    before = len(linters(editor.child.pid))
     for uri in ("file:///x/a%00b/.github/workflows/a.yml", "file:///x%00/action.yml", "file:action.yml", "file://elsewhere/action.yml",
                 "file://[/action.yml", "", "action.yml"):
         editor.open_uri(uri, WRONG)
         editor.settle()
-        assert len(children(editor.child.pid)) == linters, uri
+        assert len(linters(editor.child.pid)) == before, uri
         answer = editor.request("textDocument/hover", {"textDocument": {"uri": uri}, "position": {"line": 5, "character": 30}})
         assert answer["result"] is None and path_of(uri) is None, uri
     editor.open(FILE, RIGHT)
@@ -182,7 +182,7 @@ def two_uris_of_one_path(program: str) -> None:
         editor.close_uri(other)
         editor.settle()
         assert len(editor.shown[one]["diagnostics"]) == 1, "closed by the other URI"
-    assert len(children(editor.child.pid)) == 1
+    assert len(linters(editor.child.pid)) == 1
     end(editor)
 
 
@@ -203,7 +203,7 @@ def opened_twice(program: str) -> None:
     assert editor.texts(ACTION) == []
     editor.close(ACTION)
     editor.settle()
-    assert len(children(editor.child.pid)) <= 1, "the first folder's linter still runs"
+    assert len(linters(editor.child.pid)) <= 1, "the first folder's linter still runs"
     end(editor)
 
 
@@ -213,7 +213,7 @@ def a_root_path(program: str) -> None:
     editor = start(program, FILES, root_path="{}/.github/../")
     editor.open(FILE, RIGHT)
     editor.settle()
-    assert editor.texts(FILE) == [] and editor.texts(CALLED) and len(children(editor.child.pid)) == 1, editor.diagnostics()
+    assert editor.texts(FILE) == [] and editor.texts(CALLED) and len(linters(editor.child.pid)) == 1, editor.diagnostics()
     end(editor)
 
 

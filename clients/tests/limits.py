@@ -12,14 +12,15 @@ import tempfile
 import threading
 import time
 from pathlib import Path
+from typing import Any
 
 from cases import Cases
 from completion import project_of
-from editor import Editor, children
+from editor import Editor, linters
 from promises import end, start
+from readers import reader
 from repositories import CALLED, CLIENTS, FILE, FILES, RIGHT, UNDEFINED, WORKFLOWS, WRONG, write
 
-from actionlint_client import project as files
 from actionlint_client.child import LinterEnded
 from actionlint_client.diagnostics import Diagnostics
 from actionlint_client.folder import Folder, Program
@@ -190,7 +191,7 @@ def requests_that_never_end(program: str) -> None:
             editor.change(FILE, WRONG)
             editor.settle()
             assert editor.texts(FILE) == [UNDEFINED], module
-            assert len(children(editor.child.pid)) == 1, module
+            assert len(linters(editor.child.pid)) == 1, module
             end(editor)
 
 
@@ -204,7 +205,8 @@ def symbols_of_a_folder(_: str) -> None:
     """No file is read that can't have the name, and each other one once; few are held."""
     texts, read = many(300), []
     project = project_of(texts)
-    read_tree, files.read_tree = files.read_tree, lambda text: (read.append(text), read_tree(text))[1]
+    one: Any = reader()
+    read_tree, one.tree = one.tree, lambda *text: (read.append(text), read_tree(*text))[1]
     try:
         # 57 of the numbers have a 7, and 11 begin with it.
         for query, count, reads in (("nowhere", 0, 0), ("flow 7", 11, 57), ("flow 7", 11, 57), ("flow", 300, 300)):
@@ -213,22 +215,23 @@ def symbols_of_a_folder(_: str) -> None:
         assert len(project._known) <= MAX_HELD
         assert not parts_with(project_of(texts), next(iter(texts)), "flow", False)
     finally:
-        files.read_tree = read_tree
+        one.tree = read_tree
 
 
 @CASES.case
 def a_search_that_is_cut(_: str) -> None:
     """What it has read is kept, so that a later one comes to an end."""
     project, read, cuts = project_of({**many(MAX_HELD * 3), "a/action.yml": "name: a\n"}), [], 0
-    read_tree = files.read_tree
+    one: Any = reader()
+    read_tree = one.tree
 
-    def cut_short(text: str) -> Node | None:
-        read.append(text)
+    def cut_short(path: str, data: bytes) -> Node | None:
+        read.append(path)
         if len(read) % 9 == 0:
             raise TooSlow
-        return read_tree(text)
+        return read_tree(path, data)
 
-    files.read_tree = cut_short
+    one.tree = cut_short
     try:
         while cuts < 100:
             try:
@@ -237,7 +240,7 @@ def a_search_that_is_cut(_: str) -> None:
             except TooSlow:
                 cuts += 1
     finally:
-        files.read_tree = read_tree
+        one.tree = read_tree
     # Eight of nine are read.
     assert cuts == (MAX_HELD * 3 - 1) // 8 and len(read) == MAX_HELD * 3 + cuts, (cuts, len(read))
 
@@ -259,7 +262,7 @@ def open_files_are_kept(_: str) -> None:
     """Others are forgotten first, and then read again."""
     texts = {**many(MAX_HELD * 2), CALLED: RIGHT, "a/action.yml": "name: a\n"}
     data = {file: text.encode() for file, text in texts.items()}
-    project = Project(data.get, lambda: list(data), is_open=lambda file: file == CALLED)
+    project = Project(reader(), data.get, lambda: list(data), is_open=lambda file: file == CALLED)
     tree = project.tree(CALLED)
     assert len(callers(project, "a/action.yml")) == MAX_HELD * 2
     assert project.tree(CALLED) is tree and len(project._known) <= MAX_HELD + 1

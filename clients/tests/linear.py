@@ -17,12 +17,13 @@ from pathlib import Path
 from cases import Cases
 from editor import memory
 from promises import end, script, start
+from readers import reader
 from repositories import ACTION, CALLED, FILE, FILES, RIGHT, UNDEFINED, WORKFLOWS, WRONG, reported, write
 
 from actionlint_client import disk, faults, positions
-from actionlint_client.calls import callees
 from actionlint_client.diagnostics import Diagnostics
 from actionlint_client.faults import FaultReader, Form
+from actionlint_client.files import may_call
 from actionlint_client.folder import REASONS, REPORTS_TOO_MUCH, Folder, Program
 from actionlint_client.report import Fault
 from actionlint_client.repository import Repository
@@ -38,7 +39,8 @@ USES: dict[str, list[str] | None] = {
     "./a": ["a"], "./a/": ["a"], "'./a'": ["a"], '"./a"': ["a"], '"\\x2e/a"': ["a"], '"./\\\n          a"': ["a"], "./a # ./b": ["a"],
     "|-\n          ./a": ["a"], "\n          ./a": ["a"], "./d e": ["d e"], "&x ./a": ["a"], "./é": ["é"], "./": [""],
     "'./a\n          b'": ["a b"], "./a, ./b": ["a, ./b"], "././a": [], "./a//b": [], "./../a": [], ".//a": [], "/a": [], "a": [],
-    "./a\\b": [], '"./a\\tb"': [], "./${{ github.ref }}": [], "[./a]": [], "{./a: 1}": [], "!x ./a": None, "*y": None, "&x.y ./a": ["a"], "&é ./a": ["a"], "./a\n\t\n": ["a"], "./a # \u2028": ["a"],
+    "./a\\b": [], '"./a\\tb"': [], "./${{ github.ref }}": [], "[./a]": [], "{./a: 1}": [], "!x ./a": None, "*y": None,
+    "&x.y ./a": ["a"], "&é ./a": ["a"], "./a\n\t\n": ["a"], "./a # \u2028": ["a"],
 }
 NO_CALLS = (
     "      - run: |\n          uses: ./a\n          - uses: ./a\n", "      # - uses: ./a\n", "      - name: 'uses: ./a'\n",
@@ -50,18 +52,33 @@ NO_CALLS = (
 def what_a_file_calls(_: str) -> None:
     """The candidates are those of the linter: the calls of steps, however they are written, and nothing that only looks like one."""
     for value, folders in USES.items():
-        found = callees(FILE, f"{HEAD}      - uses: {value}\n".encode())
+        data = f"{HEAD}      - uses: {value}\n".encode()
+        found = reader().calls(FILE, data)
         expected = folders and {f"{folder}/{name}".lstrip("/") for folder in folders for name in ("action.yml", "action.yaml")}
         assert found == (None if folders is None else frozenset(expected or ())), (value, found)
+        assert may_call(data) or not folders, value
     for text in NO_CALLS:
-        assert callees(FILE, (HEAD + text).encode()) == frozenset(), text
-    composite = "name: A\nruns:\n  using: {}\n  steps:\n    - uses: ./a\n"
-    assert len(callees(ACTION, composite.format("composite").encode()) or ()) == 2
-    assert callees(ACTION, composite.format("node20").encode()) == callees(FILE, composite.format("composite").encode()) == frozenset()
+        assert reader().calls(FILE, (HEAD + text).encode()) == frozenset(), text
+    composite = "name: A\nruns:\n  using: {}\n  steps:\n    - uses: ./b\n"
+    assert len(reader().calls(ACTION, composite.format("composite").encode()) or ()) == 2
+    for path, using in ((ACTION, "node20"), (FILE, "composite")):
+        assert reader().calls(path, composite.format(using).encode()) == frozenset(), path
     for text in ("uses: [", "a: b\n---\nuses: c\n", "? [uses]\n: a\n", "&a uses: b\n", "uses: " + "[" * 65 + "]" * 65, "uses: \t- a: [",
                  "uses: " + "[" * 500_000, "- " * 500_000 + "uses"):
-        assert callees(FILE, text.encode()) is None, text[:40]
-    assert callees(FILE, b"uses: \xff") is None
+        assert reader().calls(FILE, text.encode()) is None, text[:40]
+    assert reader().calls(FILE, b"uses: \xff") is None
+
+
+@CASES.case
+def one_text_at_a_time(_: str) -> None:
+    """What was read before has no part in an answer, whatever its path, and what can't be given has none."""
+    text = f"{HEAD}      - uses: ./a\n".encode()
+    both, others = frozenset({"a/action.yml", "a/action.yaml"}), frozenset({"b/action.yml", "b/action.yaml"})
+    assert reader().calls(CALLED, text) == both and reader().calls(FILE, text.replace(b"./a", b"./b")) == others
+    assert reader().calls("a/action.yml", b"name: a\n# uses\n") == frozenset() and reader().calls(FILE, text) == both
+    for path, data in ((FILE, text + b"#" * 1_048_576), ("b.yml", text), ("a\\b/action.yml", text), ("d/" * 600 + "action.yml", text)):
+        assert reader().calls(path, data) is None and reader().tree(path, data) is None and not reader().expressions(path, data), path
+    assert reader().calls(FILE, text) == both
 
 
 def random_steps(chance: random.Random) -> str:
@@ -93,7 +110,7 @@ def calls_by_chance(program: str) -> None:
             text = random_steps(chance)
             write(root, {FILE: text})
             linted = {fault[0] for fault in reported(program, os.fsencode(root))} - {FILE}
-            found = (callees(FILE, text.encode()) or frozenset()) & actions
+            found = (reader().calls(FILE, text.encode()) or frozenset()) & actions
             assert found == linted, (number, text, found, linted)
             called += len(found)
     assert called > 100

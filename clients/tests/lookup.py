@@ -17,7 +17,9 @@ from typing import Sequence
 from cases import Cases
 from clones_and_releases import PATH
 from editor import Editor
-from repositories import ACTION, CLIENTS, FILE, FILES, TOP, UNDEFINED, write
+from repositories import CLIENTS, FILE, FILES, TOP, UNDEFINED, write
+
+from actionlint_client.program import find_facts
 
 CASES = Cases("lookup")
 WHERE = "--program or the variable ACTIONLINT names the linter"
@@ -33,9 +35,7 @@ library.SYSTEM_PYTHON = {system_python!r}
 sys.argv[0] = {client!r}
 runpy.run_path(sys.argv[0], run_name="__main__")
 """
-ALL_MODULES = ("pylsp_jsonrpc", "yaml.cyaml")
-# An action that PyYAML doesn't read without libyaml, and the one that it calls.
-TAB_BEFORE_A_COLON = "name: A\ndescription: d\nruns:\n  using: composite\n  steps:\n    - run: make\n      shell\t: bash\n    - uses: ./b\n"
+LIBRARY = ("pylsp_jsonrpc", "pylsp_jsonrpc.endpoint")
 
 # Runs a program by a Python that claims to be old.
 OLD_PYTHON = """
@@ -158,7 +158,9 @@ def reports(program: str) -> None:
     command.symlink_to("../share/actionlint/clients/actionlint-report")
     status, out, said = ran([command, "--form", "jsonl"], **how)
     assert (status, out) == (3, "") and WHERE in said and said.count("\n") == 1, said
-    shutil.copy(program, tree.link("a prefix/bin/juzbrost"))
+    release = tree.link("a prefix/bin/juzbrost")
+    shutil.copy(program, release)
+    shutil.copy(find_facts(program), f"{release}-facts")
     status, out, said = ran([command, "--form", "jsonl"], **how)
     assert status == 1 and '"X13"' in out and not said, (status, out, said)
     tree.remove()
@@ -184,7 +186,9 @@ def language_server(program: str) -> None:
     assert len(editor.messages) == 1 and WHERE in editor.messages[0] and editor.diagnostics() == {}, editor.messages
     editor.quit()
     (tree.room / "a prefix/bin").mkdir()
-    shutil.copy(program, tree.link("a prefix/bin/juzbrost"))
+    release = tree.link("a prefix/bin/juzbrost")
+    shutil.copy(program, release)
+    shutil.copy(find_facts(program), f"{release}-facts")
     editor = opened()
     assert editor.texts(FILE) == [UNDEFINED] and not editor.messages, editor.messages
     editor.quit()
@@ -236,32 +240,51 @@ def what_python_lacks(program: str) -> None:
 
 
 @CASES.case
-def a_python_without_libyaml(program: str) -> None:
-    """The system's Python runs the clients instead, so what a file calls is the same everywhere; if that isn't possible, a line says what
-    is missing, and a report that can't be made leaves no file."""
+def a_python_without_the_library(program: str) -> None:
+    """The system's Python runs the server instead; if that isn't possible, a line says what is missing."""
     tree = Tree()
     root = tree.room / "repository"
-    write(str(root), {**FILES, ACTION: TAB_BEFORE_A_COLON, "b/action.yml": "name: B\n"})
-    server, report = CLIENTS / "actionlint-lsp", CLIENTS / "actionlint-report"
-    editor = Editor(program, os.fsencode(root), server=tree.without(server, ("yaml.cyaml",), sys.executable))
+    write(str(root), FILES)
+    server = CLIENTS / "actionlint-lsp"
+    editor = Editor(program, os.fsencode(root), server=tree.without(server, LIBRARY, sys.executable))
     editor.settle()
-    assert len(editor.texts("b/action.yml")) == 2 and not editor.messages, editor.diagnostics()
+    assert editor.texts(FILE) == [UNDEFINED] and not editor.messages, editor.diagnostics()
     assert editor.quit() == 0
-    words = ["--program", program, "--shellcheck", "--out", "report", "--form", "jsonl"]
-    for client, arguments in ((server, []), (report, words)):
-        found = ran([sys.executable, tree.without(client, ("yaml.cyaml",), "/bin/false"), *arguments], cwd=root)
-        assert found == (3, "", f"{client.name}: {sys.executable} has no yaml.cyaml (Debian: apt-get install python3-yaml)\n"), found
-    assert sorted(os.listdir(root)) == [".github", "a", "b"]
-    found = ran([sys.executable, tree.without(report, ("yaml",), "/bin/false"), "--program", program, "--form", "jsonl"], cwd=root)
-    assert found[0] == 1 and '"X13"' in found[1], "a report without notes needs no library"
+    found = ran([sys.executable, tree.without(server, LIBRARY, "/bin/false")], cwd=root)
+    said = f"{server.name}: {sys.executable} has no pylsp_jsonrpc.endpoint (Debian: apt-get install python3-pylsp-jsonrpc)\n"
+    assert found == (3, "", said), found
+    tree.remove()
+
+
+@CASES.case
+def without_actionlint_facts(program: str) -> None:
+    """The server says so, and shows nothing, since it can't tell which actions are called. A report that needs it can't be made and leaves
+    no file; another one has no fixes."""
+    tree = Tree()
+    root = tree.room / "repository"
+    nowhere = {**os.environ, "ACTIONLINT_FACTS": f"{tree.room}/nowhere"}
+    # (first without calls)
+    for files in ({FILE: FILES[FILE]}, FILES):
+        write(str(root), files)
+        editor = Editor(program, os.fsencode(root), environment=nowhere)
+        editor.settle()
+        assert not editor.diagnostics() and any(f"cannot start {tree.room}/nowhere" in said for said in editor.messages), editor.messages
+        assert editor.quit() == 0
+    report: list[str | Path] = [CLIENTS / "actionlint-report", "--program", program]
+    for words in (["--shellcheck", "--out", "report", "--form", "jsonl"], ["--fix"], ["--diff"]):
+        status, out, said = ran([*report, *words], cwd=root, env=nowhere)
+        assert (status, out) == (3, "") and said.startswith(f"actionlint-report: cannot start {tree.room}/nowhere: "), (words, said)
+    assert sorted(os.listdir(root)) == [".github", "a"]
+    status, out, said = ran([*report, "--form", "text"], cwd=root, env=nowhere)
+    assert status == 1 and "X13" in out and "Fix: " not in out and "Guess: " not in out, (out, said)
     tree.remove()
 
 
 @CASES.case
 def a_module_of_the_current_folder(program: str) -> None:
-    """If PYTHONPATH puts one before a library, the library is found all the same. (The input is empty, so the server ends at once.)"""
+    """If PYTHONPATH puts one before the library, the library is found all the same. (The input is empty, so the server ends at once.)"""
     tree = Tree()
-    write(str(tree.room), {"yaml.py": ""})
+    write(str(tree.room), {"pylsp_jsonrpc.py": ""})
     found = ran([sys.executable, tree.without(CLIENTS / "actionlint-lsp", (), sys.executable), "--program", program], cwd=tree.room,
                 env={**os.environ, "PYTHONPATH": "."}, timeout=20)
     assert found == (1, "", ""), found
@@ -270,16 +293,16 @@ def a_module_of_the_current_folder(program: str) -> None:
 
 @CASES.case
 def options_of_the_server(program: str) -> None:
-    """Help and version need no library; without the libraries one line names their packages. An editor may say `--stdio`."""
+    """Help and version need no library; without it one line names its package. An editor may say `--stdio`."""
     tree = Tree()
     server = tree.top / "clients/actionlint-lsp"
 
     def run(*words: str) -> tuple[int, str, str]:
-        return ran([sys.executable, tree.without(server, ALL_MODULES, "/nowhere"), *words], env=tree.environment)
+        return ran([sys.executable, tree.without(server, LIBRARY, "/nowhere"), *words], env=tree.environment)
     assert run("--help")[0] == 0 and "--no-earlier-faults" in run("--help")[1], run("--help")
     assert run("--version")[:2] == (0, "actionlint-lsp without a version\n"), run("--version")
     status, said, errors = run()
-    assert (status, said) == (3, "") and "apt-get install python3-pylsp-jsonrpc python3-yaml" in errors and errors.count("\n") == 1, errors
+    assert (status, said) == (3, "") and "apt-get install python3-pylsp-jsonrpc)" in errors and errors.count("\n") == 1, errors
     for word in ("--help", "--version"):
         found = ran(["sh", "-c", 'exec "$@" > /dev/full', "sh", server, word])
         assert found == (3, "", "actionlint-lsp: cannot write standard output: No space left on device\n"), found

@@ -101,12 +101,13 @@ def anchors(program: str) -> None:
     """An alias refers to the last anchor of its name, and quotes and anchors aren't part of a name."""
     text = ("on: push\nenv: &e\n  A: b\njobs:\n  'a':\n    env: *e\n    runs-on: u\n"
             "  b:\n    needs: &n \"a\"\n    env: &e {C: d}\n    runs-on: u\n"
-            "  c:\n    env: *e\n    needs: *n\n")
+            "  c:\n    env: *e\n    needs: *n\n  d:\n    env: # &e *n\n      *e\n")
     project = project_of({FILE: text})
     spelled = [text.split("\n")[one.span.start.line][one.span.start.column:one.span.end.column] for one in occurrences(project, FILE)]
-    assert sorted(spelled) == ["a", "a", "b", "c", "e", "e", "e", "e", "n", "n"], spelled
-    found = occurrence_at(project, FILE, Point(12, 10))
-    assert [one.span.start.line for one in all_of(project, found.symbol)] == [9, 12]
+    assert sorted(spelled) == ["a", "a", "b", "c", "d", "e", "e", "e", "e", "e", "n", "n"], spelled
+    for line, column in ((12, 10), (16, 7)):
+        found = occurrence_at(project, FILE, Point(line, column))
+        assert [one.span.start.line for one in all_of(project, found.symbol)] == [9, 12, 16]
     found = occurrence_at(project, FILE, Point(5, 10))
     assert [one.span.start.line for one in all_of(project, found.symbol)] == [1, 5]
 
@@ -123,7 +124,7 @@ def names_in_texts(program: str) -> None:
 
 @CASES.case
 def what_the_linter_reads(program: str) -> None:
-    """Names are found in texts that the linter reads and PyYAML doesn't, at their places."""
+    """Names are found in texts that few other readers of YAML read, at their places."""
     head = "on: push\njobs:\n  a:\n    runs-on: u\n    steps: [{run: make}]\n"
     for what, text in (("tabs on an empty line", head + "\t \t\n  b:\n    needs: a\n"),
                        ("a tab before the end", head + "  b:\n    needs: a\n\t"),

@@ -15,7 +15,7 @@ import time
 from pathlib import Path
 
 from cases import Cases
-from editor import Editor, children, memory
+from editor import Editor, children, linters, memory
 from repositories import ACTION, CALLED, FILE, FILES, RIGHT, UNDEFINED, WORKFLOWS, WRONG, in_characters, reported, write
 
 from actionlint_client.faults import NO_FAULTS
@@ -186,7 +186,7 @@ def the_linter_is_killed(program: str) -> None:
     editor.open(FILE, WRONG)
     editor.settle()
     for text, expected in ((RIGHT, []), (WRONG, [UNDEFINED]), (RIGHT, [])):
-        (child,) = children(editor.child.pid)
+        (child,) = linters(editor.child.pid)
         os.kill(child, signal.SIGKILL)
         editor.change(FILE, text)
         editor.settle()
@@ -241,7 +241,7 @@ def a_linter_that_hangs(program: str) -> None:
     editor = start(script(folder, f'#!/bin/sh\nif [ -e "{folder}/hang" ]; then exec sleep 100; fi\nexec "{program}" "$@"\n'), FILES,
                    words=("--timeout", "1"))
     assert editor.texts(FILE) == [UNDEFINED]
-    (child,) = children(editor.child.pid)
+    (child,) = linters(editor.child.pid)
     os.kill(child, signal.SIGSTOP)
     begun = time.monotonic()
     save(editor, FILE, RIGHT.encode())
@@ -450,7 +450,7 @@ def many_edits(program: str) -> None:
         editor.change(FILE, WRONG + "#" * (number % 40) + "\n")
         editor.settle()
         if number % 1_000 == 999:
-            (child,) = children(editor.child.pid)
+            (child,) = linters(editor.child.pid)
             sizes.append((memory(editor.child.pid), memory(child)))
     print(f"  resident KiB of server and linter after each 1,000 edits: {sizes}")
     for before, after in zip(sizes[0], sizes[-1]):

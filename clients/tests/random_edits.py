@@ -16,7 +16,10 @@ import time
 from collections import Counter
 
 from editor import Editor
-from repositories import LINE_BREAK, WORKFLOWS, in_characters, reported
+from repositories import CLIENTS, LINE_BREAK, WORKFLOWS, in_characters, reported
+
+sys.path.insert(0, str(CLIENTS))
+from actionlint_client.characters import shown
 
 ACTION = """name: {name}
 description: d
@@ -70,7 +73,9 @@ OTHERS = ["notes.yml", WORKFLOWS + "deep/x.yml"]
 FIRST_FILES = 9
 WORD = re.compile(r"[\w-]+")
 RENAMED = re.compile(r"\b(?:who|more|less|out|x|y|a|b|s)\b(?=:|[ }]|$)", re.M)
-TYPED = "a:-'\"{[\t\n é\U0001F600\x07&*#"
+# Also what readers of YAML take differently: line breaks of other versions, marks, names of anchors, single pairs, further documents.
+TYPED = (*"a:-'\"{[\t\n é\U0001F600\x07&*#", "\x85", "\u2028", "\u2029", "\ufeff", "\r", "\n\t \n", "&b.c ", "*b.c", "&é ", "*é", "[a: b]",
+         "\n---\n", "!x ", "\t#")
 
 
 class Texts:
@@ -249,6 +254,8 @@ class World:
         open_files = {path for path in self.buffers if path not in OTHERS}
         if open_files:
             expected |= set(reported(self.program, self.mirror, sorted(open_files)))
+        # Messages name characters that can't be seen.
+        expected = {(path, line, column, shown(message)) for path, line, column, message in expected}
         if sorted(found) != sorted(expected):
             print(f"  after {told}: only shown: {sorted(set(found) - expected)}; only expected: {sorted(expected - set(found))}; "
                   f"told: {self.editor.messages[-3:]}")

@@ -45,7 +45,7 @@ SAME = {
     "a secret beside a text": "on:\n  workflow_call:\n    secrets:\n      <>: {required: true}\njobs:\n  b:\n    runs-on: u\n"
                               "    env: {A: \"${{ secrets['<>'] || 'none' }}\"}\n    steps: [{run: make}]\n",
     "a step in brackets": "on: push\njobs:\n  b:\n    runs-on: u\n    steps:\n      - id: <>\n        run: echo a=b >> $GITHUB_OUTPUT\n"
-                          "      - if: steps['<>'].outputs['a'] == 'x' && steps[\"no\"] != 1\n        run: make\n",
+                          "      - if: steps['<>'].outputs['a'] == 'x' && steps['no'] != 1\n        run: make\n",
     "a job that an index names": FIRST + "  b:\n    needs: <>\n"
                                  "    strategy: {matrix: {k: [result]}}\n"
                                  "    name: ${{ needs.<>[matrix.k] }} ${{ matrix[needs['<>'].result] }}\n" + JOB,

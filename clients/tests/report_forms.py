@@ -306,12 +306,11 @@ def rules_that_ignore_nothing(program: str) -> None:
 
 @CASES.case
 def without_libraries(program: str) -> None:
-    """Reports need only python3, and then have no fixes."""
-    # (without its folders of packages, and without looking for a Python that has them)
+    """Reports need only python3, also for their fixes."""
+    # (without its folders of packages)
     words = [sys.executable, "-S", "-E", REPORT, "--program", program, "--form", "text", "--root", str(TOP / "examples/broken")]
     done = subprocess.run(words, stdout=subprocess.PIPE, stderr=subprocess.PIPE, check=False)
-    lines = [line for line in BROKEN.splitlines(keepends=True) if not IS_FIX.match(line)]
-    assert (done.returncode, done.stdout.decode(), done.stderr) == (1, "".join(lines), b""), done
+    assert (done.returncode, done.stdout.decode(), done.stderr) == (1, BROKEN, b""), done
 
 
 if __name__ == "__main__":

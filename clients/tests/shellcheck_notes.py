@@ -1,6 +1,5 @@
 #!/usr/bin/env python3
-"""Notes of shellcheck: each is at its place in the file, whatever the kind of scalar around its script. Needs Debian's shellcheck and
-python3-yaml.
+"""Notes of shellcheck: each is at its place in the file, whatever the kind of scalar around its script. Needs Debian's shellcheck.
 
     shellcheck_notes.py PROGRAM [NAME...]
 """
@@ -16,11 +15,12 @@ from pathlib import Path
 from typing import Any
 
 from cases import Cases
+from readers import reader
 from repositories import CLIENTS, FILE, TOP, WORKFLOWS, write
 
 from actionlint_client.problems import Problem
 from actionlint_client.report import Fault
-from actionlint_client.scripts import NotRead, Script, scripts_and_calls, variable_of, without_expressions, word_of
+from actionlint_client.scripts import Script, scripts_of, variable_of, without_expressions, word_of
 from actionlint_client.shellcheck import notes_of_text
 
 CASES = Cases("shellcheck")
@@ -97,9 +97,14 @@ def notes_on(script: str, shell: str | None = None) -> list[Problem]:
     """The notes on a script in a block, whose later lines are indented by ten."""
     text = f"{STEPS}      - run: |\n          {script}\n" + (f"        shell: {shell}\n" if shell else "")
     said: list[Fault] = []
-    found = list(notes_of_text(FILE, text.encode(), said.append))
+    found = list(notes_of_text(reader(), FILE, text.encode(), said.append))
     assert not said, (script, said)
     return found
+
+
+def scripts_in(text: str, file: str = FILE) -> list[Script]:
+    tree = reader().tree(file, text.encode())
+    return scripts_of(tree, text.encode()) if tree else []
 
 
 def codes_of(script: str, shell: str | None = None) -> list[str]:
@@ -146,7 +151,7 @@ def every_character(program: str) -> None:
     """In all scripts of the examples and of the files of the cases above."""
     texts = [path.read_text(encoding="utf-8") for path in Path(TOP / "examples").rglob("*.yml")]
     texts += [STEPS + steps for steps, _ in PLACES.values()]
-    scripts = [(text, script) for text in texts for script in scripts_and_calls(text)[0]]
+    scripts = [(text, script) for text in texts for script in scripts_in(text)]
     assert len(scripts) >= 30, len(scripts)
     for text, script in scripts:
         check_script(text, script)
@@ -155,11 +160,11 @@ def every_character(program: str) -> None:
 @CASES.case
 def shells(program: str) -> None:
     for jobs, shell in SHELLS.items():
-        scripts, _ = scripts_and_calls("on: push\njobs:\n" + jobs)
+        scripts = scripts_in("on: push\njobs:\n" + jobs)
         assert [script.shell for script in scripts] == ([shell] if shell else []), (jobs, scripts)
-    scripts, _ = scripts_and_calls("defaults: {run: {shell: sh}}\njobs: {a: {steps: [{run: x}]}}\n")
+    scripts = scripts_in("defaults: {run: {shell: sh}}\njobs: {a: {steps: [{run: x}]}}\n")
     assert [script.shell for script in scripts] == ["sh"], scripts
-    scripts, _ = scripts_and_calls("runs: {using: composite, steps: [{run: x, shell: sh}, {run: y}]}\n")
+    scripts = scripts_in("runs: {using: composite, steps: [{run: x, shell: sh}, {run: y}]}\n")
     assert [(script.shell, script.text) for script in scripts] == [("sh", "x")], scripts
 
 
@@ -287,7 +292,7 @@ def a_file_that_only_a_job_names(program: str) -> None:
         for text in ("[" * 100_000, "- " * 100_000, "{a: " * 100_000):
             write(folder, {FILE: "on: push\njobs:\n  a:\n    uses: ./b/c.yml\n", "b/c.yml": text})
             status, found, errors = run(program, folder)
-            assert status == 1 and [one["kind"] for one in found] == ["workflow-call"] and "b/c.yml: no shellcheck" in errors, (status, errors)
+            assert status == 1 and [one["kind"] for one in found] == ["workflow-call"] and not errors, (status, errors)
 
 
 @CASES.case
@@ -318,16 +323,6 @@ def another_program(program: str) -> None:
                                   stderr=subprocess.PIPE, env={**os.environ, "PATH": folder + ":" + os.environ["PATH"]}, text=True, check=False)
             assert (done.returncode, done.stdout) == (3, ""), done
             assert done.stderr == f"actionlint-report: shellcheck ended with status {status}: {said}\n", done.stderr
-
-
-@CASES.case
-def files_that_the_library_refuses(program: str) -> None:
-    for text in ("a: [", "\x00"):
-        try:
-            scripts_and_calls(text)
-        except NotRead:
-            continue
-        raise AssertionError(text)
 
 
 if __name__ == "__main__":

@@ -235,7 +235,7 @@ def a_shellcheck_that_fails(program: str) -> None:
 
 @CASES.case
 def what_is_no_yaml(program: str) -> None:
-    """A text that the linter can't read isn't checked, even if PyYAML can."""
+    """A text that the linter can't read isn't checked."""
     with tempfile.TemporaryDirectory(prefix="actionlint-test-") as folder:
         editor = start_with(program, folder)
         editor.open(FILE, NOTED.replace("on: push", "on: [push, pull_request: x]"))

@@ -18,6 +18,7 @@ from pathlib import Path
 from typing import Iterator
 
 from cases import Cases
+from readers import reader
 from repositories import CLIENTS
 
 from actionlint_client.entries import entry_of
@@ -100,7 +101,7 @@ class Folder:
     def __init__(self, program: str, texts: dict[str, str]):
         self.program, self.texts = [program], texts
         files = {path: text.encode() for path, text in texts.items()}
-        self.project = Project(files.get, lambda: list(files))
+        self.project = Project(reader(), files.get, lambda: list(files))
 
     def faults(self) -> list[Fault]:
         session = Session(self.program, False, SECONDS)

@@ -19,9 +19,8 @@ from pathlib import Path
 from cases import Cases
 from clones_and_releases import ANYWHERE, Place, Room, in_each_clone, in_each_place
 from editors import in_terminal
+from readers import values
 from repositories import CLIENTS, FILE, FILES, TOP, UNDEFINED, WORKFLOWS, git, reported, write
-
-import yaml  # type: ignore[import]
 
 CASES = Cases("snippets")
 PAGES = ("README.md", "docs/EDITORS.md", "docs/CI.md", "docs/COMMAND-LINE.md")
@@ -157,7 +156,7 @@ def run_workflow(place: Place, text: str, uploaded: str | None = None) -> None:
     """Runs the steps of a workflow's one job as a runner would, in a repository with a fault beside the workflow."""
     with place.repository({**FILES, WORKFLOWS + "lint.yml": text}) as room:
         assert {one[0] for one in reported(place.program, os.fsencode(room.root))} == {FILE, WORKFLOWS + "c.yml"}
-        ((job),) = yaml.safe_load(text)["jobs"].values()
+        ((job),) = values(text)["jobs"].values()
         for step in job["steps"]:
             name, _, reference = step["uses"].partition("@")
             if name == "OWNER/REPOSITORY":
@@ -172,7 +171,7 @@ def run_workflow(place: Place, text: str, uploaded: str | None = None) -> None:
 
 def run_action(place: Place, room: Room, inputs: dict[str, str]) -> tuple[int, str]:
     """Runs the only step of the action like a runner, with the clone as the folder into which the action was downloaded."""
-    action = yaml.safe_load((place.folder / "action.yml").read_text(encoding="utf-8"))
+    action = values((place.folder / "action.yml").read_text(encoding="utf-8"))
     (step,) = action["runs"]["steps"]
     values = {f"inputs.{name}": inputs.get(name, one["default"]) for name, one in action["inputs"].items()}
     values["github.action_path"] = str(place.folder)
@@ -190,7 +189,7 @@ def run_action(place: Place, room: Room, inputs: dict[str, str]) -> tuple[int, s
 def run_lines(place: Place, name: str, room: Room) -> list[int]:
     """Runs the lines of a snippet, or the commands of its `script`; returns their statuses."""
     (text,) = of_page(name, place)
-    lines = text.splitlines() if not text.startswith("actionlint:\n") else yaml.safe_load(text)["actionlint"]["script"]
+    lines = text.splitlines() if not text.startswith("actionlint:\n") else values(text)["actionlint"]["script"]
     return [subprocess.run(["sh", "-c", line], cwd=room.root, env=room.environment, stdout=subprocess.PIPE, check=False,
                            **place.as_user()).returncode for line in lines]
 

@@ -5,6 +5,7 @@
 """
 from __future__ import annotations
 
+import json
 import re
 import subprocess
 import sys
@@ -13,6 +14,7 @@ from cases import Cases
 from repositories import CLIENTS, TOP
 
 from actionlint_client import entries, names, syntax
+from actionlint_client.program import find_facts
 from actionlint_client.report import parse_fault
 
 sys.path.append(str(TOP / "tests"))
@@ -20,7 +22,6 @@ from case_files import read_cases
 
 CASES = Cases("tables")
 FAULT_LINE = re.compile(rb"^[^ :\n][^:\n]*:[0-9]+:[0-9]+: .*\[[a-z-]+\]$", re.M)
-CODE = re.compile(r"/// ([YKGXC][0-9]+): ")
 SECTION_ROW = re.compile(r"^\| \*([^*]+)\* \| (.+) \|$", re.M)
 LEAST_LINES = 1_000
 
@@ -34,15 +35,17 @@ def printed_lines() -> list[bytes]:
 
 @CASES.case
 def made_anew(program: str) -> None:
-    done = subprocess.run([sys.executable, str(CLIENTS / "make_tables.py"), "--check"], stdout=subprocess.PIPE, check=False)
+    words = [sys.executable, str(CLIENTS / "make_tables.py"), "--check", find_facts(program)]
+    done = subprocess.run(words, stdout=subprocess.PIPE, check=False)
     assert done.returncode == 0, done.stdout.decode() + "clients/make_tables.py writes them"
 
 
 @CASES.case
 def every_code(program: str) -> None:
-    """The codes are those in the linter's code."""
-    codes = CODE.findall((TOP / "crates/al_base/src/codes.rt").read_text(encoding="utf-8"))
-    assert codes and sorted(codes) == sorted(entry.code for entry in entries.entries()), codes
+    """The entries have the codes of the linter, each with its message."""
+    said = subprocess.run([find_facts(program)], input=b"tables\n", stdout=subprocess.PIPE, check=True).stdout
+    codes = dict.fromkeys((row["code"], row["message"]) for row in json.loads(said)["codes"])
+    assert codes and list(codes) == [(entry.code, entry.message) for entry in entries.entries()], codes
     assert all(entry.text and entry.why and entry.repair for entry in entries.entries())
 
 

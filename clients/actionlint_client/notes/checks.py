@@ -8,7 +8,6 @@ import json
 import os
 import signal
 import sys
-from typing import Callable
 
 from ..problems import NOTE, NOTE_KIND, Problem
 from ..program import find_facts
@@ -21,10 +20,6 @@ class NoteChecks(ScriptChecks):
     """Other files than the open one are read as they are on disk."""
 
     module = "actionlint_client.notes.checks"
-
-    def __init__(self, wake: Callable[[], None], linter: str):
-        super().__init__(wake)
-        self._linter = linter
 
     def can_run(self) -> bool:
         """Whether there is the program that the notes need."""
