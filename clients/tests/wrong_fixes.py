@@ -208,5 +208,13 @@ WRONG_FIXES = (
      "for line in _lines_with_key(case)}", "for line in reversed(list(_lines_with_key(case)))}"),
     ("a_word_is_compared_without_quotes", "expression_texts.py", EXPRESSIONS, "LONE_WORD.sub(r\"\\1'\\2'\", part)", "part"),
     ("what_is_not_in_a_list_is_in_it", "expression_texts.py", EXPRESSIONS, '"!" * bool(match[2]) + f"contains(', 'f"contains('),
+    ("no_step_is_the_only_one", "repairs_steps.py", NAMES, "if len(has_output) == 1 and (writes or len(steps) == 1) else None",
+     "if False else None"),
+    ("all_names_are_read", "repairs_steps.py", NAMES, "if not places[name] and not reads_all]", "if False]"),
+    ("a_name_may_stand_twice", "repairs_steps.py", NAMES, " and places[case.arguments[0]] == 1", ""),
+    ("outputs_of_other_steps_are_unknown", "repairs_steps.py", NAMES, " and not is_elsewhere", ""),
+    ("one_of_several_inputs_is_meant", "repairs_calls.py", NAMES, " or len(unknown) != 1:", ":"),
+    ("any_value_may_be_meant", "repairs_calls.py", NAMES, "return [lacking[0].name] if may_be else []", "return [lacking[0].name]"),
+    ("empty_texts_are_quoted_twice", "repairs_calls.py", NAMES, "value if value == EMPTY else as_scalar(", "as_scalar("),
     ("a_registry_is_an_owner", "repairs_calls.py", NAMES, 'yield f"docker://{text}", False', 'yield "./" + text, True'),
 )
