@@ -4,7 +4,7 @@ from __future__ import annotations
 import re
 from dataclasses import dataclass
 from pathlib import Path
-from typing import Iterator
+from typing import Any, Iterator
 
 FILE = Path(__file__).resolve().parent / "notes.cases"
 HEAD = re.compile(r"== (N\d+) (\S+)")
@@ -18,7 +18,7 @@ class NoteCase:
     notes: list[str]
 
 
-def blocks(file: Path, head: re.Pattern[str]) -> Iterator[tuple[tuple[str, ...], dict[str, str], list[str]]]:
+def blocks(file: Path, head: re.Pattern[str]) -> Iterator[tuple[tuple[Any, ...], dict[str, str], list[str]]]:
     """The cases of a file: what stands in the line that begins each, its files (`-- PATH`), and its notes (`!! NOTE`)."""
     files: dict[str, str] = {}
     notes: list[str] = []

@@ -24,8 +24,7 @@ def labels(file: File) -> Iterator[Node]:
     for _, job in file.jobs:
         named = _named(job)
         found = [one for label in named for one in _given_by(file, job, label)]
-        is_own = len(named) > 1 and any(one.text.lower() not in (*TABLE["known"], *TABLE["ended"]) for one in found)
-        if not is_own and not any(one.text.lower() == "self-hosted" for one in found):
+        if len(named) == 1 or all(one.text.lower() in TABLE["known"] or one.text.lower() in TABLE["ended"] for one in found):
             yield from (one for one in found if not has_expression(one.text))
 
 
