@@ -19,7 +19,8 @@ from .text import Point, Span
 from .tree import Node, Path, last_line, walk
 
 CALLED = "on:\n  workflow_call:\njobs:\n  build:\n    runs-on: ubuntu-latest\n    steps:\n      - run: make\n"
-VALUES = {"boolean": "true", "number": "0", "string": "''"}
+EMPTY = "''"
+VALUES = {"boolean": "true", "number": "0", "string": EMPTY}
 # A workflow of another repository whose directory isn't named whole.
 OTHER_FOLDER = re.compile(r"([\w-]+/[\w.-]+)/(?:\.?github/)?(?:workflows?/)?([\w.-]+\.ya?ml@[\w./-]+)")
 # Inputs that take the token of the job, and those that take a secret.
@@ -72,8 +73,8 @@ def near_declared(what: str) -> Callable[[Case], Iterable[Repair]]:
             declared = files.declarations(callee, case.project.good_tree(callee), what, True)
             given = {name.lower() for name in node.names("with" if what == "inputs" else "secrets")}
             free = [one.name for one in declared if one.name.lower() not in given]
-            lacking = _lacking(node, declared, "with" if what == "inputs" else "secrets")
-            found = likely(case.arguments[0], free) or [(one.name, False) for one in lacking if len(lacking) == 1]
+            found = likely(case.arguments[0], free)
+            found = found or [(name, False) for name in _only_lacking(node, declared, "with" if what == "inputs" else "secrets")]
             yield from (case.replace(f'change to "{name}"', name, is_safe=is_slip) for name, is_slip in found)
         yield from _without(case)
     return repairs
@@ -83,6 +84,23 @@ def _lacking(node: Node, declared: list[files.Declaration], below: str) -> list[
     """The required inputs or secrets that a call lacks."""
     given = {name.lower() for name in node.names(below)}
     return [one for one in declared if one.is_required and one.name.lower() not in given]
+
+
+def _unknown(node: Node, declared: list[files.Declaration], below: str) -> list[Node]:
+    """The names that a call gives and the called file doesn't declare."""
+    around, known = node.get(below), [one.name.lower() for one in declared]
+    return [key for key, _ in around.entries if key.value.lower() not in known] if around else []
+
+
+def _only_lacking(node: Node, declared: list[files.Declaration], below: str) -> list[str]:
+    """The required input or secret that a call lacks, if it is the only one, and the only unknown one may be meant by its value."""
+    lacking, unknown = _lacking(node, declared, below), _unknown(node, declared, below)
+    if len(lacking) != 1 or len(unknown) != 1:
+        return []
+    text, kind = node.text(below, unknown[0].value) or "", lacking[0].value.text("type")
+    is_flag, is_number = text in ("true", "false"), text.replace(".", "", 1).isdigit()
+    may_be = "${{" in text or {"boolean": is_flag, "number": is_number, "string": not is_flag}.get(kind or "", True)
+    return [lacking[0].name] if may_be else []
 
 
 def _without(case: Case) -> Iterable[Repair]:
@@ -128,13 +146,11 @@ def _written_elsewhere(case: Case, node: Node, below: str, name: str) -> Iterabl
     key, value = node.key(name), node.get(name)
     if key and value:
         yield from moved_below(case, Found((*path, name), key, value, node))
-    around, callee = node.get(below), _call(case)[1]
+    callee = _call(case)[1]
     what = "secrets" if below == "secrets" else "inputs"
     known = files.declarations(callee, case.project.good_tree(callee), what, True) if callee else []
-    unknown = [key for key, _ in around.entries if key.value.lower() not in [one.name.lower() for one in known]] if around and known else []
-    is_only = len(unknown) == len(_lacking(node, known, below)) == 1
-    for key in unknown:
-        found = likely(key.value, [name]) or [(name, False)] * is_only
+    for key in _unknown(node, known, below) if known else []:
+        found = likely(key.value, [name]) or [(one, False) for one in _only_lacking(node, known, below)]
         yield from (case.replace(f'change "{key.value}" to "{name}"', name, key.span, is_safe=is_slip) for _, is_slip in found)
     inputs = node.get("with")
     key, value = (inputs.key(name), inputs.get(name)) if inputs and below == "secrets" else (None, None)
@@ -210,7 +226,9 @@ def _given(case: Case, node: Node, below: str, declared: list[files.Declaration]
     title = "add " + ", ".join(f'"{entry}"' for entry in entries)
     around = node.get(below)
     if node.is_flow or around and around.is_flow:
-        entries = [f"{one.name}: {as_scalar(_value_of(case, one, below), '', True)}" for one in declared]
+        values = [_value_of(case, one, below) for one in declared]
+        # (an empty text is in quotes already)
+        entries = [f"{one.name}: {value if value == EMPTY else as_scalar(value, '', True)}" for one, value in zip(declared, values)]
     if around and around.entries:
         yield case.of(title, next_entry(case, around, around.entries[-1][0].value, (", " if around.is_flow else "\n").join(entries)))
     elif around is None:
@@ -240,7 +258,7 @@ def _value_of(case: Case, one: files.Declaration, below: str) -> str:
     if len(others) == 1 and (one.value.text("type") == "number" or max(others.values()) > 1):
         return next(iter(others))
     default = one.value.text("default")
-    return default if default and re.fullmatch(r"[\w./-]+", default) else VALUES.get(one.value.text("type") or "", "''")
+    return default if default and re.fullmatch(r"[\w./-]+", default) else VALUES.get(one.value.text("type") or "", EMPTY)
 
 
 def _given_elsewhere(case: Case, name: str) -> Counter[str]:

@@ -114,21 +114,28 @@ def same_name_elsewhere(case: Case) -> Iterable[Repair]:
 
 
 def only_output(case: Case) -> Iterable[Repair]:
-    """The only output of a step or a needed job."""
-    before = names_before(case)
+    """The only output of a step or a needed job, if no other has the one that is asked for."""
+    before, scope = names_before(case), scope_of(case)
     is_output = len(before) == 3 and before[0].lower() in ("steps", "needs") and before[2].lower() == "outputs"
     outputs = properties_before(case) if is_output else []
-    if len(outputs) == 1 and not likely(case.arguments[0], outputs):
+    others = scope.properties(before[:1]) if scope and len(outputs) == 1 else []
+    is_elsewhere = any(one.name.lower() == case.arguments[0].lower() for other in others if scope
+                       for one in scope.properties((before[0], other.name, "outputs")))
+    if len(outputs) == 1 and not is_elsewhere and not likely(case.arguments[0], outputs):
         yield case.replace(f'change to "{outputs[0]}"', outputs[0])
 
 
 def unused_name(case: Case) -> Iterable[Repair]:
-    """The only one of several names that a file declares and no expression of it has."""
+    """The only one of several names that a file declares and nothing reads, if the wrong one stands in one place alone."""
     before = names_before(case)
     known = properties_before(case) if before and before[0].lower() in ("inputs", "matrix") else []
-    prefix = re.escape(".".join(before))
-    free = [name for name in known[:MAX_NAMES + 1] if not re.search(rf"(?<![\w.-]){prefix}\.{re.escape(name)}(?![\w-])", case.text, re.I)]
-    if len(free) == 1 < len(known) <= MAX_NAMES and not likely(case.arguments[0], known):
+    prefix = rf"(?<![\w.-])(?:github\.event\.)?{re.escape('.'.join(before))}"
+    places = {name: len(re.findall(rf"{prefix}(?:\.{re.escape(name)}(?![\w-])|\['{re.escape(name)}'\])", case.text, re.I))
+              for name in (*known[:MAX_NAMES], case.arguments[0])}
+    # (what reads all of them reads each)
+    reads_all = any(re.search(prefix + r"(?![\w.\[-]|\s*:)", chunk, re.I) for chunk in re.findall(r"\$\{\{(.*?)\}\}", case.text, re.S))
+    free = [name for name in known[:MAX_NAMES] if not places[name] and not reads_all]
+    if len(free) == 1 < len(known) <= MAX_NAMES and places[case.arguments[0]] == 1 and not likely(case.arguments[0], known):
         yield case.replace(f'change to "{free[0]}", which nothing else reads', free[0])
 
 

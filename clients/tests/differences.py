@@ -12,10 +12,11 @@ import re
 import subprocess
 import sys
 import tempfile
-from dataclasses import dataclass, field
+from dataclasses import dataclass
 from pathlib import Path
 
 from cases import Cases
+from note_cases import blocks
 from repositories import CLIENTS, TOP, write
 
 from actionlint_client.entries import entries, link_of
@@ -37,21 +38,11 @@ class Row:
     section: str
     found: str
     text: str
-    files: dict[str, str] = field(default_factory=dict)
+    files: dict[str, str]
 
 
 def rows() -> list[Row]:
-    found: list[Row] = []
-    path = ""
-    for line in ROWS.read_text(encoding="utf-8").splitlines():
-        if head := HEAD.fullmatch(line):
-            found.append(Row(*head.groups()))
-        elif line.startswith("-- "):
-            path = line[3:]
-            found[-1].files[path] = ""
-        elif found:
-            found[-1].files[path] += line + "\n"
-    return found
+    return [Row(*head, files) for head, files, _ in blocks(ROWS, HEAD)]
 
 
 def linked(found: str) -> str:

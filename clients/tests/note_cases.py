@@ -2,8 +2,9 @@
 from __future__ import annotations
 
 import re
-from dataclasses import dataclass, field
+from dataclasses import dataclass
 from pathlib import Path
+from typing import Any, Iterator
 
 FILE = Path(__file__).resolve().parent / "notes.cases"
 HEAD = re.compile(r"== (N\d+) (\S+)")
@@ -13,24 +14,33 @@ HEAD = re.compile(r"== (N\d+) (\S+)")
 class NoteCase:
     code: str
     name: str
-    files: dict[str, str] = field(default_factory=dict)
-    notes: list[str] = field(default_factory=list)
+    files: dict[str, str]
+    notes: list[str]
+
+
+def blocks(file: Path, head: re.Pattern[str]) -> Iterator[tuple[tuple[Any, ...], dict[str, str], list[str]]]:
+    """The cases of a file: what stands in the line that begins each, its files (`-- PATH`), and its notes (`!! NOTE`)."""
+    files: dict[str, str] = {}
+    notes: list[str] = []
+    begun: re.Match[str] | None = None
+    path = ""
+    for line in [*file.read_text(encoding="utf-8").splitlines(), None]:
+        found = head.fullmatch(line) if line is not None else None
+        if (found or line is None) and begun:
+            yield begun.groups(), files, notes
+        if found:
+            begun, files, notes = found, {}, []
+        elif line is not None and line.startswith("-- "):
+            path = line[3:]
+            files[path] = ""
+        elif line is not None and line.startswith("!! "):
+            notes.append(line[3:])
+        elif line is not None and begun:
+            files[path] += line + "\n"
 
 
 def note_cases(file: Path = FILE) -> list[NoteCase]:
-    cases: list[NoteCase] = []
-    path = ""
-    for line in file.read_text(encoding="utf-8").splitlines():
-        if found := HEAD.fullmatch(line):
-            cases.append(NoteCase(*found.groups()))
-        elif line.startswith("-- "):
-            path = line[3:]
-            cases[-1].files[path] = ""
-        elif line.startswith("!! "):
-            cases[-1].notes.append(line[3:])
-        elif cases:
-            cases[-1].files[path] += line + "\n"
-    return cases
+    return [NoteCase(*head, files, notes) for head, files, notes in blocks(file, HEAD)]
 
 
 def cases_by_name() -> dict[tuple[str, str], NoteCase]:

@@ -3,10 +3,13 @@ from __future__ import annotations
 
 from typing import Iterator
 
-from ..facts_tree import Chain, Expression, Group, Node, Not, Word
+from ..facts_tree import Call, Chain, Expression, Group, Node, Not, Word
 from ..facts_tree import walk as parts_of
 from .file import File, Finding, inner, names_of, note, text_of
 from .values import COMPARISONS, kind_of
+
+# The functions whose results depend on nothing but their arguments.
+OF_ARGUMENTS = ("contains", "startswith", "endswith", "format", "join", "tojson", "fromjson")
 
 
 def _conditions(file: File) -> Iterator[Node]:
@@ -16,7 +19,8 @@ def _conditions(file: File) -> Iterator[Node]:
 
 def _is_constant(expression: Expression) -> bool:
     """Whether an expression has the same value in each run."""
-    return all(isinstance(part, (Group, Not, Chain)) or isinstance(part, Word) and part.kind != "name" for part in parts_of(expression))
+    return all(isinstance(part, (Group, Not, Chain)) or isinstance(part, Word) and part.kind != "name"
+               or isinstance(part, Call) and part.name.text.lower() in OF_ARGUMENTS for part in parts_of(expression))
 
 
 def _switches_off(expression: Expression) -> bool:

@@ -37,16 +37,29 @@ def values_of(job: Node, names: list[str]) -> list[Node]:
 
 
 def repeated_values(file: File) -> Iterator[Finding]:
-    """N21: a value of a row or a job under `needs` that is there twice."""
+    """N21: a row of the matrix, a value of a row, or a job under `needs` that is there twice."""
     for _, job in file.jobs:
-        lists = [row.items for _, row in rows(job)] + ([needs.items] if (needs := job.get("needs")) else [])
-        for items in lists:
-            seen: set[tuple[str, str]] = set()
+        matrix, needs = job.get("strategy", "matrix"), job.get("needs")
+        named = [key for key, _ in matrix.entries] if matrix else []
+        for items in ([row.items for _, row in rows(job)] + [needs.items if needs else [], named]):
+            seen: set[tuple] = set()
             for item in items:
-                value = (item.schema_class, item.text)
-                if item.kind == "scalar" and value in seen and not has_expression(item.text):
-                    yield note("N21", item, item.text)
+                value, text = _value(item), _in_a_line(item)
+                if value in seen and not has_expression(text):
+                    yield note("N21", item, text)
                 seen.add(value)
+
+
+def _value(node: Node) -> tuple:
+    """What two equal values have in common."""
+    below = [(key.text, _value(value)) for key, value in node.entries] or [_value(item) for item in node.items]
+    return node.kind, node.schema_class, node.text, *below
+
+
+def _in_a_line(node: Node) -> str:
+    if node.kind == "mapping":
+        return "{" + ", ".join(f"{key.text}: {_in_a_line(value)}" for key, value in node.entries) + "}"
+    return "[" + ", ".join(map(_in_a_line, node.items)) + "]" if node.kind == "sequence" else node.text
 
 
 def excluded_values(file: File) -> Iterator[Finding]:

@@ -7,7 +7,7 @@ from typing import Iterator
 from .file import File, Finding, note
 
 # What no path of a repository and no name of a branch or tag has.
-NO_PATH = re.compile(r"^/|/$|(^|/)\.\.(/|$)|//|^\s|\s$")
+NO_PATH = re.compile(r"^/|/$|(^|/)\.\.(/|$)|^\.$|//|^\s|\s$")
 NO_NAME = re.compile(r"^/|/$|//|\.\.|\.$|^\s|\s$|\.lock$")
 
 

@@ -20,12 +20,11 @@ def _named(job: Node) -> list[Node]:
 
 
 def labels(file: File) -> Iterator[Node]:
-    """The labels of jobs that run on runners of GitHub, those of a matrix included. A list with a label of one's own names other runners."""
+    """The labels of jobs that run on runners of GitHub, those of a matrix included. A list with another label names own runners."""
     for _, job in file.jobs:
         named = _named(job)
         found = [one for label in named for one in _given_by(file, job, label)]
-        is_own = len(named) > 1 and any(one.text.lower() not in (*TABLE["known"], *TABLE["ended"]) for one in found)
-        if not is_own and not any(one.text.lower() == "self-hosted" for one in found):
+        if len(named) == 1 or all(one.text.lower() in TABLE["known"] or one.text.lower() in TABLE["ended"] for one in found):
             yield from (one for one in found if not has_expression(one.text))
 
 
@@ -63,10 +62,11 @@ def labels_of_two_runners(file: File) -> Iterator[Finding]:
 
 
 def missing_shells(file: File) -> Iterator[Finding]:
-    """N30: a shell that GitHub's runners with the job's only label don't have."""
-    for job, step in file.steps:
-        named, shell = _named(job) if job else [], step.get("shell")
+    """N30: a shell that GitHub's runners with the job's only label don't have, of a step or as the job's default."""
+    defaults = [(job, job.get("defaults", "run", "shell")) for _, job in file.jobs]
+    for job, shell in [(job, step.get("shell")) for job, step in file.steps if job] + defaults:
+        named = _named(job)
         label = named[0].text.lower() if len(named) == 1 else ""
         system = label.partition("-")[0] if label in TABLE["known"] else ""
-        if shell and shell.text in TABLE["missing shells"].get(system, []) and job and job.get("container") is None:
+        if shell and shell.text in TABLE["missing shells"].get(system, []) and job.get("container") is None:
             yield note("N30", shell, shell.text, label)

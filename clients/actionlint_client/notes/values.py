@@ -42,6 +42,12 @@ def fixed_values(file: File) -> Iterator[Finding]:
         parallel = job.get("strategy", "max-parallel")
         if parallel and parallel.schema_class in ("int", "float") and not re.fullmatch(r"\+?0*[1-9]\d*(\.0*)?", parallel.text):
             yield note("N7", parallel, parallel.text, "max-parallel")
+    for _, step in file.steps:
+        uses, minutes = step.get("uses"), step.get("timeout-minutes")
+        if uses and uses.text.startswith("docker://") and uses.text.endswith(":"):
+            yield note("N7", uses, uses.text, "uses")
+        if minutes and minutes.schema_class in ("int", "float") and re.fullmatch(r"-.*|[+]?[0.]+", minutes.text):
+            yield note("N7", minutes, minutes.text, "timeout-minutes")
     for owner in [file.root, *(job for _, job in file.jobs)] if file.is_workflow else []:
         scopes = owner.get("permissions")
         for key, _ in scopes.entries if scopes else []:
@@ -73,6 +79,8 @@ def inputs(file: File) -> Iterator[Finding]:
             yield note("N10", default, key.text, "has a default that is no boolean")
         elif kind == "number" and not NUMBER.fullmatch(default.text):
             yield note("N10", default, key.text, "has a default that is no number")
+        if event == "workflow_call" and declared.scalar("required") == "true":
+            yield note("N10", default, key.text, "is required, so its default is never used")
     dispatched = [key for event, key, _ in file.inputs if event == "workflow_dispatch"]
     for key in dispatched[VALUES["most dispatch inputs"]:]:
         yield note("N10", key, key.text, f"is one of more than {VALUES['most dispatch inputs']}")
