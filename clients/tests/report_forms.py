@@ -93,7 +93,7 @@ ADVICE = {
     STEP + "run: echo ${{ needs['build'].result }}\n": "X13: A job must list in its own `needs` each job whose results it reads.",
     STEP + "run: echo ${{ github.build }}\n": "X13: Write a property that the context has here.",
     STEP + "uses: actions/checkout\n": "C7: An action or a workflow in another repository needs `@REF` at its end: a branch, a tag or a commit.",
-    STEP + "uses: checkout\n": "C7: Write `OWNER/REPO@REF`, `./FOLDER` or `docker://IMAGE` for a step, `./.github/workflows/FILE` or",
+    STEP + "uses: checkout\n": "C7: Write `OWNER/REPO@REF`, `./DIR` or `docker://IMAGE` for a step, `./.github/workflows/FILE` or",
     "on: {schedule: [{cron: '0 0 * *'}]}\njobs: {}\n": "G4: Write five fields: minute, hour, day of the month, month, day of the week.",
     "on: push\njobs:\n  a:\n    runs-on: x\n    steps: make\n": "K4: A list is expected, with each entry on its own line",
     "on: push\njobs:\n  a:\n    runs-on: x\n    steps:\n      -run: make\n": "K4: A list is expected, with each entry on its own line",
