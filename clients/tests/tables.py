@@ -15,7 +15,6 @@ from repositories import CLIENTS, TOP
 from actionlint_client import entries, names, syntax
 from actionlint_client.report import parse_fault
 
-sys.path.append(str(TOP / "tests"))
 from case_files import read_cases
 
 CASES = Cases("tables")

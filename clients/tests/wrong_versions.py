@@ -16,6 +16,7 @@ from concurrent.futures import ThreadPoolExecutor
 from pathlib import Path
 from typing import NamedTuple
 
+from cases import exit_status, report
 from wrong_fixes import WRONG_FIXES
 
 CLIENTS = Path(__file__).resolve().parent.parent
@@ -545,12 +546,11 @@ def is_refused(version: WrongVersion, program: str) -> bool:
     return done.returncode == 1 and (b"AssertionError" in done.stdout or b"only shown: " in done.stdout)
 
 
-def line_of(name: str, program: str) -> str:
-    """The line of a case, and what is wrong."""
+def try_version(name: str, program: str) -> tuple[float, list[str]]:
+    """How many seconds the test of a wrong version took, and what is wrong."""
     begun = time.monotonic()
-    refused = is_refused(WRONG_VERSIONS[name], program)
-    line = f"case=clients-wrong-version-{name} output={'expected' if refused else 'wrong'} status=0 seconds={time.monotonic() - begun:.1f}"
-    return line if refused else f"{line}\n  {WRONG_VERSIONS[name].test} did not fail"
+    wrong = [] if is_refused(WRONG_VERSIONS[name], program) else [f"{WRONG_VERSIONS[name].test} did not fail"]
+    return time.monotonic() - begun, wrong
 
 
 def rows_of(tool: str | None) -> list[str]:
@@ -564,9 +564,9 @@ def main(words: list[str]) -> int:
     # In parallel, since they mostly wait.
     names = [name for word in words[1:] for name in (rows_of(word) if word in TOOLS else [word])] or rows_of(None)
     with ThreadPoolExecutor(max_workers=SIDE_BY_SIDE) as pool:
-        lines = list(pool.map(line_of, names, itertools.repeat(os.path.abspath(words[0]))))
-    print("\n".join(lines))
-    return 1 if any(" output=wrong " in line for line in lines) else 0
+        for name, (seconds, wrong) in zip(names, pool.map(try_version, names, itertools.repeat(os.path.abspath(words[0])))):
+            report(f"clients-wrong-version-{name}", f"0 seconds={seconds:.1f}", wrong)
+    return exit_status()
 
 
 if __name__ == "__main__":
