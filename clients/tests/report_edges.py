@@ -212,7 +212,8 @@ def closed_or_full_output(program: str) -> None:
 def closed_or_full_errors(program: str) -> None:
     """Standard error that accepts nothing changes neither the report nor the status."""
     with folder_with(FILES) as folder:
-        for words in (["--form", "jsonl", "--ignore", "K1"], ["--form", "jsonl", "--ignore", "X13"], ["no.yml"], ["--bogus"], ["--out", "x"]):
+        for words in (["--form", "jsonl", "--ignore", "K1"], ["--form", "jsonl", "--ignore", "X13"], ["no.yml"], ["--bogus"],
+                      ["--out", "x"]):
             status, text, _ = run(program, folder, *words)
             for where in ("2>&-", "2> /dev/full", "<&- 2>&-"):
                 assert redirected(program, folder, where, words) == (status, text, ""), (where, words)
