@@ -39,14 +39,11 @@ def built_program():
 
 def report(name, status, differences):
     """Prints the line of a case, and what differs."""
-    if differences:
-        results["wrong"] += 1
-        print(f"case={name} output=wrong status={status}")
-        for line in differences:
-            print(f"  {line}")
-    else:
-        results["right"] += 1
-        print(f"case={name} output=expected status={status}")
+    results["wrong" if differences else "right"] += 1
+    print(f"case={name} output={'wrong' if differences else 'expected'} status={status}")
+    for line in differences:
+        print(f"  {line}")
+    sys.stdout.flush()
 
 
 def skip(name, why):

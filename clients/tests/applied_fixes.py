@@ -19,7 +19,8 @@ from unittest import mock
 
 from cases import Cases
 from report_forms import on_terminal
-from repositories import ACTION, CALLED, CLIENTS, FILE, FILES, RIGHT, WORKFLOWS, git, write
+from report_runs import command, folder_with
+from repositories import ACTION, CALLED, FILE, FILES, RIGHT, WORKFLOWS, git, write
 
 from actionlint_client import fixing
 from actionlint_client.fixes import Fix
@@ -30,7 +31,6 @@ from actionlint_client.text import Span
 from actionlint_client.unified_diff import MAX_COMPARED_LINES, unified_diff
 
 CASES = Cases("applied-fixes")
-REPORT = str(CLIENTS / "actionlint-report")
 WRONG = FILES[FILE]
 TWICE = WRONG + "      - run: echo ${{ github.shaa }} ${{ github.reff }}\n"
 TWICE_RIGHT = TWICE.replace("reff", "ref").replace("shaa", "sha")
@@ -53,15 +53,8 @@ TEXTS = {
 
 def report(program: str, folder: str, *words: str, user: dict = {}) -> tuple[int, bytes, list[str]]:
     """The status, the output, and the lines of standard error, without the client's name."""
-    done = subprocess.run([sys.executable, REPORT, "--program", program, *words], cwd=folder, stdout=subprocess.PIPE, stderr=subprocess.PIPE,
-                          check=False, **user)
+    done = subprocess.run(command(program, *words), cwd=folder, stdout=subprocess.PIPE, stderr=subprocess.PIPE, check=False, **user)
     return done.returncode, done.stdout, [line.removeprefix("actionlint-report: ") for line in done.stderr.decode().splitlines()]
-
-
-def new_folder(files: dict[str, str]) -> tempfile.TemporaryDirectory:
-    folder = tempfile.TemporaryDirectory(prefix="actionlint-test-")
-    write(folder.name, files)
-    return folder
 
 
 def contents(folder: str) -> dict[str, bytes]:
@@ -95,7 +88,7 @@ def patched(files: dict[str, bytes], patch: bytes) -> dict[str, bytes]:
 def the_same_bytes(program: str) -> None:
     """The patch and --fix change each file to the text that was meant, to the byte; --diff changes nothing. Then no fault is left."""
     right = {path: text.encode() for path, (_, text) in TEXTS.items()}
-    with new_folder({path: text for path, (text, _) in TEXTS.items()}) as folder:
+    with folder_with({path: text for path, (text, _) in TEXTS.items()}) as folder:
         before = contents(folder)
         status, patch, said = report(program, folder, "--diff")
         assert (status, said) == (1, []) and contents(folder) == before, (status, said)
@@ -110,7 +103,7 @@ def the_same_bytes(program: str) -> None:
 def a_hunk(program: str) -> None:
     """Three lines around what changes, and only these."""
     lines = "".join(f"# {number}\n" for number in range(1, 8))
-    with new_folder({FILE: lines + WRONG + lines}) as folder:
+    with folder_with({FILE: lines + WRONG + lines}) as folder:
         _, patch, _ = report(program, folder, "--diff")
         assert patch.decode() == f"""--- a/{FILE}\t
 +++ b/{FILE}\t
@@ -150,7 +143,7 @@ def patches_by_chance(_: str) -> None:
 def guesses(program: str) -> None:
     """They are taken only on request, and what isn't fixed is reported."""
     given = FILES[CALLED] + "        with:\n          who: ''\n"
-    with new_folder(FILES) as folder:
+    with folder_with(FILES) as folder:
         status, out, said = report(program, folder, "--fix", "--form", "oneline")
         assert (status, said) == (1, [f"{FILE}: fixed"]), said
         assert out.decode() == f'{CALLED}:6:15: required input "who" of "A" is missing [action]\n', out
@@ -166,7 +159,7 @@ def guesses(program: str) -> None:
 def safe_fixes_before_guesses(program: str) -> None:
     """A misspelled key is not added a second time."""
     action = FILES[ACTION].replace("main:", "mian:")
-    with new_folder({ACTION: action}) as folder:
+    with folder_with({ACTION: action}) as folder:
         assert report(program, folder, "--fix", "--guesses", "--form", "oneline", "--", ACTION) == (0, b"", [f"{ACTION}: fixed"])
         assert contents(folder) == {ACTION: FILES[ACTION].encode()}
 
@@ -175,7 +168,7 @@ def safe_fixes_before_guesses(program: str) -> None:
 def what_is_left_alone(program: str) -> None:
     """Ignored faults, and files that aren't linted."""
     other = WORKFLOWS + "b.yml"
-    with new_folder({FILE: WRONG, other: WRONG}) as folder:
+    with folder_with({FILE: WRONG, other: WRONG}) as folder:
         assert report(program, folder, "--diff", "--ignore", "X13") == (0, b"", [])
         status, patch, _ = report(program, folder, "--diff", "--ignore", f"X13:{FILE}")
         assert status == 1 and b"+++ b/" + other.encode() in patch and FILE.encode() not in patch, patch
@@ -189,7 +182,7 @@ def modes_and_links(program: str) -> None:
     link, linked = WORKFLOWS + "link.yml", "linked/action.yml"
     action = FILES[ACTION].replace("inputs:", "inpts:").replace("required: true", "required: false")
     caller = FILES[CALLED].replace("./a", "./linked")
-    with new_folder({FILE: WRONG, "elsewhere/w.yml": WRONG, "actions/action.yml": action, CALLED: caller}) as folder:
+    with folder_with({FILE: WRONG, "elsewhere/w.yml": WRONG, "actions/action.yml": action, CALLED: caller}) as folder:
         os.chmod(os.path.join(folder, FILE), 0o640)
         os.symlink("../../elsewhere/w.yml", os.path.join(folder, link))
         os.symlink("actions", os.path.join(folder, "linked"))
@@ -208,7 +201,7 @@ def modes_and_links(program: str) -> None:
 def a_file_that_changes_meanwhile(program: str) -> None:
     """It is left as it is now, and told; the others are written."""
     other = WORKFLOWS + "b.yml"
-    with new_folder({FILE: WRONG, other: WRONG}) as folder:
+    with folder_with({FILE: WRONG, other: WRONG}) as folder:
         write(folder, {"linter": f'#!/bin/sh\ncase $1 in --session) echo "# new" >> "{folder}/{FILE}" ;; esac\nexec {program} "$@"\n'})
         os.chmod(folder + "/linter", 0o755)
         status, _, said = report(folder + "/linter", folder, "--fix", "--form", "jsonl")
@@ -221,7 +214,7 @@ def a_file_that_changes_meanwhile(program: str) -> None:
 def a_folder_that_is_read_only(program: str) -> None:
     """The files stay, no other file is left there, and the status is 3."""
     user = {"user": 65_534, "group": 65_534, "extra_groups": []} if os.geteuid() == 0 else {}
-    with new_folder({FILE: WRONG}) as folder:
+    with folder_with({FILE: WRONG}) as folder:
         os.chmod(folder, 0o755)
         workflows = os.path.dirname(os.path.join(folder, FILE))
         os.chmod(workflows, 0o555)
@@ -234,7 +227,7 @@ def a_folder_that_is_read_only(program: str) -> None:
 @CASES.case
 def runs_that_cannot_go_on(program: str) -> None:
     """Without a linter, or if it refuses a file, nothing is changed, and the status says so."""
-    with new_folder({FILE: WRONG}) as folder:
+    with folder_with({FILE: WRONG}) as folder:
         for words in (["--diff"], ["--fix"]):
             assert report("/nonexistent", folder, *words)[0] == 3 == report("/bin/true", folder, *words)[0]
             status, _, said = report(program, folder, *words, "no.yml")
@@ -247,8 +240,8 @@ def runs_that_cannot_go_on(program: str) -> None:
 @CASES.case
 def a_terminal(program: str) -> None:
     """It gets no character that controls it."""
-    with new_folder({FILE: WRONG.replace("  steps:", "  # \u202e\n    steps:")}) as folder:
-        shown = on_terminal([sys.executable, REPORT, "--program", program, "--diff", "--root", folder], {"TERM": "xterm"})
+    with folder_with({FILE: WRONG.replace("  steps:", "  # \u202e\n    steps:")}) as folder:
+        shown = on_terminal(command(program, "--diff", "--root", folder), {"TERM": "xterm"})
         assert b"\r\n     # <U+202E>\r\n" in shown, shown
 
 
@@ -270,7 +263,7 @@ def fixes_that_do_not_go_together(program: str) -> None:
     """Each of two is right alone. Only the first is taken, and the fault that both cause isn't there."""
     text = "on: push\njobs:\n  a: {runs-on: x, steps: []}\n  b: {runs-on: x, steps: []}\n"
     text += "  c: {runs-on: x, steps: [], needs: d}\n  e: {runs-on: x, steps: [], needs: [d, f]}\n"
-    with new_folder({FILE: text}) as folder:
+    with folder_with({FILE: text}) as folder:
         first, second = replacing(2, 2, 3, "d"), replacing(3, 2, 3, "d")
         found = changes(program, folder, {'job "d" is not defined': [first], 'job "f" is not defined': [second]})
         assert found == {FILE: text.replace("  a:", "  d:")}, found
@@ -280,7 +273,7 @@ def fixes_that_do_not_go_together(program: str) -> None:
 def fixes_that_touch(program: str) -> None:
     """Of two that change the same text, one is taken in the first round, and the other, as its places are then, in the second."""
     text = "on: push\nname: ${{ github.reff }}\njobs: {}\nkey: 1\n"
-    with new_folder({FILE: text}) as folder:
+    with folder_with({FILE: text}) as folder:
         first = replacing(1, 6, 24, "x")
         second = Repair("", {FILE: (Edit(Span.on_line(3, 0, 6), "#"), Edit(Span.on_line(1, 7, 7), "y"))})
         found = changes(program, folder, {'property "reff" is not defined': [first], 'unexpected key "key"': [second]})
@@ -291,7 +284,7 @@ def fixes_that_touch(program: str) -> None:
 def what_a_safe_fix_repairs(program: str) -> None:
     """It isn't guessed at the same time."""
     both = "{A: '${{ github.reff }} ${{ github.shaa }}'}"
-    with new_folder({FILE: f"on: push\njobs: {{}}\nenv: {both}\n"}) as folder:
+    with folder_with({FILE: f"on: push\njobs: {{}}\nenv: {both}\n"}) as folder:
         guess, safe = replacing(0, 8, 8, " # guess"), replace(replacing(2, 5, 5 + len(both), "{}"), is_safe=True)
         found = changes(program, folder, {'property "reff" is not defined': [guess], 'property "shaa" is not defined': [safe]})
         assert found == {FILE: "on: push\njobs: {}\nenv: {}\n"}, found
@@ -301,11 +294,11 @@ def what_a_safe_fix_repairs(program: str) -> None:
 def what_a_fault_hides(program: str) -> None:
     """A guess that repairs YAML is taken, also beside others; then what it shows is fixed. A safe fix shows nothing new."""
     text = WRONG.replace("runs-on: ubuntu", "runs-on:ubuntu")
-    with new_folder({FILE: text, CALLED: FILES[CALLED], ACTION: FILES[ACTION]}) as folder:
+    with folder_with({FILE: text, CALLED: FILES[CALLED], ACTION: FILES[ACTION]}) as folder:
         status, _, _ = report(program, folder, "--fix", "--guesses", "--form", "jsonl")
         assert contents(folder)[FILE].decode() == RIGHT and status == 0, contents(folder)
     text = "name: A: b\non: push\njobs: {a: {runs-on: u, steps: [{run: make}]}}\nrun-name: C: d\n"
-    with new_folder({FILE: text}) as folder:
+    with folder_with({FILE: text}) as folder:
         status, _, _ = report(program, folder, "--fix", "--guesses", "--form", "jsonl")
         assert contents(folder)[FILE].decode() == text.replace("A: b", "'A: b'").replace("C: d", "'C: d'") and status == 0, contents(folder)
 
@@ -314,7 +307,7 @@ def what_a_fault_hides(program: str) -> None:
 def fixes_that_never_end(program: str) -> None:
     """Fixes that leave as many faults as before are given up, and the text is what it was."""
     text = "on: push\njobs: {}\nk0: 1\n"
-    with new_folder({FILE: text}) as folder:
+    with folder_with({FILE: text}) as folder:
         # (of 100 rounds, the last one wouldn't lead back to the first text)
         to = {f'unexpected key "k{number}"': [replacing(2, 0, 2, f"k{(number + 1) % 7}")] for number in range(7)}
         assert changes(program, folder, to) == {}
@@ -323,7 +316,7 @@ def fixes_that_never_end(program: str) -> None:
 @CASES.case
 def a_limit(program: str) -> None:
     """Beyond it no fault is tried."""
-    with new_folder({FILE: "on: push\njobs: {}\nkey: 1\n"}) as folder:
+    with folder_with({FILE: "on: push\njobs: {}\nkey: 1\n"}) as folder:
         repairs = {'unexpected key "key"': [replacing(2, 0, 6, "#")]}
         # (without a safe fix each fault is tried twice)
         for most, expected in ((2, {FILE: "on: push\njobs: {}\n#\n"}), (1, {})):
@@ -337,7 +330,7 @@ def a_limit(program: str) -> None:
 def many_faults_of_a_file(program: str) -> None:
     """More than are tried at once, and the last ones have fixes too."""
     text = "on: push\njobs: {}\n" + "".join(f"zzz{number}: 1\n" for number in range(50)) + "env: {A: '${{ github.reff }}'}\n"
-    with new_folder({FILE: text}) as folder:
+    with folder_with({FILE: text}) as folder:
         status, patch, _ = report(program, folder, "--diff")
         assert status == 1 and b"+env: {A: '${{ github.ref }}'}\n" in patch, patch
 

@@ -1,5 +1,5 @@
-"""Runs the cases of a test, and prints a line for each: `case=NAME output=expected status=0`, or what is wrong. Before that it makes the
-modules of the clients and their libraries available to the test."""
+"""Runs the cases of a test, and prints a line for each, like tests/running.py. Before that it makes the modules of the clients, their
+libraries and the modules of tests/ available to the test."""
 from __future__ import annotations
 
 import os
@@ -9,7 +9,11 @@ import traceback
 from pathlib import Path
 from typing import Callable
 
-sys.path.insert(0, str(Path(__file__).resolve().parent.parent))
+CLIENTS = Path(__file__).resolve().parent.parent
+sys.path.insert(0, str(CLIENTS))
+sys.path.append(str(CLIENTS.parent / "tests"))
+from running import exit_status, report
+
 from actionlint_client import library
 
 # (a test that needs none of them runs without)
@@ -39,15 +43,11 @@ class Cases:
             print(f"{sys.argv[0]} PROGRAM [NAME...]; names are {', '.join(self.all)}", file=sys.stderr)
             return 2
         names = words[1:] or [name for name in self.all if name not in self.only_by_name]
-        return 0 if all([self._is_right(name, os.path.abspath(words[0])) for name in names]) else 1
-
-    def _is_right(self, name: str, program: str) -> bool:
-        begun = time.monotonic()
-        try:
-            self.all[name](program)
-        except Exception:
-            print(f"case=clients-{self.subject}-{name} output=wrong status=1")
-            print("  " + traceback.format_exc().replace("\n", "\n  "), flush=True)
-            return False
-        print(f"case=clients-{self.subject}-{name} output=expected status=0 seconds={time.monotonic() - begun:.1f}", flush=True)
-        return True
+        for name in names:
+            begun, wrong = time.monotonic(), []
+            try:
+                self.all[name](os.path.abspath(words[0]))
+            except Exception:
+                wrong = traceback.format_exc().splitlines()
+            report(f"clients-{self.subject}-{name}", f"{1 if wrong else 0} seconds={time.monotonic() - begun:.1f}", wrong)
+        return exit_status()

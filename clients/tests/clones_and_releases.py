@@ -6,7 +6,6 @@ import atexit
 import os
 import shutil
 import subprocess
-import sys
 import tempfile
 from contextlib import contextmanager
 from dataclasses import dataclass
@@ -15,9 +14,8 @@ from pathlib import Path
 from typing import Callable, Iterator
 
 from cases import Case, Cases
-from repositories import TOP, git, write
+from repositories import git, write
 
-sys.path.append(str(TOP / "tests"))
 from copying import carry, commit, copy_few_sources
 
 ANYWHERE = "/opt/juzbrost"

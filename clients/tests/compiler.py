@@ -13,6 +13,7 @@ import subprocess
 import sys
 from pathlib import Path
 
+from cases import exit_status, report
 from repositories import CLIENTS, FILES, WORKFLOWS, new_folder, reported
 
 SCRIPT = str(Path(__file__).resolve().parent / "compiler.vim")
@@ -22,7 +23,7 @@ MORE_FILES = {**FILES, WORKFLOWS + "é 1.yml": 'on: push\njobs:\n  a:\n    runs-
 COMMANDS = {"vim": ["vim.nox", "-Nes", "-u", "NONE"], "nvim": ["nvim", "--headless", "-u", "NONE", "-i", "NONE"]}
 
 
-def run(vim: str, program: str) -> bool:
+def run(vim: str, program: str) -> None:
     root = new_folder(MORE_FILES)
     out = root + ".json"
     environment = {**os.environ, "FOLDER": root, "CLIENTS": str(CLIENTS), "OUT": out, "LC_ALL": "C.UTF-8", "ACTIONLINT": program}
@@ -31,13 +32,12 @@ def run(vim: str, program: str) -> bool:
     with open(out, encoding="utf-8") as opened:
         found = [tuple(item[:4]) for item in json.load(opened) if item[4]]
     said = [(path, line, column, KIND.sub("", message)) for path, line, column, message in reported(program, root.encode())]
-    right = found == said and len(said) > 0
-    print(f"case=clients-make-{vim} output={'expected' if right else 'wrong'} status=0 faults={len(found)}")
-    if not right:
-        print(f"  {found} is shown, and the linter says {said}")
+    wrong = [] if found == said and said else [f"{found} is shown, and the linter says {said}"]
+    report(f"clients-make-{vim}", f"0 faults={len(found)}", wrong)
     shutil.rmtree(os.path.dirname(root))
-    return right
 
 
 if __name__ == "__main__":
-    sys.exit(0 if all([run(vim, sys.argv[1]) for vim in sys.argv[2:] or COMMANDS]) else 1)
+    for each in sys.argv[2:] or COMMANDS:
+        run(each, sys.argv[1])
+    sys.exit(exit_status())

@@ -20,6 +20,7 @@ import termios
 import time
 from pathlib import Path
 
+from cases import exit_status, report
 from repositories import CLIENTS, FILES, new_folder, reported, write
 
 HERE = Path(__file__).resolve().parent
@@ -83,7 +84,7 @@ def steps_of(editor: str, program: str, root: str) -> dict:
         return json.load(opened)
 
 
-def run(editor: str, program: str) -> bool:
+def run(editor: str, program: str) -> None:
     root = new_folder(FILES)
     told = steps_of(editor, program, root)
     wrong = [] if told["ok"] and told["steps"] else [f"the editor failed: {told['wrong']}"]
@@ -98,17 +99,16 @@ def run(editor: str, program: str) -> bool:
         faults += len(said)
         if shown != said:
             wrong.append(f"step {number}: {shown} is shown, and the linter says {said}")
-    right = not wrong and faults > 0
-    print(f"case=clients-editor-{editor} output={'expected' if right else 'wrong'} status=0 steps={len(told['steps'])} faults={faults}",
-          flush=True)
-    for line in wrong:
-        print(f"  {line}")
+    if not faults:
+        wrong.append("there was no fault")
+    report(f"clients-editor-{editor}", f"0 steps={len(told['steps'])} faults={faults}", wrong)
     shutil.rmtree(os.path.dirname(root))
-    return right
 
 
 def main(words: list[str]) -> int:
-    return 0 if all([run(editor, words[0]) for editor in words[1:] or COMMANDS]) else 1
+    for editor in words[1:] or COMMANDS:
+        run(editor, words[0])
+    return exit_status()
 
 
 if __name__ == "__main__":

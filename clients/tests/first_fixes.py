@@ -7,14 +7,14 @@ from __future__ import annotations
 
 import json
 import os
-import subprocess
 import sys
 import tempfile
 from unittest import mock
 
 from cases import Cases
 from editor import Editor
-from repositories import CLIENTS, FILE, FILES, TOP, WORKFLOWS, reported, write
+from report_runs import run_report
+from repositories import FILE, FILES, TOP, WORKFLOWS, reported, write
 
 from actionlint_client import advice, fixes
 from actionlint_client.advice import FirstFixes
@@ -22,7 +22,6 @@ from actionlint_client.problems import problem_of
 from actionlint_client.report import Fault
 
 CASES = Cases("first-fixes")
-REPORT = str(CLIENTS / "actionlint-report")
 ON, HEAD = "on: push\n", "jobs:\n  a:\n    runs-on: ubuntu-latest\n"
 STEPS = ON + HEAD + "    steps:\n"
 # Files with a name that is wrong, and like a name of another place: the right name, or None, and the name that isn't offered.
@@ -50,10 +49,9 @@ TEXTS = {
 
 
 def report(program: str, folder: str, form: str, *words: str) -> str:
-    done = subprocess.run([sys.executable, REPORT, "--program", program, "--form", form, *words], cwd=folder,
-                          stdout=subprocess.PIPE, check=False)
-    assert done.returncode in (0, 1), done
-    return done.stdout.decode()
+    status, said, errors = run_report(program, folder, "--form", form, *words)
+    assert status in (0, 1), errors
+    return said
 
 
 def faults(program: str, folder: str, *words: str) -> list[dict]:

@@ -19,6 +19,7 @@ from cases import Cases
 from editor import Editor
 from note_cases import cases_by_name, note_cases
 from promises import end
+from report_runs import REPORT
 from repositories import CLIENTS, TOP, WORKFLOWS, write
 
 from actionlint_client.entries import plain_text
@@ -27,12 +28,10 @@ from actionlint_client.notes.file import HERE, is_slip
 from actionlint_client.notes.outputs import names_written
 from actionlint_client.notes.run import notes
 
-sys.path.append(str(TOP / "tests"))
 from fault_entries import entries_of
 from fault_pages import have
 
 CASES = Cases("notes")
-REPORT = str(CLIENTS / "actionlint-report")
 FILE = WORKFLOWS + "a.yml"
 SECONDS = 60.0
 JOB = "on: push\njobs:\n  a:\n    runs-on: ubuntu-latest\n    steps:\n"

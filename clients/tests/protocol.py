@@ -155,7 +155,7 @@ def cut_messages(program: str) -> None:
         editor.send_bytes(sent)
         if sent.startswith(b"Content-Length: 100") or sent.endswith(b"5"):
             editor.child.stdin.close()
-        assert editor.child.wait(timeout=5) == 1, sent
+        assert editor.child.wait(timeout=60) == 1, sent
         assert not os.path.exists(f"/proc/{child}"), sent
         shutil.rmtree(editor.root)
 
@@ -165,7 +165,7 @@ def the_editor_is_gone(program: str) -> None:
     editor = start(program, FILES)
     (child,) = linters(editor.child.pid)
     editor.child.stdin.close()
-    assert editor.child.wait(timeout=5) == 1
+    assert editor.child.wait(timeout=60) == 1
     deadline = time.monotonic() + 5
     while os.path.exists(f"/proc/{child}"):
         assert time.monotonic() < deadline, "the linter still runs"
@@ -229,7 +229,7 @@ def an_editor_that_reads_nothing(program: str) -> None:
         time.sleep(0.3)
     assert child.poll() is None
     child.stdin.close()
-    assert child.wait(timeout=5) == 1
+    assert child.wait(timeout=60) == 1
 
 
 if __name__ == "__main__":

@@ -15,6 +15,7 @@ import tempfile
 import time
 from collections import Counter
 
+from cases import exit_status, report
 from editor import Editor
 from repositories import CLIENTS, LINE_BREAK, WORKFLOWS, in_characters, reported
 
@@ -300,12 +301,11 @@ def main(words: list[str]) -> int:
         faults += world.compare(f"edit {number}, {told}")
         compared += 1
     right = world.editor.quit() == 0 and faults > 0 and not world.editor.messages
-    print(f"case=clients-random-edits-{edits}-{seed}-{burst} output={'expected' if right else 'wrong'} status=0 "
-          f"comparisons={compared} faults={faults} seconds={time.monotonic() - begun:.0f}")
-    print(f"  {dict(kinds)}; {world.editor.publications} publications; "
-          f"told: {world.editor.messages}")
+    found = f"{dict(kinds)}; {world.editor.publications} publications; told: {world.editor.messages}"
+    report(f"clients-random-edits-{edits}-{seed}-{burst}", f"0 comparisons={compared} faults={faults} seconds={time.monotonic() - begun:.0f}",
+           [] if right else [found])
     shutil.rmtree(os.path.dirname(world.root))
-    return 0 if right else 1
+    return exit_status()
 
 
 if __name__ == "__main__":

@@ -8,6 +8,7 @@ from __future__ import annotations
 import json
 import os
 import resource
+import shutil
 import signal
 import subprocess
 import sys
@@ -15,10 +16,10 @@ import tempfile
 import time
 
 from cases import Cases
+from report_runs import command, folder_with, run_report
 from repositories import CLIENTS, FILE, FILES, RIGHT, UNDEFINED, WORKFLOWS, write
 
 CASES = Cases("report-edges")
-REPORT = str(CLIENTS / "actionlint-report")
 SECONDS = 200
 MEMORY = 300 * 1_048_576
 MANY = 150_000
@@ -38,23 +39,15 @@ exit 1
 
 def run(program: str, folder: str, *words: str) -> tuple[int, str, str]:
     """The status and both streams of actionlint-report, under limits of memory and of time."""
-    done = subprocess.run([sys.executable, REPORT, "--program", program, *words], cwd=folder, stdout=subprocess.PIPE,
-                          stderr=subprocess.PIPE, timeout=SECONDS, check=False,
-                          preexec_fn=lambda: resource.setrlimit(resource.RLIMIT_AS, (MEMORY, MEMORY)))
-    return done.returncode, done.stdout.decode(), done.stderr.decode()
-
-
-def new_folder(files: dict[str, str]) -> tempfile.TemporaryDirectory:
-    folder = tempfile.TemporaryDirectory(prefix="actionlint-test-")
-    write(folder.name, files)
-    return folder
+    held = lambda: resource.setrlimit(resource.RLIMIT_AS, (MEMORY, MEMORY))
+    return run_report(program, folder, *words, timeout=SECONDS, preexec_fn=held)
 
 
 @CASES.case
 def names_that_look_like_options(program: str) -> None:
     """What comes after `--` is a FILE, whatever its name."""
     path = "--root=clean/action.yml"
-    with new_folder({path: "name: x\n", "clean/" + FILE: RIGHT}) as folder:
+    with folder_with({path: "name: x\n", "clean/" + FILE: RIGHT}) as folder:
         status, text, _ = run(program, folder, "--form", "jsonl", "--", path)
         assert status == 1 and {json.loads(line)["path"] for line in text.splitlines()} == {path}, text
 
@@ -64,7 +57,7 @@ def long_messages(program: str) -> None:
     """A text of a megabyte that contains the fixed parts of messages, or beginnings of faults, takes time linear in it."""
     for part in ('" is not defined in "', "a:1:1: "):
         text = part * (900_000 // len(part))
-        with new_folder({FILE: f"on: push\njobs:\n  a:\n    uses: '{text}'\n"}) as folder:
+        with folder_with({FILE: f"on: push\njobs:\n  a:\n    uses: '{text}'\n"}) as folder:
             for form in ("sarif", "jsonl", "codequality", "github", "text"):
                 status, said, errors = run(program, folder, "--form", form)
                 assert status == 1 and len(said) > len(text) and not errors, (form, status, errors)
@@ -73,7 +66,7 @@ def long_messages(program: str) -> None:
 @CASES.case
 def many_faults(program: str) -> None:
     """They are written as they arrive; SARIF has as many as GitHub accepts in a run, and says how many were left out."""
-    with new_folder({"linter": MANY_FAULTS}) as folder:
+    with folder_with({"linter": MANY_FAULTS}) as folder:
         linter = folder + "/linter"
         os.chmod(linter, 0o755)
         status, text, errors = run(linter, folder, "--out", "faults.sarif")
@@ -93,7 +86,7 @@ def many_faults(program: str) -> None:
 def long_lines(program: str) -> None:
     """Where the lines of files would be too many bytes, the report is made without them."""
     keys = ", ".join(f"k{number}: 1" for number in range(5_000))
-    with new_folder({FILE: f"{{on: push, jobs: {{}}, {keys}}}\n"}) as folder:
+    with folder_with({FILE: f"{{on: push, jobs: {{}}, {keys}}}\n"}) as folder:
         status, text, _ = run(program, folder, "--form", "jsonl")
         found = [json.loads(line) for line in text.splitlines()]
         assert status == 1 and len(found) == 5_000 and all(one["end_column"] is None for one in found), len(found)
@@ -107,7 +100,7 @@ def characters(program: str) -> None:
     their place, also for who reads the JSON."""
     hidden = "".join(chr(one) for one in (0x85, 0x9B, 0x2028, 0x2029, 0x202A, 0x202E, 0x2066, 0x2069))
     path = WORKFLOWS + "\u202ea.yml"
-    with new_folder({path: 'on: push\njobs: {}\n"a\\x85\\x9b\\u2028\\u2029\\u202a\\u202e\\u2066\\u2069b": 1\n'}) as folder:
+    with folder_with({path: 'on: push\njobs: {}\n"a\\x85\\x9b\\u2028\\u2029\\u202a\\u202e\\u2066\\u2069b": 1\n'}) as folder:
         for form in ("sarif", "jsonl", "codequality"):
             status, text, _ = run(program, folder, "--form", form)
             assert status == 1 and not set(text) & set(hidden), (form, text)
@@ -128,7 +121,7 @@ def json_texts(value: object) -> str:
 @CASES.case
 def links_in_messages(program: str) -> None:
     """A key that looks like a SARIF link is shown as text: its brackets and backslashes are preceded by a backslash."""
-    with new_folder({FILE: 'on: push\njobs: {}\n"[a](https://example.org/)\\\\": 1\n'}) as folder:
+    with folder_with({FILE: 'on: push\njobs: {}\n"[a](https://example.org/)\\\\": 1\n'}) as folder:
         _, text, _ = run(program, folder)
         (one,) = json.loads(text)["runs"][0]["results"]
         assert one["message"]["text"] == 'unexpected key "\\[a\\](https://example.org/)\\\\"', one
@@ -141,7 +134,7 @@ def links_in_messages(program: str) -> None:
 def commands_in_annotations(program: str) -> None:
     """Whatever a path, a key or standard error contains is in the text of an annotation, and never begins a line."""
     path = "::set-output name=x::1, 50%/action.yml"
-    with new_folder({path: 'name: x\n"##[add-mask]x": 1\n', FILE: RIGHT}) as folder:
+    with folder_with({path: 'name: x\n"##[add-mask]x": 1\n', FILE: RIGHT}) as folder:
         status, text, errors = run(program, folder, "--form", "github", "--", path)
         *lines, last = text.splitlines()
         assert status == 1 and not errors and last == "3 faults in 1 file", (text, errors)
@@ -158,7 +151,7 @@ def commands_in_annotations(program: str) -> None:
 def programs_that_are_not_the_linter(program: str) -> None:
     """One that can't be loaded ends with status 1 and prints nothing, which must not pass for a report without faults."""
     fault = f"{FILE}:1:1: file is empty [syntax-check]\n  |\n1 | \n  | ^"
-    with new_folder({FILE: RIGHT}) as folder:
+    with folder_with({FILE: RIGHT}) as folder:
         for script, why in (("echo no GLIBC_2.34 >&2; exit 1", "status 1, but reported none: no GLIBC_2.34"),
                             (f"echo '{fault}'", "status 0, but reported faults")):
             linter = shell_script(folder, script)
@@ -180,7 +173,7 @@ def shell_script(folder: str, text: str) -> str:
 @CASES.case
 def odd_files_to_write(program: str) -> None:
     """Anything but a regular file is neither written nor replaced, nor waited for; no link below the current folder is followed."""
-    with new_folder({FILE: RIGHT, "kept": "old", "elsewhere/kept": "old"}) as folder:
+    with folder_with({FILE: RIGHT, "kept": "old", "elsewhere/kept": "old"}) as folder:
         os.symlink("kept", folder + "/link")
         os.symlink("nowhere", folder + "/loose")
         os.symlink("elsewhere", folder + "/linked")
@@ -199,7 +192,7 @@ def odd_files_to_write(program: str) -> None:
 
 def redirected(program: str, folder: str, where: str, words: list[str]) -> tuple[int, str, str]:
     """The status and both streams of actionlint-report, some of them redirected by a shell."""
-    done = subprocess.run(["sh", "-c", f'exec "$@" {where}', "sh", sys.executable, REPORT, "--program", program, *words], cwd=folder,
+    done = subprocess.run(["sh", "-c", f'exec "$@" {where}', "sh", *command(program, *words)], cwd=folder,
                           stdout=subprocess.PIPE, stderr=subprocess.PIPE, text=True, check=False)
     return done.returncode, done.stdout, done.stderr
 
@@ -207,7 +200,7 @@ def redirected(program: str, folder: str, where: str, words: list[str]) -> tuple
 @CASES.case
 def closed_or_full_output(program: str) -> None:
     """What nobody can read isn't lost silently."""
-    with new_folder(FILES) as folder:
+    with folder_with(FILES) as folder:
         for words in (["--form", "text"], ["--form", "jsonl"], ["--explain", "K1"], ["--help"], ["--version"]):
             for where, why in ((">&-", "Bad file descriptor"), ("> /dev/full", "No space left on device")):
                 said = f"actionlint-report: cannot write standard output: {why}\n"
@@ -218,8 +211,9 @@ def closed_or_full_output(program: str) -> None:
 @CASES.case
 def closed_or_full_errors(program: str) -> None:
     """Standard error that accepts nothing changes neither the report nor the status."""
-    with new_folder(FILES) as folder:
-        for words in (["--form", "jsonl", "--ignore", "K1"], ["--form", "jsonl", "--ignore", "X13"], ["no.yml"], ["--bogus"], ["--out", "x"]):
+    with folder_with(FILES) as folder:
+        for words in (["--form", "jsonl", "--ignore", "K1"], ["--form", "jsonl", "--ignore", "X13"], ["no.yml"], ["--bogus"],
+                      ["--out", "x"]):
             status, text, _ = run(program, folder, *words)
             for where in ("2>&-", "2> /dev/full", "<&- 2>&-"):
                 assert redirected(program, folder, where, words) == (status, text, ""), (where, words)
@@ -229,16 +223,29 @@ def closed_or_full_errors(program: str) -> None:
 def another_locale(program: str) -> None:
     """Paths on the command line are UTF-8, as in the report."""
     path = WORKFLOWS + "ü.yml"
-    with new_folder({path: FILES[FILE]}) as folder:
-        done = subprocess.run([sys.executable, REPORT, "--program", program, "--form", "text", "--ignore", "X13:" + path], cwd=folder,
-                              env={**os.environ, "LC_ALL": "C", "PYTHONUTF8": "0"}, stdout=subprocess.PIPE, check=False)
-        assert (done.returncode, done.stdout) == (0, b"0 faults, 1 ignored\n"), done
+    with folder_with({path: FILES[FILE]}) as folder:
+        environment = {**os.environ, "LC_ALL": "C", "PYTHONUTF8": "0"}
+        found = run_report(program, folder, "--form", "text", "--ignore", "X13:" + path, env=environment)
+        assert found == (0, "0 faults, 1 ignored\n", ""), found
+
+
+@CASES.case
+def a_module_that_cannot_be_loaded(program: str) -> None:
+    """The status isn't that of faults."""
+    with folder_with(FILES) as folder:
+        copy = folder + "/clients"
+        shutil.copytree(CLIENTS, copy, ignore=shutil.ignore_patterns("tests"))
+        with open(copy + "/actionlint_client/problems.py", "a", encoding="utf-8") as module:
+            module.write("raise MemoryError\n")
+        done = subprocess.run([sys.executable, copy + "/actionlint-report", "--program", program], cwd=folder, stdout=subprocess.PIPE,
+                              stderr=subprocess.PIPE, check=False)
+        assert (done.returncode, done.stdout, done.stderr[-12:]) == (3, b"", b"MemoryError\n"), done
 
 
 @CASES.case
 def the_old_report_stays_whole(program: str) -> None:
     """A report replaces the old one at once, and only when it is complete."""
-    with new_folder(FILES) as folder:
+    with folder_with(FILES) as folder:
         out = folder + "/x/faults"
         write(folder, {"x/faults": "old"})
         assert run("/bin/echo", folder, "--out", "x/faults")[0] == 3
@@ -258,10 +265,10 @@ def the_old_report_stays_whole(program: str) -> None:
 def output_that_does_not_block(program: str) -> None:
     """The program waits for a pipe that is full for a while, even if it is non-blocking."""
     keys = "".join(f"k{number}: 1\n" for number in range(2_000))
-    with new_folder({FILE: "on: push\njobs: {}\n" + keys}) as folder:
+    with folder_with({FILE: "on: push\njobs: {}\n" + keys}) as folder:
         read, written = os.pipe()
         os.set_blocking(written, False)
-        child = subprocess.Popen([sys.executable, REPORT, "--program", program, "--form", "jsonl"], cwd=folder, stdout=written)
+        child = subprocess.Popen(command(program, "--form", "jsonl"), cwd=folder, stdout=written)
         os.close(written)
         with open(read, encoding="utf-8") as opened:
             assert len(opened.readlines()) == 2_000
@@ -281,7 +288,7 @@ def end_by(number: signal.Signals) -> None:
         slow = os.path.join(folder, "slow")
         os.chmod(slow, 0o755)
         # (what runs in the background of a shell, or of nohup, would pass on that it ignores the signal)
-        with subprocess.Popen([sys.executable, REPORT, "--program", slow, "--out", "x.sarif"], cwd=folder, stdout=subprocess.PIPE,
+        with subprocess.Popen(command(slow, "--out", "x.sarif"), cwd=folder, stdout=subprocess.PIPE,
                               stderr=subprocess.PIPE, start_new_session=True,
                               preexec_fn=lambda: signal.signal(number, signal.SIG_DFL)) as child:
             while not os.path.exists(os.path.join(folder, "started")):
@@ -299,8 +306,7 @@ def a_reader_that_goes(program: str) -> None:
         for words in (["--explain", "X13"], ["--form", "text"], ["--form", "sarif"]):
             reading, writing = os.pipe()
             os.close(reading)
-            done = subprocess.run([sys.executable, REPORT, "--program", program, *words], cwd=folder, stdout=writing, stderr=subprocess.PIPE,
-                                  check=False)
+            done = subprocess.run(command(program, *words), cwd=folder, stdout=writing, stderr=subprocess.PIPE, check=False)
             os.close(writing)
             assert (done.returncode, done.stderr) == (3, b"actionlint-report: cannot write standard output: Broken pipe\n"), (words, done)
 

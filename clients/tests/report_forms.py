@@ -12,17 +12,16 @@ import re
 import subprocess
 import sys
 import tempfile
-from pathlib import Path
 
 from cases import Cases
-from repositories import CLIENTS, FILE, FILES, RIGHT, TOP, WORKFLOWS, write
+from report_runs import REPORT, command, run_report
+from repositories import FILE, FILES, RIGHT, TOP, WORKFLOWS, write
 
 from actionlint_client.entries import entries, plain_text
 from actionlint_client.advice import SLIPS, first_sentence
 from actionlint_client.sarif import MAX_RESULTS
 
 CASES = Cases("report-forms")
-REPORT = str(CLIENTS / "actionlint-report")
 DOCS = "https://example.org/docs"
 BROKEN = """.github/workflows/release.yml:4:5: unexpected key "branch" [syntax-check, K1]
   4 |     branch: [main]
@@ -117,9 +116,7 @@ ADVICE = {
 
 def run(program: str, folder: str, *words: str, **variables: str) -> tuple[int, str, str]:
     """The status and both streams of actionlint-report."""
-    done = subprocess.run([sys.executable, REPORT, "--program", program, *words], cwd=folder, stdout=subprocess.PIPE,
-                          stderr=subprocess.PIPE, env={**os.environ, **variables}, check=False)
-    return done.returncode, done.stdout.decode(), done.stderr.decode()
+    return run_report(program, folder, *words, env={**os.environ, **variables})
 
 
 @CASES.case
@@ -173,8 +170,8 @@ def color(program: str) -> None:
     assert "".join(part.partition("m")[2] if number else part for number, part in enumerate(colored.split("\x1b["))) == plain
     for variables, words, expected in (({"TERM": "xterm"}, [], True), ({"TERM": "xterm", "NO_COLOR": "1"}, [], False),
                                        ({"TERM": "dumb"}, [], False), ({"TERM": "xterm"}, ["--color", "never"], False)):
-        assert (b"\x1b[" in on_terminal([sys.executable, REPORT, "--program", program, "--form", "text", "--root", broken, *words],
-                                        variables)) == expected, (variables, words)
+        shown = on_terminal(command(program, "--form", "text", "--root", broken, *words), variables)
+        assert (b"\x1b[" in shown) == expected, (variables, words)
 
 
 def on_terminal(command: list[str], variables: dict[str, str]) -> bytes:

@@ -8,16 +8,15 @@ from __future__ import annotations
 import json
 import os
 import re
-import subprocess
 import sys
 import tempfile
 from urllib.parse import unquote
 
 from cases import Cases
-from repositories import CLIENTS, FILE, FILES, RIGHT, TOP, WORKFLOWS, reported, write
+from report_runs import run_report
+from repositories import FILE, FILES, RIGHT, TOP, WORKFLOWS, reported, write
 
 CASES = Cases("reports")
-REPORT = str(CLIENTS / "actionlint-report")
 DOCS = "https://example.org/docs"
 EXAMPLES = sorted(str(folder) for folder in (TOP / "examples").iterdir() if (folder / WORKFLOWS).is_dir())
 FOLDERS: list[str] = []
@@ -25,9 +24,8 @@ FOLDERS: list[str] = []
 
 def run(program: str, form: str, *words: str) -> tuple[int, str, bytes]:
     """The status and both streams of actionlint-report."""
-    done = subprocess.run([sys.executable, REPORT, "--form", form, "--program", program, "--docs", DOCS, *words],
-                          stdout=subprocess.PIPE, stderr=subprocess.PIPE, check=False)
-    return done.returncode, done.stdout.decode(), done.stderr
+    status, said, errors = run_report(program, None, "--form", form, "--docs", DOCS, *words)
+    return status, said, errors.encode()
 
 
 def escaped(message: str) -> str:

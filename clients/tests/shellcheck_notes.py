@@ -7,7 +7,6 @@ from __future__ import annotations
 
 import json
 import os
-import subprocess
 import sys
 import tempfile
 import time
@@ -16,7 +15,8 @@ from typing import Any
 
 from cases import Cases
 from readers import reader
-from repositories import CLIENTS, FILE, TOP, WORKFLOWS, write
+from report_runs import run_report
+from repositories import FILE, TOP, WORKFLOWS, write
 
 from actionlint_client.problems import Problem
 from actionlint_client.report import Fault
@@ -24,7 +24,6 @@ from actionlint_client.scripts import Script, scripts_of, variable_of, without_e
 from actionlint_client.shellcheck import notes_of_text
 
 CASES = Cases("shellcheck")
-REPORT = str(CLIENTS / "actionlint-report")
 STEPS = "on: push\njobs:\n  a:\n    runs-on: ubuntu-latest\n    steps:\n"
 # Steps, and the place of a note about a variable without quotes (SC2086), counted by hand: the first line below STEPS is 6.
 PLACES = {
@@ -87,10 +86,9 @@ HANG_SECONDS = 120
 
 def run(program: str, folder: str, *words: str, path: str = "") -> tuple[int, list[dict[str, Any]], str]:
     """The status, the lines of JSON and standard error. `path` comes before the usual PATH."""
-    done = subprocess.run([sys.executable, REPORT, "--program", program, "--form", "jsonl", "--shellcheck", *words], cwd=folder,
-                          env={**os.environ, "PATH": path + os.environ["PATH"]}, stdout=subprocess.PIPE, stderr=subprocess.PIPE,
-                          check=False)
-    return done.returncode, [json.loads(line) for line in done.stdout.decode().splitlines()], done.stderr.decode()
+    environment = {**os.environ, "PATH": path + os.environ["PATH"]}
+    status, said, errors = run_report(program, folder, "--form", "jsonl", "--shellcheck", *words, env=environment)
+    return status, [json.loads(line) for line in said.splitlines()], errors
 
 
 def notes_on(script: str, shell: str | None = None) -> list[Problem]:
@@ -300,15 +298,11 @@ def off_unless_asked_for(program: str) -> None:
     """And if shellcheck is missing, the run doesn't pass for one without notes."""
     with tempfile.TemporaryDirectory(prefix="actionlint-test-") as folder:
         write(folder, {FILE: STEPS + PLACES["plain"][0]})
-        done = subprocess.run([sys.executable, REPORT, "--program", program, "--form", "text"], cwd=folder, stdout=subprocess.PIPE,
-                              check=False)
-        assert (done.returncode, done.stdout) == (0, b"0 faults\n"), done
-        done = subprocess.run([sys.executable, REPORT, "--program", program, "--shellcheck"], cwd=folder, stdout=subprocess.PIPE,
-                              stderr=subprocess.PIPE, env={**os.environ, "PATH": folder}, check=False)
-        assert (done.returncode, done.stdout) == (3, b"") and b"cannot start shellcheck" in done.stderr, done
-        done = subprocess.run([sys.executable, REPORT, "--program", program, "--form", "text", "--shellcheck"], cwd=folder,
-                              stdout=subprocess.PIPE, check=False)
-        assert done.stdout.decode().splitlines()[-1] == "0 faults and 1 note of shellcheck (not proved) in 1 file", done
+        assert run_report(program, folder, "--form", "text") == (0, "0 faults\n", "")
+        status, said, errors = run_report(program, folder, "--shellcheck", env={**os.environ, "PATH": folder})
+        assert (status, said) == (3, "") and "cannot start shellcheck" in errors, errors
+        _, said, _ = run_report(program, folder, "--form", "text", "--shellcheck")
+        assert said.splitlines()[-1] == "0 faults and 1 note of shellcheck (not proved) in 1 file", said
 
 
 @CASES.case
@@ -319,10 +313,8 @@ def another_program(program: str) -> None:
         for said, status in (("", 3), ("nonsense", 0), ("[]", 0), ("{}", 0)):
             write(folder, {"shellcheck": f"#!/bin/sh\necho '{said}'\nexit {status}\n"})
             os.chmod(folder + "/shellcheck", 0o755)
-            done = subprocess.run([sys.executable, REPORT, "--program", program, "--shellcheck"], cwd=folder, stdout=subprocess.PIPE,
-                                  stderr=subprocess.PIPE, env={**os.environ, "PATH": folder + ":" + os.environ["PATH"]}, text=True, check=False)
-            assert (done.returncode, done.stdout) == (3, ""), done
-            assert done.stderr == f"actionlint-report: shellcheck ended with status {status}: {said}\n", done.stderr
+            found = run_report(program, folder, "--shellcheck", env={**os.environ, "PATH": folder + ":" + os.environ["PATH"]})
+            assert found == (3, "", f"actionlint-report: shellcheck ended with status {status}: {said}\n"), found
 
 
 if __name__ == "__main__":

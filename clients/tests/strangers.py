@@ -8,7 +8,6 @@ from __future__ import annotations
 import json
 import re
 import string
-import subprocess
 import sys
 import tempfile
 import unicodedata
@@ -17,13 +16,13 @@ from typing import Any
 from cases import Cases
 from editor import Editor
 from promises import end, start
-from repositories import CLIENTS, FILE, RIGHT, WORKFLOWS, write
+from report_runs import run_report
+from repositories import FILE, RIGHT, WORKFLOWS, write
 
 from actionlint_client.characters import shown, terminal_text
 from actionlint_client.markdown import MAX_SHOWN_CHARACTERS, code, escaped, plain
 
 CASES = Cases("strangers")
-REPORT = str(CLIENTS / "actionlint-report")
 FORMS = ("text", "github", "jsonl", "codequality", "sarif")
 # Characters that aren't text, as the Unicode Standard has them: controls, directions (UAX #9), separators, and those without a width.
 HIDDEN = ("\x00\x07\x1b\x7f\x80\x85\x9b\u00ad\u061c\u115f\u180e\u200b\u200c\u200d\u200e\u200f\u2028\u2029\u202a\u202b\u202c\u202d\u202e"
@@ -44,9 +43,7 @@ MARKDOWN = (
 
 
 def report(program: str, folder: str, form: str, *words: str) -> tuple[int, str, str]:
-    done = subprocess.run([sys.executable, REPORT, "--program", program, "--form", form, *words], cwd=folder, stdout=subprocess.PIPE,
-                          stderr=subprocess.PIPE, check=False)
-    return done.returncode, done.stdout.decode(), done.stderr.decode()
+    return run_report(program, folder, "--form", form, *words)
 
 
 def code_points(text: str) -> str:

@@ -17,7 +17,6 @@ from actionlint_client import entries, names, syntax
 from actionlint_client.program import find_facts
 from actionlint_client.report import parse_fault
 
-sys.path.append(str(TOP / "tests"))
 from case_files import read_cases
 
 CASES = Cases("tables")

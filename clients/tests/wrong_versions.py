@@ -16,6 +16,7 @@ from concurrent.futures import ThreadPoolExecutor
 from pathlib import Path
 from typing import NamedTuple
 
+from cases import exit_status, report
 from wrong_fixes import WRONG_FIXES
 from wrong_notes import WRONG_NOTES
 
@@ -553,15 +554,13 @@ def ending(test: str, program: str, version: WrongVersion | None = None) -> str:
     return f"ended with status {done.returncode}: " + done.stdout.decode("utf-8", "replace").strip().rpartition("\n")[2].strip()
 
 
-def line_of(name: str, program: str, without_edit: dict[str, str]) -> str:
-    """The line of a case, and what is wrong. The endings of the tests without an edit are known."""
+def try_version(name: str, program: str, without_edit: dict[str, str]) -> tuple[float, list[str]]:
+    """How many seconds the test of a wrong version took, and what is wrong. The endings of the tests without an edit are known."""
     version = WRONG_VERSIONS[name]
     begun = time.monotonic()
     before = without_edit[version.test]
     found = ending(version.test, program, version) if before == PASSED else f"has to pass without the edit, but {before}"
-    shown = "expected" if found == REFUSED else "wrong"
-    line = f"case=clients-wrong-version-{name} output={shown} status=0 seconds={time.monotonic() - begun:.1f}"
-    return line if found == REFUSED else f"{line}\n  {version.test} {found}"
+    return time.monotonic() - begun, [] if found == REFUSED else [f"{version.test} {found}"]
 
 
 def rows_of(tool: str | None) -> list[str]:
@@ -578,9 +577,9 @@ def main(words: list[str]) -> int:
     tests = sorted({WRONG_VERSIONS[name].test for name in names})
     with ThreadPoolExecutor(max_workers=SIDE_BY_SIDE) as pool:
         without_edit = dict(zip(tests, pool.map(ending, tests, itertools.repeat(program))))
-        lines = list(pool.map(line_of, names, itertools.repeat(program), itertools.repeat(without_edit)))
-    print("\n".join(lines))
-    return 1 if any(" output=wrong " in line for line in lines) else 0
+        for name, (seconds, wrong) in zip(names, pool.map(try_version, names, itertools.repeat(program), itertools.repeat(without_edit))):
+            report(f"clients-wrong-version-{name}", f"0 seconds={seconds:.1f}", wrong)
+    return exit_status()
 
 
 if __name__ == "__main__":
