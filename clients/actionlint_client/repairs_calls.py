@@ -368,8 +368,7 @@ def _right_calls(case: Case, text: str) -> Iterable[tuple[str, bool]]:
     if named:
         yield "./" + named[0], True
         return
-    folders = (path.rpartition("/")[0] for path in case.project.paths() if path.endswith(tuple(f"/{text}/{name}" for name in ACTION_NAMES)))
-    yield from (("./" + folder, False) for folder in dict.fromkeys(folders) if re.fullmatch(r"[\w.-]+", text))
+    yield from (("./" + folder, False) for folder in _folders_of_action(case, text))
     if is_workflow(case.file) and text.rpartition("/")[2] and case.project.has(f"{WORKFLOWS}/{text.rpartition('/')[2]}"):
         yield f"./{WORKFLOWS}/{text.rpartition('/')[2]}", False
     if not is_workflow(case.file) or (here := case.value) is None or len(here.path) > 3:
@@ -391,15 +390,25 @@ def _right_calls(case: Case, text: str) -> Iterable[tuple[str, bool]]:
         yield f"{turned[1]}/{turned[2]}@{turned[3]}", False
         return
     name, version = re.sub(r"\s+", "", name).rstrip("/"), version.strip()
-    if re.fullmatch(r"[\w.-]+", name):
-        owners = [f"actions/{name}"] if f"actions/{name}".lower() in VERSIONS else owners_of(case.project, name)
-        name = owners[0] if len(owners) == 1 else ""
+    name = _with_owner(case, name) if re.fullmatch(r"[\w.-]+", name) else name
     if not OWNER_AND_NAME.fullmatch(name):
         return
     if version and "${{" not in version and " " not in version:
         yield f"{name}@{version}", name in bare
     else:
         yield from ((f"{name}@{known}", False) for known in versions(case.project, name))
+
+
+def _folders_of_action(case: Case, name: str) -> Iterable[str]:
+    """The folders of this repository that have a name and an action."""
+    files_ = tuple(f"/{name}/{file}" for file in ACTION_NAMES) if re.fullmatch(r"[\w.-]+", name) else ()
+    return dict.fromkeys(path.rpartition("/")[0] for path in case.project.paths() if path.endswith(files_))
+
+
+def _with_owner(case: Case, name: str) -> str:
+    """An action with its owner: GitHub, or the only one that is known. Empty if there is none."""
+    owners = [f"actions/{name}"] if f"actions/{name}".lower() in VERSIONS else owners_of(case.project, name)
+    return owners[0] if len(owners) == 1 else ""
 
 
 def local_action_of_job(case: Case) -> Iterable[Repair]:

@@ -31,8 +31,8 @@ OTHER_NAMES = {"timeout": "timeout-minutes", "command": "run", "script": "run", 
                "continue-on-failure": "continue-on-error", "ignore-errors": "continue-on-error", "matrix": "strategy",
                "choices": "options", "values": "options", "enum": "options", "name": "group", "dependson": "needs", "displayname": "name",
                "bash": "run", "pwsh": "run", "powershell": "run", "task": "uses", "settings": "with", "stages": "jobs", "pool": "runs-on",
-               "executor": "runs-on", "agent": "runs-on", "platform": "runs-on", "machine": "runs-on", "vmimage": "runs-on", "trigger": "on",
-               "key": "group"}
+               "executor": "runs-on", "agent": "runs-on", "platform": "runs-on", "machine": "runs-on", "vmimage": "runs-on",
+               "trigger": "on", "key": "group"}
 # What shows by a value which key it belongs to.
 VALUES_OF_KEYS = {"image": re.compile(r"(?:[\w./-]*/)?Dockerfile[\w.-]*|docker://\S+"), "main": re.compile(r"[\w./-]+\.[cm]?js"),
                   "uses": re.compile(r"[\w.-]+/[\w./-]+@[\w./-]+|\./[\w./-]+"), "cron": re.compile(r"[\d*][\d*/,-]*(?: [\w*/,-]+){4}"),
