@@ -207,8 +207,8 @@ def walk(expression: Expression) -> Iterator[Expression]:
             yield from walk(operand)
 
 
-def chains_in(expression: Expression) -> Iterator[tuple[Expression, list[Word]]]:
-    """The chains of names in an expression, such as `needs.build.outputs['list']`, with the names of each; one in an index comes after the
+def paths_in(expression: Expression) -> Iterator[tuple[Expression, list[Word]]]:
+    """The paths and names in an expression, such as `needs.build.outputs['list']`, with the names of each; one in an index comes after the
     one around it."""
     bases: set[int] = set()
     for part in walk(expression):
@@ -219,13 +219,13 @@ def chains_in(expression: Expression) -> Iterator[tuple[Expression, list[Word]]]
             yield part, names
 
 
-def _names_of(chain: Expression) -> list[Word]:
-    """The names of a chain. An index that isn't a string is `*`. Nothing if it begins otherwise."""
-    chain = _inner(chain)
-    if isinstance(chain, Word):
-        return [chain] if chain.kind == "name" else []
-    found = _names_of(chain.base) if isinstance(chain, Path) else []
-    for step in chain.steps if found and isinstance(chain, Path) else ():
+def _names_of(expression: Expression) -> list[Word]:
+    """The names of a path. An index that isn't a string is `*`. Nothing if it begins otherwise."""
+    path = _inner(expression)
+    if isinstance(path, Word):
+        return [path] if path.kind == "name" else []
+    found = _names_of(path.base) if isinstance(path, Path) else []
+    for step in path.steps if found and isinstance(path, Path) else ():
         index = step.index
         if isinstance(index, Word) and index.kind == "string":
             found.append(Word("name", index.text[1:-1].replace("''", "'"), index.start, index.end))

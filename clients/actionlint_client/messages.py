@@ -12,6 +12,7 @@ from pylsp_jsonrpc.streams import JsonRpcStreamReader
 
 from .protocol import Message
 
+
 class Wake:
     """In place of a message: something that goes on beside the server has a result."""
 

@@ -28,7 +28,7 @@ MOVES = {"willRename": {"filters": [
 
 class Navigation:
     capabilities: Capabilities = {"definitionProvider": True, "referencesProvider": True, "documentHighlightProvider": True,
-                    "renameProvider": {"prepareProvider": True}}
+                                  "renameProvider": {"prepareProvider": True}}
 
     def __init__(self, workspace: Workspace, editor: Editor, program: Program):
         self._workspace, self._editor, self._program = workspace, editor, program

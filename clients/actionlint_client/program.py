@@ -31,7 +31,7 @@ def cannot_start(program: str, error: OSError) -> str:
 
 def find_facts(linter: str) -> str:
     """The absolute path of actionlint-facts: the one that the variable ACTIONLINT_FACTS names, else the one beside the linter, by its name,
-    else in a clone the one that was built last or is carried, else the one on the PATH."""
+    else in a clone the one that was built last or is prebuilt, else the one on the PATH."""
     named = os.environ.get("ACTIONLINT_FACTS")
     if named:
         return os.path.abspath(named)
@@ -45,7 +45,7 @@ def find_facts(linter: str) -> str:
 
 
 def _is_facts(place: Path) -> bool:
-    """Whether there is such a program. The link in a clone leads to a script, which builds the program if none fits."""
+    """Whether there is such a program. The link in a clone points to a script, which builds the program if none fits."""
     return os.access(place, os.X_OK) and place.resolve().name.endswith((SUFFIX, FACTS_OF_A_CLONE[0].rpartition("/")[2]))
 
 

@@ -14,8 +14,6 @@ from .tree import Node, tree_of
 Answer = TypeVar("Answer")
 # The first letter of the codes of faults that leave a file without a tree.
 YAML = "Y"
-# Why a file that isn't there isn't deleted.
-ABSENT = "E5"
 
 
 class Reader:
@@ -25,8 +23,7 @@ class Reader:
     def __init__(self, linter: str, timeout: float):
         self._linter, self._timeout = linter, timeout
         self._facts: Facts | None = None
-        # The path that the program may have a file at, and the file that it has.
-        self._path = ""
+        # The path and the bytes that the program has, None if that isn't known.
         self._held: tuple[str, bytes] | None = None
 
     def check(self) -> None:
@@ -48,7 +45,7 @@ class Reader:
     def close(self) -> None:
         if self._facts:
             self._facts.stop()
-        self._facts, self._path, self._held = None, "", None
+        self._facts = self._held = None
 
     def _answer(self, path: str, data: bytes, ask: Callable[[Facts], Answer | None], is_last: bool = False) -> Answer | None:
         """The answer to a question about a text, or None if it has none. If the program has ended, another one is asked once."""
@@ -65,26 +62,18 @@ class Reader:
         return self._answer(path, data, ask, True)
 
     def _with(self, path: str, data: bytes) -> Facts:
-        """The program, once it has this file and no other one."""
-        if self._facts is None:
+        """The program, once it has this file and no other one. It is started anew if an edit was refused, or cut short since the time of a
+        call was up."""
+        held, self._held = self._held, None
+        if self._facts is None or held is None:
+            self.close()
             self._facts = Facts([find_facts(self._linter)], self._timeout)
-        if self._held != (path, data):
-            # The time of a call may be up between an edit and what is noted of it.
-            self._held, other = None, self._path
-            if other not in ("", path):
-                _delete(self._facts, other)
-            self._path = path
+        elif held[0] != path:
+            self._facts.delete(held[0])
+        if held != (path, data):
             self._facts.put(path, data)
-            self._held = path, data
+        self._held = path, data
         return self._facts
-
-
-def _delete(facts: Facts, path: str) -> None:
-    try:
-        facts.delete(path)
-    except EditRefused as error:
-        if error.code != ABSENT:
-            raise
 
 
 def _calls(facts: Facts, path: str) -> frozenset[str] | None:

@@ -4,7 +4,7 @@ from __future__ import annotations
 from typing import Iterator, NamedTuple
 
 from . import project as files
-from .facts_tree import Place, Word, chains_in
+from .facts_tree import Place, Word, paths_in
 from .paths import is_workflow
 from .project import Project
 from .text import Point, Span
@@ -163,7 +163,7 @@ class _Finder:
 
     def _of_expressions(self, place: Place, job: str | None) -> Iterator[Occurrence]:
         for chunk in place.chunks:
-            for _, chain in chains_in(chunk.tree) if chunk.tree else ():
+            for _, chain in paths_in(chunk.tree) if chunk.tree else ():
                 yield from self._of_chain(chain, job)
 
     def _of_chain(self, chain: list[Word], job: str | None) -> Iterator[Occurrence]:

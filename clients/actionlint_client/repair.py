@@ -8,7 +8,7 @@ from functools import cached_property
 from typing import Iterable, Iterator, NamedTuple
 
 from .entries import Entry
-from .facts_tree import Chunk, chains_in
+from .facts_tree import Chunk, paths_in
 from .names import names
 from .paths import is_workflow
 from .place import Outline
@@ -238,7 +238,7 @@ class Case:
 def chains_of(chunks: Iterable[Chunk], places: BytePlaces) -> Iterator[Chain]:
     """The chains of names in expressions."""
     for chunk in chunks:
-        for part, words in chains_in(chunk.tree) if chunk.tree else ():
+        for part, words in paths_in(chunk.tree) if chunk.tree else ():
             yield Chain(tuple(word.text for word in words), places.span(part.start, part.end))
 
 

@@ -21,6 +21,7 @@ from actionlint_client import facts as module
 from actionlint_client.child import LinterEnded, LinterMissing, LinterSilent
 from actionlint_client.facts import EditRefused, Facts, NoAnswer, NoTree
 from actionlint_client.facts_tree import Chain, Path as Dotted, Word, walk
+from actionlint_client.limit import TooSlow
 from actionlint_client.program import FACTS, find_facts
 from actionlint_client.reader import Reader
 
@@ -121,9 +122,9 @@ def a_reader_whose_program_ends(program: str) -> None:
     text = FILES[CALLED].encode()
     reader = Reader(program, SECONDS)
     for path in (CALLED, FILE):
-        assert not fails_with(reader, LinterEnded)
         assert reader.calls(path, text) == frozenset(("a/action.yml", "a/action.yaml")) and reader.tree(path, text)
         os.kill(reader._facts._child.pid, signal.SIGKILL)
+        assert not fails_with(reader, LinterEnded, path, text)
     reader.close()
     with tempfile.TemporaryDirectory(prefix="actionlint-test-") as folder:
         begun = Path(folder) / "begun"
@@ -136,6 +137,25 @@ def a_reader_whose_program_ends(program: str) -> None:
             assert fails_with(reader, LinterMissing)
 
 
+@CASES.case
+def a_reader_that_is_cut_short(program: str) -> None:
+    """A text whose put was the last that there was time for has no part in later answers."""
+    reader = Reader(program, SECONDS)
+    reader.tree(ACTION, b"name: a\n")
+    put = reader._facts.put
+
+    def cut_short(path: str, data: bytes) -> None:
+        put(path, data)
+        raise TooSlow
+    reader._facts.put = cut_short
+    try:
+        reader.calls(CALLED, FILES[CALLED].encode())
+        raise AssertionError("it wasn't cut short")
+    except TooSlow:
+        assert reader.calls(FILE, FILES[FILE].encode()) == frozenset()
+    reader.close()
+
+
 @contextmanager
 def using(facts: str) -> Iterator[None]:
     """Within this, clients run another program."""
@@ -146,9 +166,9 @@ def using(facts: str) -> Iterator[None]:
     os.environ |= {"ACTIONLINT_FACTS": before} if before else {}
 
 
-def fails_with(reader: Reader, kind: type[LinterEnded]) -> bool:
+def fails_with(reader: Reader, kind: type[LinterEnded], path: str = FILE, data: bytes = b"a: b\n") -> bool:
     try:
-        reader.tree(FILE, b"a: b\n")
+        reader.tree(path, data)
     except LinterEnded as error:
         return type(error) is kind
     return False
