@@ -173,9 +173,9 @@ def run_action(place: Place, room: Room, inputs: dict[str, str]) -> tuple[int, s
     """Runs the only step of the action like a runner, with the clone as the folder into which the action was downloaded."""
     action = values((place.folder / "action.yml").read_text(encoding="utf-8"))
     (step,) = action["runs"]["steps"]
-    values = {f"inputs.{name}": inputs.get(name, one["default"]) for name, one in action["inputs"].items()}
-    values["github.action_path"] = str(place.folder)
-    own = {name: EXPRESSION.sub(lambda found: values[found[1]], value) for name, value in step["env"].items()}
+    given = {f"inputs.{name}": inputs.get(name, one["default"]) for name, one in action["inputs"].items()}
+    given["github.action_path"] = str(place.folder)
+    own = {name: EXPRESSION.sub(lambda found: given[found[1]], value) for name, value in step["env"].items()}
     write(room.top, {"step.sh": step["run"], "output": ""})
     os.chmod(room.top + "/output", 0o666)
     assert step["shell"] == "bash"
