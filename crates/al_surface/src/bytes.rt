@@ -120,7 +120,13 @@ fn is_character(file: &[u8], at: FaultAt, end: u32) -> bool {
 
 #[test]
 fn a_fault_at_a_character(rt: HostRuntime) {
-    assert!(rt; is_character("aé".as_bytes(), FaultAt::new(YamlCode::UnexpectedCharacter, 1), 3));
+    assert!(rt;
+        is_character(
+            "aé".as_bytes(),
+            FaultAt::new(YamlCode::UnexpectedCharacter, 1),
+            3
+        )
+    );
 }
 
 fn is_fault(fault: Option<YamlFault>, code: YamlCode, start: u32, end: u32) -> bool {
