@@ -1,9 +1,13 @@
 //! Bytes and lines: `al_text`, `al_scalar` and `al_yaml`.
 
-use al_scalar::lines::{indent, is_document_marker, line_end};
+use al_scalar::lines::{
+    after_break, begins, blank_line_end, blanks_end, first_byte, indent, is_blank, is_blank_or_end,
+    is_break_at, is_document_marker, is_flow_indicator, is_line_end, line_end, spaces_end,
+};
+use al_scalar::{FaultAt, fault_at};
 use al_text::limits::LARGEST_FILE;
 use al_text::{Location, YamlCode, first_control, is_char_start, location_of};
-use al_yaml::{YamlFault, byte_fault, document_start, mark_end};
+use al_yaml::{YamlFault, byte_fault, document_end, document_start, mark_end};
 
 fn is_at(location: Location, line: u32, column: u32, start: u32) -> bool {
     location.line == line && location.column == column && location.start == start
@@ -55,6 +59,76 @@ fn lines_of_a_file(rt: HostRuntime) {
     assert!(rt; is_marker(b"---\na", 0) && !is_marker(b"---\na", 4));
 }
 
+#[test]
+fn bytes_of_a_line(rt: HostRuntime) {
+    assert!(rt; is_blank(b'\t') && !is_blank(b'\n'));
+    assert!(rt; is_flow_indicator(b'{') && !is_flow_indicator(b':'));
+}
+
+/// Whether a line ends at an offset, and the next one begins at another.
+fn breaks_to(file: &[u8], at: usize, next: usize) -> bool {
+    at < file.len() && is_line_end(file, at) && after_break(file, at) == next
+}
+
+#[test]
+fn breaks_of_lines(rt: HostRuntime) {
+    assert!(rt; breaks_to(b"a\r\nb", 1, 3) && breaks_to(b"a\n\nb", 1, 2));
+    assert!(rt; is_break_at(b"a\r", 1) && !is_break_at(b"a", 1));
+}
+
+/// Where the first three spaces at an offset end, and all blanks.
+fn have_ends(file: &[u8], at: usize, spaces: usize, blanks: usize) -> bool {
+    at <= file.len() && spaces_end(file, at, 3) == spaces && blanks_end(file, at) == blanks
+}
+
+#[test]
+fn ends_of_spaces_and_blanks(rt: HostRuntime) {
+    assert!(rt; have_ends(b"a    \t#", 1, 4, 6));
+}
+
+/// The end of the line, if only blanks come before it.
+fn is_blank_to(file: &[u8], at: usize, end: Option<usize>) -> bool {
+    at <= file.len() && blank_line_end(file, at) == end
+}
+
+#[test]
+fn the_end_of_a_blank_line(rt: HostRuntime) {
+    assert!(rt; is_blank_to(b"a \t\nb", 1, Some(3)) && is_blank_to(b"a b", 1, None));
+}
+
+/// The byte at an offset of a line, as the three functions tell it.
+fn has_byte(file: &[u8], at: usize, byte: u8) -> bool {
+    at <= file.len() && first_byte(file, at) == Some(byte) && begins(file, at, byte)
+}
+
+fn is_followed_by_blank(file: &[u8], at: usize) -> bool {
+    at <= file.len() && is_blank_or_end(file, at)
+}
+
+#[test]
+fn bytes_at_offsets(rt: HostRuntime) {
+    assert!(rt; has_byte(b"- a", 0, b'-') && !has_byte(b"-\n", 1, b'\n'));
+    assert!(rt; is_followed_by_blank(b"a:", 2) && !is_followed_by_blank(b"a:b", 2));
+}
+
+/// Whether a fault at an offset has the span of a character.
+fn is_character(file: &[u8], at: FaultAt, end: u32) -> bool {
+    file.len() <= LARGEST_FILE
+        && at.at <= file.len()
+        && fault_at(file, at.at, at.code).span.end == end
+}
+
+#[test]
+fn a_fault_at_a_character(rt: HostRuntime) {
+    assert!(rt;
+        is_character(
+            "aé".as_bytes(),
+            FaultAt::new(YamlCode::UnexpectedCharacter, 1),
+            3
+        )
+    );
+}
+
 fn is_fault(fault: Option<YamlFault>, code: YamlCode, start: u32, end: u32) -> bool {
     match fault {
         Some(fault) => fault.code == code && (fault.span.start, fault.span.end) == (start, end),
@@ -83,4 +157,14 @@ fn begins_at(file: &[u8], wanted: usize) -> bool {
 #[test]
 fn the_start_of_a_document(rt: HostRuntime) {
     assert!(rt; begins_at(b"\xef\xbb\xbf# a\n---\nb\n", 11));
+}
+
+/// Whether nothing but the end of a document comes after an offset.
+fn ends_at(file: &[u8], at: usize) -> bool {
+    at <= file.len() && document_end(file, at).is_ok()
+}
+
+#[test]
+fn the_end_of_a_document(rt: HostRuntime) {
+    assert!(rt; ends_at(b"a\n...\n# b\n", 2) && !ends_at(b"a\n--- b\n", 2));
 }

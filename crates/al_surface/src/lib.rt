@@ -28,6 +28,8 @@ mod example_yaml;
 #[cfg(test)]
 mod expressions;
 #[cfg(test)]
+mod faults;
+#[cfg(test)]
 mod files;
 #[cfg(test)]
 mod linters;
@@ -41,5 +43,7 @@ mod sessions;
 mod texts;
 #[cfg(test)]
 mod trees;
+#[cfg(test)]
+mod values;
 #[cfg(test)]
 mod yaml;
