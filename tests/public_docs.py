@@ -1,10 +1,10 @@
 """Checks what the public crates say of themselves: public_docs.py TOP.
 
 Each public item of the nine crates has a comment, fields and variants too; so do those of types that their signatures name and no public
-crate does. Only signatures of what is public for the crates above alone name such types. A function that returns a `Result` says under
-`# Errors` when it fails, and one with a `requires` under `# Requires` what it asks. Each item is on the page that tools/api_pages.py makes of
-its crate, with all its clauses. docs/LIBRARY.md has a row for each crate, and lists what is public for the crates above alone: items that
-exist, among them all that do nothing at run time. Prints a line for each.
+crate does. Only signatures of what is public for the crates above alone name such types. A function that returns a `Result` says under `#
+Errors` when it fails, and one with a `requires` under `# Requires` what it asks. Each item is on the page that tools/api_pages.py makes
+of its crate, with all its clauses. docs/LIBRARY.md has a row for each crate, and lists what is public for the crates above alone: items
+that exist, among them all that do nothing at run time. Prints a line for each.
 """
 
 import pathlib
