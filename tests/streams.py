@@ -11,6 +11,7 @@ import os
 import sys
 import termios
 import threading
+import tty
 
 from running import CALLED, CALLER, MISSING_INPUT, REPORT, SCRIPT, WORKFLOWS, differences_of, each, line, put, report, run_parts, show
 
@@ -34,20 +35,26 @@ TALK_OUTPUT = b"".join(reply for _, reply, _ in TALK)
 # ---- input
 
 
+def pair_that_fails():
+    """The two ends of a pseudoterminal: when the second is closed, reads from the first get what is left, and then fail (EIO)."""
+    reader, writer = os.openpty()
+    tty.setraw(writer)
+    return reader, writer
+
+
 class Packets:
     """The reading end of a pipe, from which each read gets one of these pieces while it is open; then the end, a failure, or neither before
     it is closed."""
 
     def __init__(self, pieces, ending="end"):
-        self.reader, self.writer = os.pipe2(os.O_DIRECT)
-        fcntl.fcntl(self.writer, fcntl.F_SETPIPE_SZ, PIPE_ROOM)
+        self.reader, self.writer = pair_that_fails() if ending == "failure" else os.pipe2(os.O_DIRECT)
+        if ending != "failure":
+            fcntl.fcntl(self.writer, fcntl.F_SETPIPE_SZ, PIPE_ROOM)
         for piece in pieces:
             os.write(self.writer, piece)
-        if ending == "end":
+        if ending in ("end", "failure"):
             os.close(self.writer)
             self.writer = None
-        # when nothing is left, a read from this end fails instead of waiting
-        os.set_blocking(self.reader, ending != "failure")
 
     def left(self):
         """How many bytes weren't read."""
