@@ -20,7 +20,8 @@ for name in ("GIT_DIR", "GIT_WORK_TREE", "GIT_INDEX_FILE"):
 
 
 def copy_files(folder, is_wanted=lambda name: True):
-    """Copies the files that git tracks or would add, if `is_wanted` accepts their path from the top. The copies are writable."""
+    """Copies the files that git tracks or would add, if `is_wanted` accepts their path from the top. The copies are writable, and links are
+    links."""
     given = ["git", "-C", TOP, "ls-files", "-z", "--cached", "--others", "--exclude-standard"]
     listed = subprocess.run(given, capture_output=True, check=False)
     if listed.returncode:
@@ -30,8 +31,9 @@ def copy_files(folder, is_wanted=lambda name: True):
         if is_wanted(name) and (TOP / name).is_file():
             copy = folder / name
             copy.parent.mkdir(parents=True, exist_ok=True)
-            shutil.copy2(TOP / name, copy)
-            copy.chmod(copy.stat().st_mode | stat.S_IWUSR)
+            shutil.copy2(TOP / name, copy, follow_symlinks=False)
+            if not copy.is_symlink():
+                copy.chmod(copy.stat().st_mode | stat.S_IWUSR)
 
 
 def copy_few_sources(folder):
@@ -40,13 +42,20 @@ def copy_few_sources(folder):
     copy_files(folder, lambda name: not name.startswith(("crates/", "tests/", "clients/tests/")) or name.startswith("crates/actionlint/"))
 
 
+def facts_beside(program):
+    """The actionlint-facts that was built beside a linter, or else the carried one."""
+    built = pathlib.Path(program).resolve().parent.parent.parent / "al_facts/out/al_facts"
+    return built if built.is_file() else TOP / "prebuilt/actionlint-facts"
+
+
 def carry(folder, program):
-    """Makes a copy of the repository carry a program, in place of both, as if it had been built from its sources."""
+    """Makes a copy of the repository carry a linter, and the actionlint-facts beside it, as if they had been built from its sources."""
+    programs = {"actionlint": program, "actionlint-facts": facts_beside(program)}
     version = subprocess.run(["rt", "version"], capture_output=True, text=True, check=False).stdout.strip() if shutil.which("rt") else "kit"
     (folder / "prebuilt").mkdir(exist_ok=True)
     for name, file in CARRIED.items():
         carried = folder / "prebuilt" / name
-        shutil.copyfile(program, carried)
+        shutil.copyfile(programs[name], carried)
         carried.chmod(0o755)
         hashed = subprocess.run(["sh", "-c", HASH, folder, name, version], capture_output=True, text=True, check=True)
         (folder / "prebuilt" / file).write_text(hashed.stdout)

@@ -20,6 +20,7 @@ import tempfile
 from copying import TOP, carry, copy_files
 from running import exit_status, report, show, write_files
 
+LINTED = re.compile(r"^\.github/workflows/[^/]+\.ya?ml$|(?:^|/)action\.ya?ml$")
 BLOCK = re.compile(r"^```(\w+) (run|run empty|file=(\S+))\n(.*?)^```$", re.DOTALL | re.MULTILINE)
 MARK = "\x1e"
 SECONDS = 120
@@ -90,6 +91,8 @@ class Machine:
 
     def lint(self, path, text):
         """What the program says about a file on a page, if it lints such files."""
+        if not LINTED.search(path):
+            return []
         folder = pathlib.Path(tempfile.mkdtemp(dir=self.room))
         write_files(folder, {path: text.encode()})
         ran = subprocess.run([self.program, "--oneline", path], cwd=folder, capture_output=True, check=False, timeout=SECONDS)
