@@ -10,7 +10,7 @@ from typing import Callable, Iterator, TypeVar
 
 Answer = TypeVar("Answer")
 # How often the limit is looked at once it may be reached, and how long after it was raised it is raised again, if something kept the
-# exception from ending the call.
+# exception from ending the call. A clock gives the signals: timers of processor time give none on a busy machine (Linux 6.18).
 LOOK_SECONDS = 0.25
 AGAIN_SECONDS = 1.0
 
@@ -51,10 +51,10 @@ class TimeLimit:
             self._shields -= 1
 
     def _call(self, seconds: float, function: Callable[[], Answer]) -> Answer:
-        signal.signal(signal.SIGPROF, self._look)
+        signal.signal(signal.SIGALRM, self._look)
         self._end = time.thread_time() + seconds
         self._is_running = True
-        signal.setitimer(signal.ITIMER_PROF, seconds, LOOK_SECONDS)
+        signal.setitimer(signal.ITIMER_REAL, seconds, LOOK_SECONDS)
         try:
             return function()
         finally:
@@ -62,7 +62,7 @@ class TimeLimit:
 
     def _stop(self) -> None:
         self._is_running = False
-        signal.setitimer(signal.ITIMER_PROF, 0)
+        signal.setitimer(signal.ITIMER_REAL, 0)
 
     def _look(self, _signal: int, _frame: FrameType | None) -> None:
         if self._is_running and not self._shields and time.thread_time() >= self._end:

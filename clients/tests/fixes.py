@@ -10,6 +10,7 @@ import random
 import signal
 import sys
 import tempfile
+import time
 from contextlib import contextmanager
 from typing import Iterator
 
@@ -27,6 +28,7 @@ from actionlint_client.session import ReportTooLong, Session
 
 CASES = Cases("fixes")
 SECONDS = 20.0
+LOOK_SECONDS = 0.25
 EDITS = int(os.environ.get("EDITS", "150"))
 TYPED = "a:-'\"{[\t\n}])&*#!$=|é"
 JOB = "on: push\njobs:\n  build:\n    runs-on: ubuntu-latest\n"
@@ -100,15 +102,18 @@ def faults_that_come_back(program: str) -> None:
 @contextmanager
 def within(seconds: float) -> Iterator[None]:
     """Fails if a block takes this process more than some seconds of processor time."""
-    def stop(*_: object) -> None:
-        raise AssertionError(f"more than {seconds} seconds")
-    before = signal.signal(signal.SIGPROF, stop)
-    signal.setitimer(signal.ITIMER_PROF, seconds)
+    end = time.process_time() + seconds
+
+    def look(*_: object) -> None:
+        if time.process_time() >= end:
+            raise AssertionError(f"more than {seconds} seconds")
+    before = signal.signal(signal.SIGALRM, look)
+    signal.setitimer(signal.ITIMER_REAL, seconds, LOOK_SECONDS)
     try:
         yield
     finally:
-        signal.setitimer(signal.ITIMER_PROF, 0)
-        signal.signal(signal.SIGPROF, before)
+        signal.setitimer(signal.ITIMER_REAL, 0)
+        signal.signal(signal.SIGALRM, before)
 
 
 @CASES.case

@@ -380,7 +380,7 @@ WRONG_VERSIONS = {name: WrongVersion(*row) for name, *row in (
     ("a_request_has_no_limit", "server.py", "limits.py requests_that_never_end", "LIMIT.call(MAX_SECONDS, request)", "request()"),
     ("the_limit_is_caught_by_what_is_cut", "limit.py", "limits.py calls", "class TooSlow(BaseException):", "class TooSlow(Exception):"),
     ("the_limit_goes_on_after_the_call", "limit.py", "limits.py calls",
-     "        self._is_running = False\n        signal.setitimer(signal.ITIMER_PROF, 0)", "        self._is_running = False"),
+     "        self._is_running = False\n        signal.setitimer(signal.ITIMER_REAL, 0)", "        self._is_running = False"),
     ("the_limit_is_raised_once", "limit.py", "limits.py a_call_that_goes_on", "self._end += AGAIN_SECONDS", "self._end += 1_000"),
     ("the_limit_counts_all_threads", "limit.py", "limits.py other_threads", " and time.thread_time() >= self._end", ""),
     ("sessions_are_cut", "session.py", "limits.py sessions", "with LIMIT.uninterrupted():\n            self._send(*parts)",
