@@ -1,5 +1,5 @@
-"""Runs that reach the program's code: the folders of examples/, the scripts of tests/cases and tests/faults, right and wrong command lines,
-and files that are refused. All run in the repository's folder.
+"""Runs that reach the program's code: the folders of examples/, the scripts of tests/cases and tests/faults, valid and invalid arguments,
+and files that are refused. All run in the repository's root directory.
 """
 
 import pathlib

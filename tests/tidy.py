@@ -18,9 +18,10 @@ ENDINGS = {"src": ".rt", "specs": ".antt", "proofs": ".antt"}
 UNUSUAL = {
     "leads out": "points outside", "lead out": "point outside", "link out of": "link that points outside",
     "links out of": "links that point outside", "outside of the folder": "points outside the folder", "passed over": "skipped",
-    "current folder": "current directory", "top folder": "top directory", "words of the command line": "arguments",
-    "words of a command line": "arguments", "word of the command line": "argument", "carried program": "prebuilt program",
-    "is carried": "is prebuilt", "flag": "boolean", "asks again": "retries", "asked again": "retried", "file that answers it": "callee",
+    "current folder": "current directory", "top folder": "root directory", "repository's folder": "root directory of the repository",
+    "wrong command line": "invalid arguments", "words of the command line": "arguments", "words of a command line": "arguments",
+    "word of the command line": "argument", "carried program": "prebuilt program", "is carried": "is prebuilt",
+    "flag": "boolean", "asks again": "retries", "asked again": "retried", "file that answers it": "callee",
     "words are not text": "arguments are not valid UTF-8", "call leads to": "call resolves to", "link leads to": "link points to",
     "link in a clone leads to": "link in a clone points to",
 }

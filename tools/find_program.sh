@@ -1,4 +1,4 @@
-# Functions that find the program that fits the sources, or build it. `./actionlint` sources this after setting `top`, the top folder, and
+# Functions that find the program that fits the sources, or build it. `./actionlint` sources this after setting `top`, the root directory, and
 # `name`, the program's, which is actionlint or actionlint-facts.
 #
 # A program fits if it was built from these sources: crates/CRATE/out/CRATE if no source is newer, and prebuilt/NAME if its file of hashes

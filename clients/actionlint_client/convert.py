@@ -214,7 +214,7 @@ def _options(words: list[str]) -> argparse.Namespace:
                                      usage="%(prog)s [OPTION]... [--] [FILE]...", add_help=False)
     add_help_and_version(parser)
     parser.add_argument("--form", choices=tuple(FORMS), default="sarif", help="the format of the report (default: %(default)s)")
-    parser.add_argument("--root", metavar="DIR", help="the top directory of the repository (default: the current directory)")
+    parser.add_argument("--root", metavar="DIR", help="the root directory of the repository (default: the current directory)")
     parser.add_argument("--program", help=f"the linter (default: {WHICH})")
     parser.add_argument("--docs", metavar="ADDRESS", help="the address of the pages of faults, for links")
     parser.add_argument("--out", metavar="FILE", help="the file to write (default: standard output)")

@@ -1,4 +1,4 @@
-"""Which files are linted, by their paths relative to the repository's top directory."""
+"""Which files are linted, by their paths relative to the repository's root directory."""
 from __future__ import annotations
 
 import os

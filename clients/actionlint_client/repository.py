@@ -26,7 +26,7 @@ OF_SIZE = {"nesting is too deep", "too many nodes", "expression is too long"}
 
 @dataclass
 class Document:
-    """An open file, with its path relative to the repository's top directory, and its version by each URI under which it was opened."""
+    """An open file, with its path relative to the repository's root directory, and its version by each URI under which it was opened."""
 
     path: str
     repository: Repository

@@ -19,7 +19,7 @@ local function repository_of(folder)
   return above
 end
 
--- The repository's folder of a workflow or an action; nil for other files.
+-- The root directory of the repository of a workflow or an action; nil for other files.
 local function root_of(path)
   local root = path:match('^(.*)/%.github/workflows/[^/]+%.ya?ml$')
   if root then
