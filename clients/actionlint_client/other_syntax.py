@@ -14,6 +14,7 @@ IN_TEMPLATE = re.compile(r"\$\{([\w.-]+)\}")
 BETWEEN_NAMES = re.compile(rf"(?<![\w.-])({CONTEXTS})(?:->|\.\.|::?|/)(?=[A-Za-z_])")
 OTHER_BRACKETS = re.compile(rf"(?<![\w.-])({FUNCTIONS})\s*(?:\[([^\[\]{{}}]*)\]|\{{([^\[\]{{}}]*)\}})", re.I)
 NO_BRACKETS = re.compile(rf"(?<![\w.-])({FUNCTIONS})\s+([\w.*-]+\s*,\s*'[^']*')", re.I)
+NO_BRACKETS_OF_ONE = re.compile(r"(?<![\w.-])(fromJSON|toJSON|hashFiles)\s+([A-Za-z][\w.*-]*|'[^']*')(?!\s*,)", re.I)
 BETWEEN_OPERANDS = re.compile(r"(?<![\w.*-])([\w.*-]+)\s+(contains|startsWith|endsWith)\s+('[^']*')", re.I)
 DEFAULT = re.compile(r"\|\s*default\(((?:[^()']|'[^']*')*)\)")
 STAR_IN_BRACKETS = re.compile(r"\.?\[\*\]")
@@ -47,7 +48,7 @@ def with_dots(text: str) -> str:
 def with_round_brackets(text: str) -> str:
     """A text whose calls have round brackets."""
     changed = OTHER_BRACKETS.sub(lambda match: f"{match[1]}({match[2] or match[3] or ''})", text)
-    changed = NO_BRACKETS.sub(r"\1(\2)", changed)
+    changed = NO_BRACKETS_OF_ONE.sub(r"\1(\2)", NO_BRACKETS.sub(r"\1(\2)", changed))
     return BETWEEN_OPERANDS.sub(r"\2(\1, \3)", changed)
 
 

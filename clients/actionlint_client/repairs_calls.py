@@ -7,14 +7,15 @@ from typing import Callable, Iterable
 
 from . import project as files
 from .action_versions import VERSIONS, owners_of, versions
-from .names import likely
+from .names import likely, misspelled
 from .operators import operators
 from .paths import ACTION_NAMES, WORKFLOW_ENDINGS, WORKFLOWS, is_workflow
 from .repair import (Case, Edit, Found, Repair, as_scalar, entries_of, is_within_flow, next_entry, quoted, tight, without_entry,
                      without_key)
-from .repairs_keys import deleted, moved_below
+from .repairs_keys import OTHER_NAMES, deleted, moved_below
 from .repairs_names import as_secret
 from .repairs_kinds import as_flag, as_number
+from .syntax import table
 from .text import Point, Span
 from .tree import Node, Path, last_line, walk
 
@@ -141,16 +142,22 @@ def required(what: str) -> Callable[[Case], Iterable[Repair]]:
 
 
 def _written_elsewhere(case: Case, node: Node, below: str, name: str) -> Iterable[Repair]:
-    """What is missing, if it is there: beside `uses`, misspelled, or a secret among the inputs."""
+    """What is missing, if it is there: beside `uses`, misspelled, below another word for its section, or a secret among the inputs."""
     path = _path_of(case)
+    known = table()["shapes"]["Job" if len(path) == 2 else "Step"]["keys"]
+    for word, section in node.entries:
+        is_meant = OTHER_NAMES.get(word.value.lower()) == below or misspelled(word.value, [below])
+        if word.value not in known and section.get(name) and is_meant:
+            yield case.replace(f'change "{word.value}" to "{below}"', below, word.span)
+            return
     key, value = node.key(name), node.get(name)
     if key and value:
         yield from moved_below(case, Found((*path, name), key, value, node))
     callee = _call(case)[1]
     what = "secrets" if below == "secrets" else "inputs"
-    known = files.declarations(callee, case.project.good_tree(callee), what, True) if callee else []
-    for key in _unknown(node, known, below) if known else []:
-        found = likely(key.value, [name]) or [(one, False) for one in _only_lacking(node, known, below)]
+    declared = files.declarations(callee, case.project.good_tree(callee), what, True) if callee else []
+    for key in _unknown(node, declared, below) if declared else []:
+        found = likely(key.value, [name]) or [(one, False) for one in _only_lacking(node, declared, below)]
         yield from (case.replace(f'change "{key.value}" to "{name}"', name, key.span, is_safe=is_slip) for _, is_slip in found)
     inputs = node.get("with")
     key, value = (inputs.key(name), inputs.get(name)) if inputs and below == "secrets" else (None, None)

@@ -21,7 +21,7 @@ BRACES = re.compile(r"\$\{\{((?:[^$}]|\$(?!\{\{)|\}(?!\}))*)\}\}")
 MANY_BRACES = re.compile(r"\$\{{3,}([^{}]*)\}{2,}")
 NESTED_BRACES = re.compile(r"\$\{\{([^{}]*)\$\{\{([^{}]*)\}\}([^{}]*)\}\}")
 VERSION = re.compile(r"(?<![\w.-])v?\d[\w-]*(?:\.[\w-]+)+")
-VARIABLE = re.compile(r"\$\{?(GITHUB_|RUNNER_)?([A-Z_][A-Z0-9_]*)\}?")
+VARIABLE = re.compile(r"\$\{?(GITHUB_|RUNNER_)?([A-Za-z_][A-Za-z0-9_]*)\}?")
 CALL_OF_CHOICE = re.compile(r"\b(case|iif|if|ternary|choose)\s*\(")
 ARGUMENTS = re.compile(r"(?:'(?:[^']|'')*'|[^()']|\((?:[^()']|'[^']*')*\))*")
 ARGUMENT = re.compile(r"(?:'(?:[^']|'')*'|\((?:[^()']|'[^']*')*\)|[^,()'])+")
@@ -106,7 +106,9 @@ def from_context(case: Case) -> Iterable[Repair]:
     def property_of(match: re.Match[str]) -> str:
         context = (match[1] or "env_")[:-1].lower()
         name = match[2].lower() if match[1] else match[2]
-        if context == "env" and not re.search(rf"(?<!\w){re.escape(name)}['\"]?\s*[:=]", case.text):
+        # (a word in small letters may be any key)
+        sets = rf"(?<!\w){re.escape(name)}" + (r"['\"]?\s*[:=]" if name.isupper() else "=.*GITHUB_ENV")
+        if context == "env" and not re.search(sets, case.text):
             return str(match[0])
         return f"{context}.{name}"
     text = outside_texts(decoded(expression), lambda part: VARIABLE.sub(property_of, part))
@@ -289,6 +291,7 @@ def closed_braces(case: Case) -> Iterable[Repair]:
     if here.value.style in ("'", '"') and text.endswith(here.value.style):
         text = text[:-1].rstrip()
     has_brace = rest[whole.end():whole.end() + 1] == "}"
+    is_after_dollar = case.line[:case.span.start.column].endswith("$")
     is_one = has_brace or chain is None or re.match(r"\s*(?:[=!]=|&&|\|\||[<>(])", rest[chain.end():]) is not None
     ends = [whole.end() if has_brace else len(text)] if is_one else []
     ends += [chain.end()] if chain else []
@@ -299,7 +302,7 @@ def closed_braces(case: Case) -> Iterable[Repair]:
         width = braces.end() if braces else 0
         span = Span.on_line(case.span.start.line, case.span.start.column + end, case.span.start.column + end + width)
         before = "" if rest[:end].endswith(" ") else " "
-        yield case.replace("close the braces", before + "}}", span, is_safe=tail == "}" and end == ends[0])
+        yield case.replace("close the braces", before + "}}", span, is_safe=tail == "}" and end == ends[0] and not is_after_dollar)
 
 
 def word_as_text(case: Case) -> Iterable[Repair]:

@@ -8,6 +8,7 @@ from typing import Callable, Iterable
 from .names import likely, misspelled, names, near
 from .paths import is_workflow
 from .repairs_levels import moves
+from .repairs_steps import STEP_STARTS, new_step
 from .repair import (FLOW_SIGNS, Case, Edit, Found, Repair, entries_of, first_entry, indented, next_entry, quoted, tight, without_entry,
                      without_key)
 from .syntax import shape_at, table
@@ -34,7 +35,8 @@ OTHER_NAMES = {"timeout": "timeout-minutes", "command": "run", "script": "run", 
                "executor": "runs-on", "agent": "runs-on", "platform": "runs-on", "machine": "runs-on", "vmimage": "runs-on",
                "trigger": "on", "key": "group"}
 # What shows by a value which key it belongs to.
-VALUES_OF_KEYS = {"image": re.compile(r"(?:[\w./-]*/)?Dockerfile[\w.-]*|docker://\S+"), "main": re.compile(r"[\w./-]+\.[cm]?js"),
+VALUES_OF_KEYS = {"image": re.compile(r"(?:[\w./-]*/)?Dockerfile[\w.-]*|docker://\S+|[\w./-]+:\d[\w.-]*"),
+                  "main": re.compile(r"[\w./-]+\.[cm]?js"),
                   "uses": re.compile(r"[\w.-]+/[\w./-]+@[\w./-]+|\./[\w./-]+"), "cron": re.compile(r"[\d*][\d*/,-]*(?: [\w*/,-]+){4}"),
                   "using": re.compile(r"composite|docker|node\d\d"),
                   "runs-on": re.compile(r"(?:ubuntu|windows|macos)-[\w.-]+|self-hosted"), "value": re.compile(r"\$\{\{.*\}\}")}
@@ -45,7 +47,6 @@ SHORT_FORMS = {"concurrency": ("group", "Concurrency"), "environment": ("name", 
                "runs-on": ("labels", "RunsOn")}
 # Where a missing key is looked for.
 MAX_PLACES = 20
-STEP_STARTS = ("name", "id", "if")
 
 
 def near_key(case: Case) -> Iterable[Repair]:
@@ -55,7 +56,9 @@ def near_key(case: Case) -> Iterable[Repair]:
         return
     known = case.known_keys(here.path[:-1], (name for name in here.parent.names() if name != wrong))
     found = likely(wrong, known)
-    meant = other_name(wrong, here.value) or next((key for key in known if fits(key, here.value)), None)
+    meant = other_name(wrong, here.value)
+    if meant not in known:
+        meant = next((key for key in known if fits(key, here.value)), None)
     if meant in known and not any(is_slip for _, is_slip in found):
         only = here.value.entries[0][1] if len(here.value.entries) == 1 else None
         if only and here.key and fits(str(meant), only):
@@ -285,7 +288,8 @@ def another_job(case: Case) -> Iterable[Repair]:
 
 
 def repeated(case: Case) -> Iterable[Repair]:
-    """The second of two equal keys: taken away if it says the same and no other key is there twice, merged with the first, or deleted."""
+    """One of two equal keys: taken away if it is empty, or says the same and no other key is there twice; else the second is merged with
+    the first, or deleted."""
     here = case.key
     if here is None or here.key is None:
         return
@@ -296,6 +300,10 @@ def repeated(case: Case) -> Iterable[Repair]:
         if len(set(here.parent.names())) + 1 < len(here.parent.entries):
             return
         yield case.of(f'delete the second "{name}", which is equal', without_entry(case, here.parent, here.key), is_safe=True)
+        return
+    key = here.parent.key(name)
+    if key and first.kind == "scalar" and not first.value and not first.style and here.value.entries:
+        yield case.of(f'delete the first "{name}", which is empty', without_entry(case, here.parent, key), is_safe=True)
         return
     yield from _merged(case, here, first)
     if name == "if" and first.kind == here.value.kind == "scalar" and "${{" not in first.value + here.value.value and not first.style:
@@ -441,39 +449,6 @@ def _first_value(case: Case, here: Found, name: str) -> str | None:
     if name == "description":
         return here.value.text("name") or MISSING[name]
     return MISSING.get(name)
-
-
-def new_step(case: Case) -> Iterable[Repair]:
-    """A step that has a second `uses` or `run`, or another key twice, cut in two: at the name, the id or the condition before that key, or
-    at the key. The key with which other steps begin comes first."""
-    here = case.key
-    if here is None or here.key is None or here.path[-3:-2] != ("steps",) or here.parent.is_flow:
-        return
-    keys = [key for key, _ in here.parent.entries]
-    names_ = [key.value for key in keys]
-    number = next(number for number, key in enumerate(keys) if key is here.key)
-    number = min(number, next((one for one, name in enumerate(names_) if name in names_[:one]), number))
-    begun = max((one for one in range(number) if names_[one] in ("uses", "run", "with")), default=0)
-    starts = [one for one in range(begun + 1, number) if names_[one] in STEP_STARTS]
-    start = next(iter(starts), number)
-    if names_[start] == "if":
-        # which often is the last key of a step too
-        begins = _first_keys(case, here)
-        start = next((one for one in (*starts, number) if names_[one] in begins), start)
-    first = here.parent.span.start
-    dash = case.lines[first.line][:first.column]
-    for one in dict.fromkeys([start, number]):
-        before = {key.value for key in keys[:one]}
-        at = keys[one].span.start
-        if before & {"run", "uses"} and dash.strip() == "-" and not case.lines[at.line][:at.column].strip():
-            yield case.replace(f'begin a new step at "{keys[one].value}"', dash, Span(Point(at.line, 0), at))
-
-
-def _first_keys(case: Case, here: Found) -> set[str]:
-    """The keys with which the other steps begin, and the step of a key if that is a name, an id or a condition."""
-    steps = case.at(*here.path[:-2])
-    others = {step.entries[0][0].value for step in (steps.items if steps else ()) if step.entries and step is not here.parent}
-    return others | {here.parent.entries[0][0].value} & set(STEP_STARTS)
 
 
 def excluded_patterns(case: Case) -> Iterable[Repair]:

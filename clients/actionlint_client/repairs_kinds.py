@@ -30,6 +30,7 @@ MINUTES = {"": 1.0, "m": 1.0, "min": 1.0, "mins": 1.0, "minute": 1.0, "minutes":
            "seconds": 1 / 60}
 CALL = re.compile(r"[\w.-]+/[\w./-]+@[\w./-]+|\./[\w./-]+|docker://\S+")
 COLON_LACKS_SPACE = re.compile(r"([A-Za-z_][\w-]*):(?=[^\s/:])")
+LINE_OF_LIST = re.compile(r" *-?[\w./@*][\w./@*-]*")
 KEY_LACKS_COLON = re.compile(r"([A-Za-z_][\w-]*)(?= +[^\s=])")
 ODD_SPACE = re.compile("[\u00a0\u2000-\u200a\u202f\u3000]")
 
@@ -52,7 +53,7 @@ def other_kind(case: Case) -> Iterable[Repair]:
         yield from with_key
         if with_key:
             return
-        yield case.replace("make it a list", f"[{text}]", value.span)
+        yield from _list_of_lines(case, value) if "\n" in text else [case.replace("make it a list", f"[{text}]", value.span)]
         if here.path[-2:-1] == ("steps",):
             action = f"actions/{value.value}"
             for version in versions(case.project, action) if action in VERSIONS else ():
@@ -73,6 +74,17 @@ def other_kind(case: Case) -> Iterable[Repair]:
         yield from _by_name(case, value)
         yield from as_mapping(case, value)
         yield from _scalars_as_other(case, here)
+
+
+def _list_of_lines(case: Case, value: Node) -> Iterable[Repair]:
+    """Lines of words as a list: with a dash before each, or with a space after each dash."""
+    lines = range(value.span.start.line, value.span.end.line + 1)
+    has_dashes = [case.lines[line].lstrip().startswith("-") for line in lines]
+    starts = [Point(line, len(case.lines[line]) - len(case.lines[line].lstrip()) + has_dashes[0]) for line in lines]
+    is_of_words = all(LINE_OF_LIST.fullmatch(case.lines[line]) for line in lines) and len({start.column for start in starts}) == 1
+    if is_of_words and len(set(has_dashes)) == 1:
+        title, sign = ("add a space after each dash", " ") if has_dashes[0] else ("make it a list", "- ")
+        yield case.of(title, *(Edit(Span.at(start), sign) for start in starts))
 
 
 def _named_steps(case: Case, steps: Node) -> Iterable[Repair]:

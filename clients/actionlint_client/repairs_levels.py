@@ -11,6 +11,7 @@ from .text import Point, Span
 from .tree import Node, Path, last_line
 
 MAX_LINES_ABOVE = 30
+EVENT_OF_CALLS = (("on", "workflow_dispatch", "outputs"), ("on", "workflow_dispatch", "secrets"))
 MAX_COLUMNS = 6
 # In longer files no section is looked up.
 MAX_LINES = 5_000
@@ -137,12 +138,24 @@ def entry_of_another(case: Case) -> Iterable[Repair]:
         yield from (repair for path, repair in moves(case, here) if len(path) == len(here.path))
 
 
+def event_of_calls(case: Case) -> Iterable[Repair]:
+    """The event of a workflow that is called, in place of the one that is started by hand and has neither outputs nor secrets."""
+    here, on = case.key, case.at("on")
+    key = on.key("workflow_dispatch") if on else None
+    if here and on and key and here.path in EVENT_OF_CALLS and on.get("workflow_call") is None:
+        yield case.replace('change "workflow_dispatch" to "workflow_call"', "workflow_call", key.span)
+
+
 def moves(case: Case, here: Found) -> Iterator[tuple[Path, Repair]]:
     """The sections that have a key, and the repairs that move it there."""
     if here.key is None or here.parent.is_flow or case.lines[here.key.span.start.line][:here.key.span.start.column].strip():
         return
     if here.key.value == "environment" and here.value.entries and here.value.get("name") is None:
         # variables
+        return
+    is_of_container = here.path[-2:-1] == ("container",) or here.path[-3:-2] == ("services",)
+    if is_of_container and here.key.value == "name" and here.parent.get("image") is None:
+        # the image
         return
     lines = range(here.key.span.start.line, last_line(here.value, case.lines) + 1)
     is_last = here.parent.entries[-1][0] is here.key
@@ -196,7 +209,7 @@ def _sections_around(case: Case, here: Found) -> list[tuple[Path, list[str], int
 
 
 REPAIRS: dict[str, tuple[Callable[[Case], Iterable[Repair]], ...]] = {
-    "K1": (another_level, of_all_jobs),
+    "K1": (event_of_calls, another_level, of_all_jobs),
     "K4": (entry_of_another,),
     "Y4": (line_above,),
     "Y13": (line_above,),

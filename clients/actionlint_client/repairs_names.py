@@ -11,8 +11,8 @@ from .paths import is_workflow
 from .repair import Case, Edit, Found, Repair, first_entry, next_entry, quoted, without_entry, without_key
 from .other_syntax import with_empty_text
 from .repairs_expressions import choice_by_call, expression_of, in_yaml, is_alternative, is_in_condition, is_operand, rewritten
-from .repairs_needs import declared_output, is_written_elsewhere, needed_job, needs_for_jobs, output_of_job
-from .repairs_steps import (OF_CONTEXTS, named_step, names_before, only_output, only_step, output_of_any_job, properties_before,
+from .repairs_needs import declared_output, is_in_other_words, is_written_elsewhere, needed_job, needs_for_jobs, output_of_job
+from .repairs_steps import (OF_CONTEXTS, named_step, names_before, only_job, only_output, only_step, output_of_any_job, properties_before,
                             same_name_elsewhere, scope_of, shorter_chain, unused_name)
 from .repairs_values import joined_property
 from .syntax import table
@@ -222,6 +222,8 @@ def _declaring(case: Case, way: Path, name: str, title: str, *edits: Edit) -> It
     flow = f"{name}: {{type: string}}" if is_workflow(case.file) else f"{name}: {{description: {name}}}"
     around = case.at(*way)
     inputs = case.at(*way, "inputs")
+    if around and is_in_other_words(around, "inputs", table()["shapes"]["Call" if way else "Action"]["keys"]):
+        return
     if inputs and inputs.entries:
         yield case.of(title, first_entry(case, inputs, flow if inputs.is_flow else entry), *edits)
     elif inputs is None and around and around.entries:
@@ -238,6 +240,9 @@ def other_context(case: Case) -> Iterable[Repair]:
         return
     context = chain[0].lower()
     if context == "env" and len(chain) == 2:
+        scope = scope_of(case)
+        yield from (case.replace(f"change to inputs.{one.name}", f"inputs.{one.name}", span) for one in scope.properties(("inputs",))
+                    if one.name.lower().replace("-", "_") == chain[1].lower() and chain[1] not in case.tree.names("env")) if scope else ()
         if not _is_condition_of_job(case):
             yield from _value_of_variable(case, chain[1], span)
     if context in ("job", "needs") and case.scalar and case.scalar.path[:3] == ("on", "workflow_call", "outputs"):
@@ -385,6 +390,6 @@ REPAIRS: dict[str, tuple[Callable[[Case], Iterable[Repair]], ...]] = {
     "X9": (near_name, choice_by_call, rewritten("compare it with an empty text", with_empty_text)),
     "X10": (moved_variable,),
     "X14": (sibling_property,),
-    "X13": (other_property, same_name_elsewhere, shorter_chain, near_name, needed_job, named_step, output_of_job, only_step,
+    "X13": (other_property, same_name_elsewhere, shorter_chain, near_name, needed_job, named_step, output_of_job, only_step, only_job,
             unused_name, declared_input, declared_output, only_output, declared_row),
 }

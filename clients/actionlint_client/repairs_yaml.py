@@ -1,11 +1,12 @@
 """Repairs of texts that aren't valid YAML: quotes, brackets, spaces."""
 from __future__ import annotations
 
+import itertools
 import re
 from itertools import islice
 from typing import Callable, Iterable
 
-from .names import likely
+from .names import likely, names
 from .operators import OPERATORS, choice_in, grouped
 from .repair import COMMENT, Case, Edit, Repair, quoted
 from .repairs_blocks import CLOSERS, open_brackets
@@ -18,21 +19,26 @@ from .text import Point, Span
 FLOW_ITEM = re.compile(r"[^,\[\]{}]*")
 COLON_WITHOUT_SPACE = re.compile(r"^ *(?:- +)?[A-Za-z_][\w-]*:(?=[^\s/:])")
 DASH_WITHOUT_SPACE = re.compile(r"^( *)-(?=[A-Za-z_][\w-]*:(?: |$))")
+SEMICOLON = re.compile(r"^ *(?:- +)?([A-Za-z_][\w-]*) *;\s*$")
 FIRST_WORD = re.compile(r"^ *(?:- +)?([A-Za-z_][\w-]*)(?= (?! *=)|$)")
 EQUALS = re.compile(r"^ *(?:- +)?([A-Za-z_][\w-]*) *= *(?=[^=\s])")
 KEY_IN_BRACKETS = re.compile(r"\s*[\w-]+: +")
 IS_PAIR = re.compile(r"[a-z][\w-]*: |[\[{].*[\]}]$|\*[\w-]+$")
 QUOTED_BRACES = re.compile(r"['\"]?\$\{\{([^{}]*)\}\}['\"]?")
 NEGATED_BRACES = re.compile(r"! *\$\{\{([^{}]*)\}\}")
+CHAIN_IN_BRACES = re.compile(r"(?<!\$)\{\{(\s*(?:%s)\.[\w.-]+\s*)\}\}" % "|".join(names()["contexts"]))
 ANCHOR = re.compile(r"(?<!\S)&([^\s,\[\]{}]+)")
 ALIAS = re.compile(r"\*([^\s,\[\]{}]+)")
 ODD_SPACE = re.compile("[\u00a0\u2000-\u200a\u202f\u3000]")
 ODD_START = re.compile("[ \u00a0\u2000-\u200a\u202f\u3000-]*(?:[\\w-]+:)?[ \u00a0\u2000-\u200a\u202f\u3000]*")
+PLAIN_ITEM = re.compile(r" *- [\w./*-]+")
 ITEM = re.compile(r"""(?:[\w-]+: *)?(?:'[^']*'|"[^"]*"|[^'"]*)""")
 MAX_ITEMS = 30
 MAX_LINES_ABOVE = 200
 MAX_LINES_OF_LIST = 30
 HERE_DOCUMENT = re.compile(r"<<-?\s*['\"]?(\w+)")
+# Words in quotes before others.
+QUOTED_WORDS = re.compile(r"""(['"])(?:(?!\1).)*(?<!\s)\1\s""")
 EXPRESSION_AS_ITEM = re.compile(r"(?<=[\[,])\s*(\$\{\{[^{}]*\}\})\s*(?=[\],])")
 
 
@@ -142,21 +148,29 @@ def as_condition(case: Case) -> Iterable[Repair]:
 
 
 def inner_quotes(case: Case) -> Iterable[Repair]:
-    """A text in quotes that has the same quotes inside, which are doubled or get a backslash. A condition has strings of its own."""
+    """A text in quotes that has the same quotes inside, which are doubled or get a backslash. Not a condition, which has strings of its
+    own, nor a text that begins with quoted words."""
     span = case.rest_span(case.span.start.line)
     text = case.slice(span) if span else ""
     quote, key = text[:1], case.outline.lines[case.span.start.line].elements[-1:]
-    if span and len(text) > 2 and quote in ("'", '"') and text.endswith(quote) and not (key and key[0].name == "if"):
+    is_whole = len(text) > 2 and quote in ("'", '"') and text.endswith(quote) and not QUOTED_WORDS.match(text)
+    if span and is_whole and not (key and key[0].name == "if"):
         inner = text[1:-1].replace("''", "'").replace("'", "''") if quote == "'" else re.sub(r'(?<!\\)"', r'\\"', text[1:-1])
         yield case.replace("write the quotes inside as a text", quote + inner + quote, span)
 
 
 def list_in_line(case: Case) -> Iterable[Repair]:
-    """A list whose first dash follows its key on the same line."""
-    span = case.rest_span(case.span.start.line)
+    """A list whose first dash follows its key on the same line, with the others there or on the lines below."""
+    number = case.span.start.line
+    span = case.rest_span(number)
     text = case.slice(span) if span else ""
     if span and text.startswith("- ") and ": " not in text:
-        yield case.replace("make it a list", "[" + ", ".join(text[2:].split(" - ")) + "]", span)
+        deeper = " " * (indent_of(case.line) + 1)
+        below = itertools.takewhile(lambda line: line.startswith(deeper) and PLAIN_ITEM.fullmatch(line),
+                                    case.lines[number + 1:number + MAX_LINES_OF_LIST])
+        items = [line.strip()[2:] for line in below]
+        end = Point(number + len(items), len(case.lines[number + len(items)])) if items else span.end
+        yield case.replace("make it a list", "[" + ", ".join([*text[2:].split(" - "), *items]) + "]", Span(span.start, end))
 
 
 def closed_above(case: Case) -> Iterable[Repair]:
@@ -289,6 +303,8 @@ def as_expression(case: Case) -> Iterable[Repair]:
     text = case.slice(span).strip() if span else ""
     if span and text.startswith("{{") and text.endswith("}}"):
         yield case.replace("write a dollar before the braces", "$" + text, span, is_safe=True)
+    elif span and text.startswith("{{") and CHAIN_IN_BRACES.match(text):
+        yield case.replace("write a dollar before the braces", CHAIN_IN_BRACES.sub(r"${{\1}}", text), span)
     if span and text[:1] in ("'", '"') and "${{" in text and "}}" in text:
         bare = QUOTED_BRACES.sub(lambda match: match[1].strip(), text).replace('"', "'")
         yield case.replace("write it as an expression", "${{ " + bare + " }}", span)
@@ -404,10 +420,12 @@ def with_dash(case: Case) -> Iterable[Repair]:
 
 
 def with_colon(case: Case) -> Iterable[Repair]:
-    """A colon after a word that is alone on its line, or before the value on it, also in place of an equals sign."""
+    """A colon after a word that is alone on its line, or before the value on it, also in place of an equals sign or a semicolon."""
     for place, match in _after_match(case, EQUALS):
         line = place.start.line
         yield case.replace(f'write a colon after "{match[1]}"', ": ", Span.on_line(line, match.end(1), match.end()))
+    for place, match in _after_match(case, SEMICOLON):
+        yield case.replace(f'write a colon after "{match[1]}"', ":", Span.on_line(place.start.line, match.end(1), match.end()))
     for place, match in _after_match(case, FIRST_WORD):
         yield case.replace(f'add a colon after "{match[1]}"', ":", place)
 
