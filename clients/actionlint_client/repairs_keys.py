@@ -6,6 +6,7 @@ import re
 from typing import Callable, Iterable
 
 from .names import likely, misspelled, names, near
+from .other_keys import other_keys
 from .paths import is_workflow
 from .repairs_levels import moves
 from .repairs_steps import STEP_STARTS, new_step
@@ -21,19 +22,6 @@ MISSING = {"on": "push", "jobs": "\n  " + JOB.replace("\n", "\n  "), "runs-on": 
            "group": "${{ github.workflow }}-${{ github.ref }}", "cron": "'0 0 * * *'", "value": "''", "name": "Name",
            "description": "Description", "using": "composite", "main": "index.js", "image": "Dockerfile", "steps": "[]",
            "runs": "\n  using: composite\n  steps: []"}
-# Keys that are often written instead of another one that isn't similar enough to be found.
-OTHER_NAMES = {"timeout": "timeout-minutes", "command": "run", "script": "run", "image": "container", "branch": "branches", "tag": "tags",
-               "path": "paths", "environment-variables": "env", "depends-on": "needs", "depends_on": "needs", "requires": "needs",
-               "condition": "if", "when": "if", "title": "name", "dir": "working-directory", "cwd": "working-directory", "triggers": "on",
-               "environments": "environment", "variables": "env", "vars": "env", "args": "with", "params": "with", "secret": "secrets",
-               "allow-failure": "continue-on-error", "allow_failure": "continue-on-error", "os": "runs-on", "type": "types", "job": "jobs",
-               "workdir": "working-directory", "inputs": "with", "input": "with", "parameters": "with", "environment": "env",
-               "cmd": "run", "commands": "run", "action": "uses", "runner": "runs-on", "dependencies": "needs", "description": "name",
-               "continue-on-failure": "continue-on-error", "ignore-errors": "continue-on-error", "matrix": "strategy",
-               "choices": "options", "values": "options", "enum": "options", "name": "group", "dependson": "needs", "displayname": "name",
-               "bash": "run", "pwsh": "run", "powershell": "run", "task": "uses", "settings": "with", "stages": "jobs", "pool": "runs-on",
-               "executor": "runs-on", "agent": "runs-on", "platform": "runs-on", "machine": "runs-on", "vmimage": "runs-on",
-               "trigger": "on", "key": "group"}
 # What shows by a value which key it belongs to.
 VALUES_OF_KEYS = {"image": re.compile(r"(?:[\w./-]*/)?Dockerfile[\w.-]*|docker://\S+|[\w./-]+:\d[\w.-]*"),
                   "main": re.compile(r"[\w./-]+\.[cm]?js"),
@@ -42,6 +30,8 @@ VALUES_OF_KEYS = {"image": re.compile(r"(?:[\w./-]*/)?Dockerfile[\w.-]*|docker:/
                   "runs-on": re.compile(r"(?:ubuntu|windows|macos)-[\w.-]+|self-hosted"), "value": re.compile(r"\$\{\{.*\}\}")}
 # And by the keys of its entries.
 ENTRIES_OF_KEYS = {"steps": {"run", "uses"}, "jobs": {"runs-on", "steps", "uses"}}
+# A limit in another unit than minutes.
+UNIT_OF_LIMIT = re.compile(r"timeout[-_]?(?:in[-_]?)?(s|secs?|seconds?|h|hrs?|hours?)", re.I)
 # Sections that can be a text, which is the value of one of their keys.
 SHORT_FORMS = {"concurrency": ("group", "Concurrency"), "environment": ("name", "Environment"), "container": ("image", "Container"),
                "runs-on": ("labels", "RunsOn")}
@@ -52,13 +42,12 @@ MAX_PLACES = 20
 def near_key(case: Case) -> Iterable[Repair]:
     """A similar key of the section that can stand beside the others, or the one that is meant by another word."""
     here, wrong = case.key, case.arguments[0]
-    if here is None:
+    if here is None or UNIT_OF_LIMIT.fullmatch(wrong):
         return
     known = case.known_keys(here.path[:-1], (name for name in here.parent.names() if name != wrong))
     found = likely(wrong, known)
-    meant = other_name(wrong, here.value)
-    if meant not in known:
-        meant = next((key for key in known if fits(key, here.value)), None)
+    meant = next((key for key in other_names(wrong, here.value) if key in known), None)
+    meant = meant or next((key for key in known if fits(key, here.value)), None)
     if meant in known and not any(is_slip for _, is_slip in found):
         only = here.value.entries[0][1] if len(here.value.entries) == 1 else None
         if only and here.key and fits(str(meant), only):
@@ -68,11 +57,11 @@ def near_key(case: Case) -> Iterable[Repair]:
     yield from (in_its_quotes(case, name, is_slip) for name, is_slip in found)
 
 
-def other_name(word: str, value: Node) -> str | None:
-    """The key that is meant by another word: `on` only if its value has events."""
-    name = OTHER_NAMES.get(word.lower())
+def other_names(word: str, value: Node) -> list[str]:
+    """The keys that may be meant by another word: `on` only if its value has events."""
     events = {*value.names(), *(item.value for item in value.items), *([value.value] if value.kind == "scalar" else [])}
-    return None if name == "on" and not events <= {*names()["events"], *table()["shapes"]["On"]["keys"]} else name
+    has_events = events <= {*names()["events"], *table()["shapes"]["On"]["keys"]}
+    return [key for key in other_keys(word) if key != "on" or has_events]
 
 
 def fits(key: str, value: Node) -> bool:
@@ -367,6 +356,8 @@ def missing_key(case: Case) -> Iterable[Repair]:
     row = shape["keys"].get(name, {}) if shape and "keys" in shape else {}
     wanted = [name, row["need"]] if isinstance(row.get("need"), str) else [name]
     unknown = [(key, value) for key, value in here.value.entries if shape and key.value not in shape.get("keys", ())]
+    if "run" in wanted:
+        unknown += [(key, value) for key, value in here.value.entries if key.value == "name" and fits("uses", value)]
     found = [*_renamed(case, unknown, wanted), *_moved_here(case, here.path, wanted)]
     yield from found
     if not found:
@@ -378,8 +369,8 @@ def _renamed(case: Case, unknown: list[tuple[Node, Node]], wanted: list[str]) ->
     """The keys that are a slip of a wanted one, like it, another word for it, or have a value for it."""
     for key, value in unknown:
         meant = misspelled(key.value, wanted)
-        other = other_name(key.value, value)
-        having = [one for one in wanted if one == other or fits(one, value) or one in near(key.value, [one])]
+        others = other_names(key.value, value)
+        having = [one for one in wanted if one in others or fits(one, value) or one in near(key.value, [one])]
         name = meant or (having[0] if having else None)
         if name:
             yield case.replace(f'change "{key.value}" to "{name}"', name, key.span, is_safe=meant is not None)

@@ -5,8 +5,8 @@ from typing import Iterable
 
 from . import project as files
 from .names import likely, misspelled
+from .other_keys import other_keys
 from .repair import Case, Edit, Repair, first_entry, next_entry, quoted
-from .repairs_keys import OTHER_NAMES
 from .repairs_steps import properties_before
 from .report import Fault
 from .syntax import table
@@ -49,7 +49,7 @@ def is_written_elsewhere(case: Case, job: str, name: str) -> bool:
 
 def is_in_other_words(node: Node, name: str, known: Iterable[str]) -> bool:
     """Whether a mapping has a key by another word or as a slip, which its section doesn't know."""
-    return any(OTHER_NAMES.get(key.lower()) == name or misspelled(key, [name]) for key in node.names() if key not in known)
+    return any(name in other_keys(key) or misspelled(key, [name]) for key in node.names() if key not in known)
 
 
 def need_of(case: Case, job: str, name: str) -> Edit:

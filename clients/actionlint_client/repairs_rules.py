@@ -24,6 +24,7 @@ OTHER_EVENTS = {"tag": "push", "tags": "push", "commit": "push", "merge": "push"
 PRESETS = {"@hourly": "0 * * * *", "@daily": "0 0 * * *", "@midnight": "0 0 * * *", "@weekly": "0 0 * * 0", "@monthly": "0 0 1 * *",
            "@yearly": "0 0 1 1 *", "@annually": "0 0 1 1 *"}
 WORD_OF_CRON = re.compile(r"[A-Za-z]{3,}")
+HOUR_OF_HALF = re.compile(r"\b(\d{1,2})([ap]m)\b", re.I)
 OF_ONE_VALUE = re.compile(r"(?<!\w)(\w+)-\1(?!\w)")
 GREATEST = (59, 23, 31, 12, 6)
 MAX_SCHEDULE_CHARACTERS = 200
@@ -151,7 +152,7 @@ def pattern(case: Case) -> Iterable[Repair]:
         yield case.of("add a space after each dash", *(Edit(Span.at(Point(line, case.lines[line].index("-") + 1)), " ") for line in dashes),
                       is_safe=True)
         return
-    words = [word.strip() for word in text.split(",") if word.strip()]
+    words = [word.strip().strip("'\"") for word in text.split(",") if word.strip()]
     if len(words) > 1 and not is_within_flow(case, here.path) and not isinstance(here.path[-1], int):
         yield case.replace("make it a list", "[" + ", ".join(quoted(word) for word in words) + "]", here.value.span)
         return
@@ -174,7 +175,7 @@ def schedule(case: Case) -> Iterable[Repair]:
     if here is None or len(here.value.value) > MAX_SCHEDULE_CHARACTERS:
         return
     text = here.value.value.strip()
-    fields = PRESETS.get(text, text).replace("?", "*").split()
+    fields = [HOUR_OF_HALF.sub(_of_day, "*" * field.startswith("/") + field) for field in PRESETS.get(text, text).replace("?", "*").split()]
     if len(fields) == 6:
         without = [("delete the seconds", fields[1:]), ("delete the year", fields[:5])]
         is_daily = fields[1].isdigit() and fields[2] == "*"
@@ -192,6 +193,11 @@ def schedule(case: Case) -> Iterable[Repair]:
     yield case.replace(f'change to "{changed}"', quoted(changed), here.value.span, is_safe=is_same)
 
 
+def _of_day(match: re.Match[str]) -> str:
+    """The hour of a day that has two halves."""
+    return str(int(match[1]) % 12 + (12 if match[2].lower() == "pm" else 0))
+
+
 def _bounded(field: str, most: int) -> str:
     """A field in which the value after the greatest one, such as the hour 24, is 0. A step is at least 1, and no greater than the greatest
     value."""
@@ -205,8 +211,12 @@ def _bounded(field: str, most: int) -> str:
 
 
 def seldom_enough(case: Case) -> Iterable[Repair]:
+    """The minute 0 of each hour that is named, or every five minutes."""
     here = case.value
     fields = here.value.value.split() if here else []
+    if here and len(fields) == 5 and fields[0] == "*" and fields[1] != "*":
+        changed = " ".join(["0", *fields[1:]])
+        yield case.replace("run it at the full hour", quoted(changed), here.value.span)
     if here and len(fields) == 5:
         changed = " ".join(["*/5", *fields[1:]])
         yield case.replace("run it every 5 minutes", quoted(changed), here.value.span)
@@ -220,7 +230,8 @@ def right_id(case: Case) -> Iterable[Repair]:
     wrong = case.arguments[0]
     name = re.sub(r"[^\w-]+", "-", wrong, flags=re.A).strip("-") or "id"
     name = name if re.match(r"[A-Za-z_]", name) else "_" + name
-    used = [one for one in _ids_without_step(case) if one in re.split(r"[^\w-]+", wrong, flags=re.A) or misspelled(wrong, [one])]
+    words = {*re.split(r"[^\w-]+", wrong, flags=re.A), wrong.lstrip("0123456789-")}
+    used = [one for one in _ids_without_step(case) if one in words or misspelled(wrong, [one])]
     lacking = [one for one in _jobs_without_key(case) if misspelled(one, [wrong]) or one in wrong.split()] if case.key else used
     name = lacking[0] if len(lacking) == 1 else name
     node = here.key if case.key and here.key else here.value
@@ -337,7 +348,8 @@ def list_of_row(case: Case) -> Iterable[Repair]:
         elif not here.value.style.strip("'\""):
             yield case.replace("make it a list", f"[{text}]", here.value.span, is_safe=not re.search(r"\s", text))
     elif here.value.kind == "mapping" and here.value.is_flow:
-        yield case.replace("make it a list", f"[{text}]", here.value.span)
+        is_of_words = all(value.kind == "scalar" and not value.value for _, value in here.value.entries)
+        yield case.replace("make it a list", f"[{text.strip('{}') if is_of_words else text}]", here.value.span)
     elif here.value.kind == "mapping":
         yield from as_list(case, here.value)
 
