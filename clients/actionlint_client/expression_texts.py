@@ -136,7 +136,8 @@ def with_double_braces(text: str) -> str | None:
 
 
 def with_calls(text: str) -> str:
-    """`a.contains(b)` as `contains(a, b)`, `a in [b]` likewise, and `[b]` as a list from JSON."""
+    """`a.contains(b)` as `contains(a, b)`, `a in [b]` likewise, and `[b]` as a list from JSON; functions of JSON by their names."""
+    text = text.replace("JSON.stringify(", "toJSON(").replace("JSON.parse(", "fromJSON(")
     changed = TEXT_IN.sub(lambda match: f"contains({match[2]}, {match[1]}" + ("" if match[0].startswith("contains") else ")"), text)
     changed = LISTED.sub(lambda match: ("!" if match[2] == "!" else "") + f"contains({_json_list(match[3])}, {match[1]})", changed)
     changed = METHOD.sub(lambda match: f"{match[2]}({match[1]}, ", changed)

@@ -6,7 +6,7 @@ from itertools import islice
 from typing import Iterator
 
 # Where a text that isn't closed may end.
-END_OF_TEXT = re.compile(r"(?<!\s)\s*(?:&&|\|\||[=!]=|[,)]|$)")
+END_OF_TEXT = re.compile(r"(?<!\s)\s*(?:&&|\|\||[=!]=|[,)\]]|$)")
 APOSTROPHE = re.compile(r"(?<=[A-Za-z])'(?=[a-z])")
 ONE_ARGUMENT = re.compile(r"\b((?:from|to)JSON\(\s*(?:'(?:[^']|'')*'|[\w.*-]+))\s*,", re.I)
 MAX_TEXTS = 4

@@ -14,6 +14,7 @@ IN_TEMPLATE = re.compile(r"\$\{([\w.-]+)\}")
 BETWEEN_NAMES = re.compile(rf"(?<![\w.-])({CONTEXTS})(?:->|\.\.|::?|/)(?=[A-Za-z_])")
 OTHER_BRACKETS = re.compile(rf"(?<![\w.-])({FUNCTIONS})\s*(?:\[([^\[\]{{}}]*)\]|\{{([^\[\]{{}}]*)\}})", re.I)
 NO_BRACKETS = re.compile(rf"(?<![\w.-])({FUNCTIONS})\s+([\w.*-]+\s*,\s*'[^']*')", re.I)
+NO_BRACKETS_OF_ONE = re.compile(r"(?<![\w.-])(fromJSON|toJSON|hashFiles)\s+([A-Za-z][\w.*-]*|'[^']*')(?![\w.*-]|\s*,)", re.I)
 BETWEEN_OPERANDS = re.compile(r"(?<![\w.*-])([\w.*-]+)\s+(contains|startsWith|endsWith)\s+('[^']*')", re.I)
 DEFAULT = re.compile(r"\|\s*default\(((?:[^()']|'[^']*')*)\)")
 STAR_IN_BRACKETS = re.compile(r"\.?\[\*\]")
@@ -24,7 +25,7 @@ OPTION_OF_TEST = re.compile(r"(?<=\s)-(eq|ne|lt|le|gt|ge)(?=\s)")
 OPERATOR_OF_OPTION = {"eq": "==", "ne": "!=", "lt": "<", "le": "<=", "gt": ">", "ge": ">="}
 SPACE_IN_OPERATOR = re.compile(r"([=!]) =|& &|\| \|")
 BRACKETED_WORDS = re.compile(r"(,\s*)(\[[A-Za-z][\w -]*\])(?=\s*\))")
-SEARCH = re.compile(r"(?<![\w.*-])([\w.*-]+)\s*=~\s*(?:'([^']*)'|/((?:[^/\\ ]|\\.)+)/)")
+SEARCH = re.compile(r"(?<![\w.*-])([\w.*-]+)\s*(?:=~|~=)\s*(?:'([^']*)'|/((?:[^/\\ ]|\\.)+)/)")
 PLAIN_TEXT = re.compile(r"[\w/:@. -]+")
 EMPTY = re.compile(r"(!\s*)?(?<![\w.-])(?:is_?)?(not_?)?(?:empty|null|blank)\(\s*([\w.-]+)\s*\)", re.I)
 IF_AND_THEN = re.compile(r"(?<!.)(\s*)if\b\s*|(?<!\s)\s+then(?=\s*$)", re.S)
@@ -47,7 +48,7 @@ def with_dots(text: str) -> str:
 def with_round_brackets(text: str) -> str:
     """A text whose calls have round brackets."""
     changed = OTHER_BRACKETS.sub(lambda match: f"{match[1]}({match[2] or match[3] or ''})", text)
-    changed = NO_BRACKETS.sub(r"\1(\2)", changed)
+    changed = NO_BRACKETS_OF_ONE.sub(r"\1(\2)", NO_BRACKETS.sub(r"\1(\2)", changed))
     return BETWEEN_OPERANDS.sub(r"\2(\1, \3)", changed)
 
 
@@ -76,6 +77,11 @@ def without_stray_brackets(text: str) -> str:
 def with_default(text: str) -> str:
     """A text with `||` in place of a filter that gives a default."""
     return DEFAULT.sub(lambda match: "|| " + match[1].strip(), text)
+
+
+def with_alternatives(text: str) -> str:
+    """A text with `||` in place of commas that separate no arguments."""
+    return "".join(" ||" if token.text == "," and token.depth == 0 else token.text for token in tokens(text))
 
 
 def with_stars(text: str) -> str:

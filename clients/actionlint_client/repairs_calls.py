@@ -2,54 +2,30 @@
 from __future__ import annotations
 
 import re
-from collections import Counter
 from typing import Callable, Iterable
 
 from . import project as files
 from .action_versions import VERSIONS, owners_of, versions
-from .names import likely
+from .inputs_of_calls import EMPTY, VALUES, call_of, first_value, path_of_call
+from .names import likely, misspelled
 from .operators import operators
+from .other_keys import other_keys
 from .paths import ACTION_NAMES, WORKFLOW_ENDINGS, WORKFLOWS, is_workflow
 from .repair import (Case, Edit, Found, Repair, as_scalar, entries_of, is_within_flow, next_entry, quoted, tight, without_entry,
                      without_key)
 from .repairs_keys import deleted, moved_below
 from .repairs_names import as_secret
 from .repairs_kinds import as_flag, as_number
+from .syntax import table
 from .text import Point, Span
-from .tree import Node, Path, last_line, walk
+from .tree import Node, last_line
 
 CALLED = "on:\n  workflow_call:\njobs:\n  build:\n    runs-on: ubuntu-latest\n    steps:\n      - run: make\n"
-EMPTY = "''"
-VALUES = {"boolean": "true", "number": "0", "string": EMPTY}
 # A workflow of another repository whose directory isn't named whole.
 OTHER_FOLDER = re.compile(r"([\w-]+/[\w.-]+)/(?:\.?github/)?(?:workflows?/)?([\w.-]+\.ya?ml@[\w./-]+)")
-# Inputs that take the token of the job, and those that take a secret.
-TOKEN_OF_JOB = re.compile(r"(?:(?:github|gh|repo|repository)[-_]?)?token", re.I)
-NAME_OF_SECRET = re.compile(r"(?:^|[-_])(?:token|password|passphrase|secret|(?:api|access|private|signing|ssh)[-_]?key)$", re.I)
-PLAIN_VALUE = re.compile(r"[\w./-]+")
-SEPARATORS = re.compile(r"[-_]")
 # A program with its arguments, not an action with its version.
 COMMAND = re.compile(r"(?:\./)?[\w.-]+ +(?!v?\d)[^\s@#:].*")
 OWNER_AND_NAME = re.compile(r"[\w.-]+/[\w./-]+")
-
-
-def _path_of(case: Case) -> Path:
-    """The path of the step or the job with the call."""
-    here = case.scalar or case.key or case.value
-    path = here.path if here else ()
-    while path and not ((node := case.at(*path)) and node.kind == "mapping" and node.get("uses")):
-        path = path[:-1]
-    return path
-
-
-def _call(case: Case) -> tuple[Node | None, str | None, bool]:
-    """The step or the job with the call, the callee, and whether it is a job."""
-    path = _path_of(case)
-    node = case.at(*path) if path else None
-    if node is None:
-        return None, None, False
-    of_job = is_workflow(case.file) and len(path) == 2
-    return node, case.project.callee(node.text("uses"), of_job), of_job
 
 
 def near_file(case: Case) -> Iterable[Repair]:
@@ -67,7 +43,7 @@ def near_file(case: Case) -> Iterable[Repair]:
 def near_declared(what: str) -> Callable[[Case], Iterable[Repair]]:
     """An input or a secret of the called file in place of one that it doesn't have, or none."""
     def repairs(case: Case) -> Iterable[Repair]:
-        node, callee, _ = _call(case)
+        node, callee, _ = call_of(case)
         here = case.key
         if here and node and callee:
             declared = files.declarations(callee, case.project.good_tree(callee), what, True)
@@ -120,7 +96,7 @@ def _without(case: Case) -> Iterable[Repair]:
 def required(what: str) -> Callable[[Case], Iterable[Repair]]:
     """The missing input or secret, and all that are missing."""
     def repairs(case: Case) -> Iterable[Repair]:
-        node, callee, of_job = _call(case)
+        node, callee, of_job = call_of(case)
         if node is None or callee is None:
             return
         below = "with" if what == "inputs" else "secrets"
@@ -141,16 +117,22 @@ def required(what: str) -> Callable[[Case], Iterable[Repair]]:
 
 
 def _written_elsewhere(case: Case, node: Node, below: str, name: str) -> Iterable[Repair]:
-    """What is missing, if it is there: beside `uses`, misspelled, or a secret among the inputs."""
-    path = _path_of(case)
+    """What is missing, if it is there: beside `uses`, misspelled, below another word for its section, or a secret among the inputs."""
+    path = path_of_call(case)
+    known = table()["shapes"]["Job" if len(path) == 2 else "Step"]["keys"]
+    for word, section in node.entries:
+        is_meant = below in other_keys(word.value) or misspelled(word.value, [below])
+        if word.value not in known and section.get(name) and is_meant:
+            yield case.replace(f'change "{word.value}" to "{below}"', below, word.span)
+            return
     key, value = node.key(name), node.get(name)
     if key and value:
         yield from moved_below(case, Found((*path, name), key, value, node))
-    callee = _call(case)[1]
+    callee = call_of(case)[1]
     what = "secrets" if below == "secrets" else "inputs"
-    known = files.declarations(callee, case.project.good_tree(callee), what, True) if callee else []
-    for key in _unknown(node, known, below) if known else []:
-        found = likely(key.value, [name]) or [(one, False) for one in _only_lacking(node, known, below)]
+    declared = files.declarations(callee, case.project.good_tree(callee), what, True) if callee else []
+    for key in _unknown(node, declared, below) if declared else []:
+        found = likely(key.value, [name]) or [(one, False) for one in _only_lacking(node, declared, below)]
         yield from (case.replace(f'change "{key.value}" to "{name}"', name, key.span, is_safe=is_slip) for _, is_slip in found)
     inputs = node.get("with")
     key, value = (inputs.key(name), inputs.get(name)) if inputs and below == "secrets" else (None, None)
@@ -160,7 +142,7 @@ def _written_elsewhere(case: Case, node: Node, below: str, name: str) -> Iterabl
 
 def declared_as_secret(case: Case) -> Iterable[Repair]:
     """An input of a called workflow that is one of its secrets, moved to `secrets`."""
-    node, callee, of_job = _call(case)
+    node, callee, of_job = call_of(case)
     here = case.key
     if node and callee and of_job and here:
         declared = files.declarations(callee, case.project.good_tree(callee), "secrets", True)
@@ -179,7 +161,7 @@ def action_of_job(case: Case) -> Iterable[Repair]:
 
 def variables_as_inputs(case: Case) -> Iterable[Repair]:
     """The variables of a job that calls a workflow of the folder, passed as inputs if the workflow has them all."""
-    job, callee, of_job = _call(case)
+    job, callee, of_job = call_of(case)
     key, env, given = (job.key("env"), job.get("env"), job.get("with")) if job else (None, None, None)
     if job is None or key is None or env is None or callee is None or not of_job or not env.entries:
         return
@@ -222,11 +204,11 @@ def _all_secrets(case: Case, job: Node) -> Iterable[Repair]:
 
 
 def _given(case: Case, node: Node, below: str, declared: list[files.Declaration]) -> Iterable[Repair]:
-    entries = [f"{one.name}: {_value_of(case, one, below)}" for one in declared]
+    entries = [f"{one.name}: {first_value(case, one, below)}" for one in declared]
     title = "add " + ", ".join(f'"{entry}"' for entry in entries)
     around = node.get(below)
     if node.is_flow or around and around.is_flow:
-        values = [_value_of(case, one, below) for one in declared]
+        values = [first_value(case, one, below) for one in declared]
         # (an empty text is in quotes already)
         entries = [f"{one.name}: {value if value == EMPTY else as_scalar(value, '', True)}" for one, value in zip(declared, values)]
     if around and around.entries:
@@ -240,50 +222,9 @@ def _given(case: Case, node: Node, below: str, declared: list[files.Declaration]
         yield case.of(title, Edit(Span(key.span.end, around.span.end), ": {" + ", ".join(entries) + "}"))
 
 
-def _value_of(case: Case, one: files.Declaration, below: str) -> str:
-    """A first value: a secret for what is named as one, the default, or one of its type."""
-    if below == "secrets":
-        return f"${{{{ secrets.{one.name} }}}}"
-    if is_workflow(case.file) and TOKEN_OF_JOB.fullmatch(one.name):
-        return "${{ github.token }}"
-    if is_workflow(case.file) and NAME_OF_SECRET.search(one.name) and _call(case)[2] is False:
-        return "${{ secrets.%s }}" % re.sub(r"\W", "_", one.name).upper()
-    if is_workflow(case.file) and case.at("on", "workflow_call", "inputs", one.name):
-        return "${{ inputs.%s }}" % one.name
-    others = _given_elsewhere(case, one.name)
-    if not others and SEPARATORS.search(one.name):
-        others = _given_to_any(case, one.name)
-        if len(others) == 1:
-            return as_scalar(next(iter(others)), "'" if one.value.text("type") == "string" else "", False)
-    if len(others) == 1 and (one.value.text("type") == "number" or max(others.values()) > 1):
-        return next(iter(others))
-    default = one.value.text("default")
-    return default if default and re.fullmatch(r"[\w./-]+", default) else VALUES.get(one.value.text("type") or "", EMPTY)
-
-
-def _given_elsewhere(case: Case, name: str) -> Counter[str]:
-    """The plain values that other calls of the same file in this folder give an input."""
-    node = _call(case)[0]
-    uses = node.text("uses") if node else None
-    found: Counter[str] = Counter()
-    for path in case.project.paths() if uses else ():
-        tree = case.project.good_tree(path) if uses and uses in case.project.text(path) else None
-        for _, _, value in walk(tree) if tree else ():
-            given = value.at(("with", name)) if value.kind == "mapping" and value.text("uses") == uses else None
-            if given and given.kind == "scalar" and PLAIN_VALUE.fullmatch(given.value):
-                found[given.value] += 1
-    return found
-
-
-def _given_to_any(case: Case, name: str) -> Counter[str]:
-    """The plain values that calls of any action or workflow in this file give an input of this name."""
-    given = (found.value for found in case.nodes.keys.values() if found.path[-2:] == ("with", name))
-    return Counter(value.value for value in given if value.kind == "scalar" and PLAIN_VALUE.fullmatch(value.value))
-
-
 def key_of_call(case: Case) -> Iterable[Repair]:
     """A key below `with` that the call itself lacks, such as `secrets`, moved beside `with`."""
-    here, node = case.key, _call(case)[0]
+    here, node = case.key, call_of(case)[0]
     if here is None or here.key is None or node is None or here.path[-2:-1] != ("with",) or here.parent.is_flow or node.is_flow:
         return
     name, column = here.key.value, here.key.span.start.column
@@ -420,7 +361,7 @@ def local_action_of_job(case: Case) -> Iterable[Repair]:
 
 def made_callable(case: Case) -> Iterable[Repair]:
     """`workflow_call` as an event of the called workflow, or the call on a job or a step of its own."""
-    node, callee, of_job = _call(case)
+    node, callee, of_job = call_of(case)
     tree = case.project.tree(callee) if callee else None
     on = tree.get("on") if tree else None
     if callee is None or tree is None or on is None or not of_job or not is_workflow(callee):

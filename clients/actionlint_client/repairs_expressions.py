@@ -10,18 +10,20 @@ from .expression_texts import (CHAIN, COMPARISONS, coalesced, doubled, doubled_w
 from .expressions import STRING
 from .missing_signs import closed_at_ends, with_apostrophes, with_closed_json
 from .operators import Choice, Token, choice, choice_in, grouped, operators, tokens
-from .other_syntax import (choice_in_words, template_as_format, with_comparison, with_default, with_dots, with_equal_quotes,
-                           with_matching_brackets, with_round_brackets, with_search, with_single_commas, with_stars, with_text_in_brackets,
-                           without_if, without_spaces_in_operators, without_stray_brackets)
+from .other_syntax import (FUNCTIONS, choice_in_words, template_as_format, with_alternatives, with_comparison, with_default, with_dots,
+                           with_equal_quotes, with_matching_brackets, with_round_brackets, with_search, with_single_commas, with_stars,
+                           with_text_in_brackets, without_if, without_spaces_in_operators, without_stray_brackets)
 from .repair import NEEDS_QUOTES, Case, Repair, as_scalar, is_within_flow
 from .syntax import is_condition
 from .text import Point, Span
 
 BRACES = re.compile(r"\$\{\{((?:[^$}]|\$(?!\{\{)|\}(?!\}))*)\}\}")
+TEXT_WITH_BRACES = re.compile(r"'([^'{}]*(?:\$\{\{[^'{}]*\}\}[^'{}]*)+)'")
 MANY_BRACES = re.compile(r"\$\{{3,}([^{}]*)\}{2,}")
 NESTED_BRACES = re.compile(r"\$\{\{([^{}]*)\$\{\{([^{}]*)\}\}([^{}]*)\}\}")
 VERSION = re.compile(r"(?<![\w.-])v?\d[\w-]*(?:\.[\w-]+)+")
-VARIABLE = re.compile(r"\$\{?(GITHUB_|RUNNER_)?([A-Z_][A-Z0-9_]*)\}?")
+WHOLE_CALL = re.compile(rf"(?:{FUNCTIONS})\((?:'[^']*'|[^'()])*\)")
+VARIABLE = re.compile(r"\$\{?(GITHUB_|RUNNER_)?([A-Za-z_][A-Za-z0-9_]*)\}?")
 CALL_OF_CHOICE = re.compile(r"\b(case|iif|if|ternary|choose)\s*\(")
 ARGUMENTS = re.compile(r"(?:'(?:[^']|'')*'|[^()']|\((?:[^()']|'[^']*')*\))*")
 ARGUMENT = re.compile(r"(?:'(?:[^']|'')*'|\((?:[^()']|'[^']*')*\)|[^,()'])+")
@@ -106,7 +108,9 @@ def from_context(case: Case) -> Iterable[Repair]:
     def property_of(match: re.Match[str]) -> str:
         context = (match[1] or "env_")[:-1].lower()
         name = match[2].lower() if match[1] else match[2]
-        if context == "env" and not re.search(rf"(?<!\w){re.escape(name)}['\"]?\s*[:=]", case.text):
+        # (a word in small letters may be any key)
+        sets = rf"(?<!\w){re.escape(name)}" + (r"['\"]?\s*[:=]" if name.isupper() else "=.*GITHUB_ENV")
+        if context == "env" and not re.search(sets, case.text):
             return str(match[0])
         return f"{context}.{name}"
     text = outside_texts(decoded(expression), lambda part: VARIABLE.sub(property_of, part))
@@ -203,6 +207,12 @@ def with_and(case: Case) -> Iterable[Repair]:
         yield case.replace('add "&&"', " &&", Span.at(Point(line, len(before))))
 
 
+def with_or(case: Case) -> Iterable[Repair]:
+    """`||` in place of commas between values of which the first is taken, outside of conditions."""
+    if not is_in_condition(case):
+        yield from rewritten('write "||"', with_alternatives)(case)
+
+
 def without_rest(case: Case) -> Iterable[Repair]:
     """An expression without `&&` or `||` at its end, or without a bracket that closes nothing."""
     expression = expression_of(case)
@@ -289,6 +299,7 @@ def closed_braces(case: Case) -> Iterable[Repair]:
     if here.value.style in ("'", '"') and text.endswith(here.value.style):
         text = text[:-1].rstrip()
     has_brace = rest[whole.end():whole.end() + 1] == "}"
+    is_after_dollar = case.line[:case.span.start.column].endswith("$")
     is_one = has_brace or chain is None or re.match(r"\s*(?:[=!]=|&&|\|\||[<>(])", rest[chain.end():]) is not None
     ends = [whole.end() if has_brace else len(text)] if is_one else []
     ends += [chain.end()] if chain else []
@@ -299,7 +310,7 @@ def closed_braces(case: Case) -> Iterable[Repair]:
         width = braces.end() if braces else 0
         span = Span.on_line(case.span.start.line, case.span.start.column + end, case.span.start.column + end + width)
         before = "" if rest[:end].endswith(" ") else " "
-        yield case.replace("close the braces", before + "}}", span, is_safe=tail == "}" and end == ends[0])
+        yield case.replace("close the braces", before + "}}", span, is_safe=tail == "}" and end == ends[0] and not is_after_dollar)
 
 
 def word_as_text(case: Case) -> Iterable[Repair]:
@@ -339,6 +350,15 @@ def is_in_condition(case: Case) -> bool:
     return here is not None and is_condition(here.path)
 
 
+def _without_quotes(match: re.Match[str]) -> str:
+    """An expression in quotes without them, or a call of `format` if there is more in the quotes."""
+    found = [inner.strip() for inner in BRACES.findall(match[1])]
+    if BRACES.fullmatch(match[1]):
+        return str(match[1])
+    numbers = iter(range(len(found)))
+    return "format('%s', %s)" % (BRACES.sub(lambda _: "{%d}" % next(numbers), match[1]), ", ".join(found))
+
+
 def one_pair(case: Case) -> Iterable[Repair]:
     """A condition with one pair of braces around all of it, or without any."""
     here = case.value
@@ -346,12 +366,13 @@ def one_pair(case: Case) -> Iterable[Repair]:
         return
     in_flow = is_within_flow(case, here.path)
     text = " ".join(here.value.value.split())
-    outside = operators(BRACES.sub("x", text))
+    joined = TEXT_WITH_BRACES.sub(_without_quotes, text)
+    outside = operators(BRACES.sub("x", joined)) or WHOLE_CALL.fullmatch(BRACES.sub("x", joined))
 
     def inner(match: re.Match[str]) -> str:
-        is_operand = re.search(r"(?:[=!<>]=?)\s*$", text[:match.start()]) or re.match(r"\s*(?:[=!]=|[<>])", text[match.end():])
+        is_operand = re.search(r"(?:[=!<>]=?)\s*$", joined[:match.start()]) or re.match(r"\s*(?:[=!]=|[<>])", joined[match.end():])
         return grouped(match[1].strip(), (*COMPARISONS, "&&", "||") if is_operand else ("&&", "||"))
-    whole = BRACES.sub(inner, text).strip()
+    whole = BRACES.sub(inner, joined).strip()
     if outside:
         # a boolean isn't equal to the text `true`
         is_safe = "'true'" not in whole and "'false'" not in whole
@@ -394,7 +415,7 @@ REPAIRS: dict[str, tuple[Callable[[Case], Iterable[Repair]], ...]] = {
            without_character),
     "X2": (rewritten("write the apostrophe twice", with_apostrophes), rewritten("write single quotes", with_equal_quotes), closed_text),
     "X3": (EQUALS, OPERATORS, SPREAD, DOUBLED, as_choice, *OTHER_SYNTAX, rewritten("call a function", with_calls), inner_braces,
-           closed_brackets, with_comma, with_and, version_as_text, without_rest,
+           closed_brackets, with_comma, with_and, with_or, version_as_text, without_rest,
            rewritten("delete the bracket", without_stray_brackets, deletes=True), without_character),
     "X4": (rewritten("close the brackets", with_closed_json), closed_brackets, without_rest),
     "X7": (DOTS,),

@@ -6,8 +6,10 @@ import re
 from typing import Callable, Iterable
 
 from .names import likely, misspelled, names, near
+from .other_keys import other_keys
 from .paths import is_workflow
 from .repairs_levels import moves
+from .repairs_steps import STEP_STARTS, new_step
 from .repair import (FLOW_SIGNS, Case, Edit, Found, Repair, entries_of, first_entry, indented, next_entry, quoted, tight, without_entry,
                      without_key)
 from .syntax import shape_at, table
@@ -20,42 +22,32 @@ MISSING = {"on": "push", "jobs": "\n  " + JOB.replace("\n", "\n  "), "runs-on": 
            "group": "${{ github.workflow }}-${{ github.ref }}", "cron": "'0 0 * * *'", "value": "''", "name": "Name",
            "description": "Description", "using": "composite", "main": "index.js", "image": "Dockerfile", "steps": "[]",
            "runs": "\n  using: composite\n  steps: []"}
-# Keys that are often written instead of another one that isn't similar enough to be found.
-OTHER_NAMES = {"timeout": "timeout-minutes", "command": "run", "script": "run", "image": "container", "branch": "branches", "tag": "tags",
-               "path": "paths", "environment-variables": "env", "depends-on": "needs", "depends_on": "needs", "requires": "needs",
-               "condition": "if", "when": "if", "title": "name", "dir": "working-directory", "cwd": "working-directory", "triggers": "on",
-               "environments": "environment", "variables": "env", "vars": "env", "args": "with", "params": "with", "secret": "secrets",
-               "allow-failure": "continue-on-error", "allow_failure": "continue-on-error", "os": "runs-on", "type": "types", "job": "jobs",
-               "workdir": "working-directory", "inputs": "with", "input": "with", "parameters": "with", "environment": "env",
-               "cmd": "run", "commands": "run", "action": "uses", "runner": "runs-on", "dependencies": "needs", "description": "name",
-               "continue-on-failure": "continue-on-error", "ignore-errors": "continue-on-error", "matrix": "strategy",
-               "choices": "options", "values": "options", "enum": "options", "name": "group", "dependson": "needs", "displayname": "name",
-               "bash": "run", "pwsh": "run", "powershell": "run", "task": "uses", "settings": "with", "stages": "jobs", "pool": "runs-on",
-               "executor": "runs-on", "agent": "runs-on", "platform": "runs-on", "machine": "runs-on", "vmimage": "runs-on",
-               "trigger": "on", "key": "group"}
 # What shows by a value which key it belongs to.
-VALUES_OF_KEYS = {"image": re.compile(r"(?:[\w./-]*/)?Dockerfile[\w.-]*|docker://\S+"), "main": re.compile(r"[\w./-]+\.[cm]?js"),
+VALUES_OF_KEYS = {"image": re.compile(r"(?:[\w./-]*/)?Dockerfile[\w.-]*|docker://\S+|[\w./-]+:\d[\w.-]*"),
+                  "main": re.compile(r"[\w./-]+\.[cm]?js"),
                   "uses": re.compile(r"[\w.-]+/[\w./-]+@[\w./-]+|\./[\w./-]+"), "cron": re.compile(r"[\d*][\d*/,-]*(?: [\w*/,-]+){4}"),
                   "using": re.compile(r"composite|docker|node\d\d"),
                   "runs-on": re.compile(r"(?:ubuntu|windows|macos)-[\w.-]+|self-hosted"), "value": re.compile(r"\$\{\{.*\}\}")}
 # And by the keys of its entries.
 ENTRIES_OF_KEYS = {"steps": {"run", "uses"}, "jobs": {"runs-on", "steps", "uses"}}
+# A limit in another unit than minutes.
+UNIT_OF_LIMIT = re.compile(r"timeout[-_]?(?:in[-_]?)?(s|secs?|seconds?|h|hrs?|hours?)", re.I)
 # Sections that can be a text, which is the value of one of their keys.
 SHORT_FORMS = {"concurrency": ("group", "Concurrency"), "environment": ("name", "Environment"), "container": ("image", "Container"),
                "runs-on": ("labels", "RunsOn")}
 # Where a missing key is looked for.
 MAX_PLACES = 20
-STEP_STARTS = ("name", "id", "if")
 
 
 def near_key(case: Case) -> Iterable[Repair]:
     """A similar key of the section that can stand beside the others, or the one that is meant by another word."""
     here, wrong = case.key, case.arguments[0]
-    if here is None:
+    if here is None or UNIT_OF_LIMIT.fullmatch(wrong):
         return
     known = case.known_keys(here.path[:-1], (name for name in here.parent.names() if name != wrong))
     found = likely(wrong, known)
-    meant = other_name(wrong, here.value) or next((key for key in known if fits(key, here.value)), None)
+    meant = next((key for key in other_names(wrong, here.value) if key in known), None)
+    meant = meant or next((key for key in known if fits(key, here.value)), None)
     if meant in known and not any(is_slip for _, is_slip in found):
         only = here.value.entries[0][1] if len(here.value.entries) == 1 else None
         if only and here.key and fits(str(meant), only):
@@ -65,11 +57,11 @@ def near_key(case: Case) -> Iterable[Repair]:
     yield from (in_its_quotes(case, name, is_slip) for name, is_slip in found)
 
 
-def other_name(word: str, value: Node) -> str | None:
-    """The key that is meant by another word: `on` only if its value has events."""
-    name = OTHER_NAMES.get(word.lower())
+def other_names(word: str, value: Node) -> list[str]:
+    """The keys that may be meant by another word: `on` only if its value has events."""
     events = {*value.names(), *(item.value for item in value.items), *([value.value] if value.kind == "scalar" else [])}
-    return None if name == "on" and not events <= {*names()["events"], *table()["shapes"]["On"]["keys"]} else name
+    has_events = events <= {*names()["events"], *table()["shapes"]["On"]["keys"]}
+    return [key for key in other_keys(word) if key != "on" or has_events]
 
 
 def fits(key: str, value: Node) -> bool:
@@ -285,7 +277,8 @@ def another_job(case: Case) -> Iterable[Repair]:
 
 
 def repeated(case: Case) -> Iterable[Repair]:
-    """The second of two equal keys: taken away if it says the same and no other key is there twice, merged with the first, or deleted."""
+    """One of two equal keys: taken away if it is empty, or says the same and no other key is there twice; else the second is merged with
+    the first, or deleted."""
     here = case.key
     if here is None or here.key is None:
         return
@@ -296,6 +289,10 @@ def repeated(case: Case) -> Iterable[Repair]:
         if len(set(here.parent.names())) + 1 < len(here.parent.entries):
             return
         yield case.of(f'delete the second "{name}", which is equal', without_entry(case, here.parent, here.key), is_safe=True)
+        return
+    key = here.parent.key(name)
+    if key and first.kind == "scalar" and not first.value and not first.style and here.value.entries:
+        yield case.of(f'delete the first "{name}", which is empty', without_entry(case, here.parent, key), is_safe=True)
         return
     yield from _merged(case, here, first)
     if name == "if" and first.kind == here.value.kind == "scalar" and "${{" not in first.value + here.value.value and not first.style:
@@ -359,6 +356,8 @@ def missing_key(case: Case) -> Iterable[Repair]:
     row = shape["keys"].get(name, {}) if shape and "keys" in shape else {}
     wanted = [name, row["need"]] if isinstance(row.get("need"), str) else [name]
     unknown = [(key, value) for key, value in here.value.entries if shape and key.value not in shape.get("keys", ())]
+    if "run" in wanted:
+        unknown += [(key, value) for key, value in here.value.entries if key.value == "name" and fits("uses", value)]
     found = [*_renamed(case, unknown, wanted), *_moved_here(case, here.path, wanted)]
     yield from found
     if not found:
@@ -370,8 +369,8 @@ def _renamed(case: Case, unknown: list[tuple[Node, Node]], wanted: list[str]) ->
     """The keys that are a slip of a wanted one, like it, another word for it, or have a value for it."""
     for key, value in unknown:
         meant = misspelled(key.value, wanted)
-        other = other_name(key.value, value)
-        having = [one for one in wanted if one == other or fits(one, value) or one in near(key.value, [one])]
+        others = other_names(key.value, value)
+        having = [one for one in wanted if one in others or fits(one, value) or one in near(key.value, [one])]
         name = meant or (having[0] if having else None)
         if name:
             yield case.replace(f'change "{key.value}" to "{name}"', name, key.span, is_safe=meant is not None)
@@ -441,39 +440,6 @@ def _first_value(case: Case, here: Found, name: str) -> str | None:
     if name == "description":
         return here.value.text("name") or MISSING[name]
     return MISSING.get(name)
-
-
-def new_step(case: Case) -> Iterable[Repair]:
-    """A step that has a second `uses` or `run`, or another key twice, cut in two: at the name, the id or the condition before that key, or
-    at the key. The key with which other steps begin comes first."""
-    here = case.key
-    if here is None or here.key is None or here.path[-3:-2] != ("steps",) or here.parent.is_flow:
-        return
-    keys = [key for key, _ in here.parent.entries]
-    names_ = [key.value for key in keys]
-    number = next(number for number, key in enumerate(keys) if key is here.key)
-    number = min(number, next((one for one, name in enumerate(names_) if name in names_[:one]), number))
-    begun = max((one for one in range(number) if names_[one] in ("uses", "run", "with")), default=0)
-    starts = [one for one in range(begun + 1, number) if names_[one] in STEP_STARTS]
-    start = next(iter(starts), number)
-    if names_[start] == "if":
-        # which often is the last key of a step too
-        begins = _first_keys(case, here)
-        start = next((one for one in (*starts, number) if names_[one] in begins), start)
-    first = here.parent.span.start
-    dash = case.lines[first.line][:first.column]
-    for one in dict.fromkeys([start, number]):
-        before = {key.value for key in keys[:one]}
-        at = keys[one].span.start
-        if before & {"run", "uses"} and dash.strip() == "-" and not case.lines[at.line][:at.column].strip():
-            yield case.replace(f'begin a new step at "{keys[one].value}"', dash, Span(Point(at.line, 0), at))
-
-
-def _first_keys(case: Case, here: Found) -> set[str]:
-    """The keys with which the other steps begin, and the step of a key if that is a name, an id or a condition."""
-    steps = case.at(*here.path[:-2])
-    others = {step.entries[0][0].value for step in (steps.items if steps else ()) if step.entries and step is not here.parent}
-    return others | {here.parent.entries[0][0].value} & set(STEP_STARTS)
 
 
 def excluded_patterns(case: Case) -> Iterable[Repair]:

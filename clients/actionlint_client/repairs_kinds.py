@@ -6,10 +6,10 @@ import re
 from typing import Callable, Iterable
 
 from .action_versions import VERSIONS, versions
-from .names import misspelled
+from .names import likely, misspelled
 from .paths import is_workflow
 from .repair import Case, Edit, Found, Repair, indented, is_within_flow, quoted, tight
-from .repairs_keys import JOB
+from .repairs_keys import JOB, UNIT_OF_LIMIT
 from .repairs_levels import moved
 from .repairs_yaml import DASH_WITHOUT_SPACE
 from .stricter import takes_filter
@@ -22,7 +22,8 @@ ACTION = "name: Name\ndescription: Description\nruns:\n  using: composite\n  ste
 FLAGS = {"yes": "true", "on": "true", "y": "true", "true": "true", "no": "false", "off": "false", "n": "false", "false": "false"}
 OTHER_FLAGS = {"1": "true", "enabled": "true", "enable": "true", "always": "true", "0": "false", "disabled": "false", "disable": "false",
                "never": "false"}
-NUMBERS = {word: number for number, word in enumerate("zero one two three four five six seven eight nine ten".split())}
+NUMBERS = {word: number for number, word in enumerate("zero one two three four five six seven eight nine ten".split())} | {
+    "fifteen": 15, "twenty": 20, "thirty": 30, "forty": 40, "forty-five": 45, "sixty": 60, "ninety": 90}
 NUMBER = re.compile(r"(-?\d{1,9}(?:\.\d{1,9})?)\s*([A-Za-z]*)\.?")
 PARTS_OF_TIME = re.compile(r"(\d{1,4}) ?(?:h|hr|hours?) ?(\d{1,4}) ?(?:m|mins?|minutes?)")
 MINUTES = {"": 1.0, "m": 1.0, "min": 1.0, "mins": 1.0, "minute": 1.0, "minutes": 1.0, "h": 60.0, "hr": 60.0, "hrs": 60.0, "hour": 60.0,
@@ -30,7 +31,9 @@ MINUTES = {"": 1.0, "m": 1.0, "min": 1.0, "mins": 1.0, "minute": 1.0, "minutes":
            "seconds": 1 / 60}
 CALL = re.compile(r"[\w.-]+/[\w./-]+@[\w./-]+|\./[\w./-]+|docker://\S+")
 COLON_LACKS_SPACE = re.compile(r"([A-Za-z_][\w-]*):(?=[^\s/:])")
+LINE_OF_LIST = re.compile(r" *-?[\w./@*][\w./@*-]*")
 KEY_LACKS_COLON = re.compile(r"([A-Za-z_][\w-]*)(?= +[^\s=])")
+SEPARATORS = re.compile(r"[-. ]")
 ODD_SPACE = re.compile("[\u00a0\u2000-\u200a\u202f\u3000]")
 
 
@@ -52,16 +55,14 @@ def other_kind(case: Case) -> Iterable[Repair]:
         yield from with_key
         if with_key:
             return
-        yield case.replace("make it a list", f"[{text}]", value.span)
+        yield from _list_of_lines(case, value) if "\n" in text else [case.replace("make it a list", f"[{text}]", value.span)]
         if here.path[-2:-1] == ("steps",):
-            action = f"actions/{value.value}"
-            for version in versions(case.project, action) if action in VERSIONS else ():
-                yield case.replace(f'call "{action}@{version}"', f"uses: {action}@{version}", value.span)
-            name = "uses" if CALL.fullmatch(value.value) else "run"
-            yield case.replace(f'make it a step with "{name}"', f"{name}: {text}", value.span)
+            yield from _as_step(case, value)
         pair = re.fullmatch(r"([\w-]+)[=:]\s*(.+)", value.value)
         if pair:
             yield case.replace("make it a mapping", "{%s: %s}" % (pair[1], quoted(pair[2])), value.span)
+    if value.kind == "mapping" and here.parent.kind == "sequence" and len(here.parent.items) == 1:
+        yield from as_mapping(case, here.parent)
     if value.kind == "mapping":
         yield from _named_steps(case, value)
         if all(not entry.value and entry.kind == "scalar" for _, entry in value.entries):
@@ -73,6 +74,26 @@ def other_kind(case: Case) -> Iterable[Repair]:
         yield from _by_name(case, value)
         yield from as_mapping(case, value)
         yield from _scalars_as_other(case, here)
+
+
+def _as_step(case: Case, value: Node) -> Iterable[Repair]:
+    """A text as a step: a call of an action that is known by its name, another call, or a script."""
+    action = f"actions/{value.value}"
+    for version in versions(case.project, action) if action in VERSIONS else ():
+        yield case.replace(f'call "{action}@{version}"', f"uses: {action}@{version}", value.span)
+    name = "uses" if CALL.fullmatch(value.value) else "run"
+    yield case.replace(f'make it a step with "{name}"', f"{name}: {case.slice(value.span)}", value.span)
+
+
+def _list_of_lines(case: Case, value: Node) -> Iterable[Repair]:
+    """Lines of words as a list: with a dash before each, or with a space after each dash."""
+    lines = range(value.span.start.line, value.span.end.line + 1)
+    has_dashes = [case.lines[line].lstrip().startswith("-") for line in lines]
+    starts = [Point(line, len(case.lines[line]) - len(case.lines[line].lstrip()) + has_dashes[0]) for line in lines]
+    is_of_words = all(LINE_OF_LIST.fullmatch(case.lines[line]) for line in lines) and len({start.column for start in starts}) == 1
+    if is_of_words and len(set(has_dashes)) == 1:
+        title, sign = ("add a space after each dash", " ") if has_dashes[0] else ("make it a list", "- ")
+        yield case.of(title, *(Edit(Span.at(start), sign) for start in starts))
 
 
 def _named_steps(case: Case, steps: Node) -> Iterable[Repair]:
@@ -131,7 +152,10 @@ def _scalars_as_other(case: Case, here: Found) -> Iterable[Repair]:
     pairs = [re.fullmatch(r"([\w-]+)=(.*)", text) for text in texts]
     if all(pairs):
         yield case.replace("make it a mapping", "{" + ", ".join(f"{pair[1]}: {quoted(pair[2])}" for pair in pairs if pair) + "}", span)
-    if len(items) == 1:
+    if case.arguments[0] == "secrets":
+        entries = (f"{name}: {quoted('${{ secrets.%s }}' % SEPARATORS.sub('_', name).upper())}" for name in texts)
+        yield case.replace("pass each secret by its name", "{" + ", ".join(entries) + "}", span)
+    elif len(items) == 1:
         yield case.replace("remove it from the list", case.slice(items[0].span), span)
 
 
@@ -147,6 +171,8 @@ def _of_its_section(case: Case, here: Found) -> Iterable[Repair]:
         yield case.replace('make it a list of "cron" entries', f"[{text}]", value.span)
     elif here.path[:-1] == ("on",) and not value.entries:
         yield from _settings_of_event(case, here)
+    elif name == "env" and is_text and len(here.path) == 3 and here.key and here.parent.get("environment") is None:
+        yield case.replace('change "env" to "environment"', "environment", here.key.span)
     elif name == "steps" and is_text:
         yield case.replace("make it a list of steps", "[{run: %s}]" % quoted(value.value), value.span)
     elif name == "inputs" and value.kind == "sequence" and value.is_flow:
@@ -171,8 +197,15 @@ def _of_its_section(case: Case, here: Found) -> Iterable[Repair]:
 def _settings_of_event(case: Case, here: Found) -> Iterable[Repair]:
     """The value of an event as its activity types, or as its branches."""
     event, value = str(here.path[-1]), here.value
-    items = value.items or [value]
-    is_of_types = {item.value for item in items} <= set(table()["activity types"].get(event, []))
+    items, known = value.items or [value], table()["activity types"].get(event, [])
+    near = [likely(item.value, known)[:1] for item in items if item.value not in known]
+    is_of_types = {item.value for item in items} <= set(known)
+    if not is_of_types and all(near):
+        names_ = [item.value if item.value in known else likely(item.value, known)[0][0] for item in items]
+        if here.key and takes_filter(event, "types"):
+            text = f": {{types: [{', '.join(names_)}]}}"
+            yield case.replace(f'put "{", ".join(names_)}" below "types"', text, Span(here.key.span.end, tight(case, value).end))
+        return
     key = "types" if is_of_types else "branches"
     if here.key and all(item.value for item in items) and takes_filter(event, key):
         texts = ", ".join(case.slice(item.span) for item in items)
@@ -365,6 +398,24 @@ def other_type(case: Case) -> Iterable[Repair]:
         yield case.replace("write it as an expression", quoted(value) if is_within_flow(case, here.path) else value, here.value.span)
 
 
+def limit_in_minutes(case: Case) -> Iterable[Repair]:
+    """A limit in seconds or hours, in minutes."""
+    here = case.key
+    unit = UNIT_OF_LIMIT.fullmatch(case.arguments[0])
+    if here and here.key and unit and "timeout-minutes" in case.known_keys(here.path[:-1], here.parent.names()):
+        if re.fullmatch(r"\d{1,9}", here.value.value):
+            whole, rounded = _in_minutes(float(here.value.value) * MINUTES[unit[1].lower()])
+            text = f"timeout-minutes: {whole}"
+            yield case.replace(f'change to "{text}"{rounded}', text, Span(here.key.span.start, here.value.span.end))
+
+
+def _in_minutes(amount: float) -> tuple[int, str]:
+    """A time in whole minutes, and the words for a title if that isn't all of it."""
+    exact = round(amount, 6)
+    whole = max(1, -int(-exact // 1))
+    return whole, "" if whole == exact else ", rounded up"
+
+
 def as_flag(case: Case, node: Node) -> Iterable[Repair]:
     """`true` or `false` for a word that means it."""
     text = node.value.strip().lower()
@@ -389,10 +440,8 @@ def as_number(case: Case, node: Node, units: dict[str, float]) -> Iterable[Repai
     elif match and not match[2]:
         yield case.replace(f'change to "{match[1]}"', match[1], node.span, is_safe=True)
     elif match and match[2] in units:
-        amount = round(float(match[1]) * units[match[2]], 6)
-        whole = max(1, -int(-amount // 1))
-        rounded = "" if whole == amount else ", rounded up"
-        yield case.replace(f'change to "{whole}"{rounded}', str(whole), node.span, is_safe=whole == amount)
+        whole, rounded = _in_minutes(float(match[1]) * units[match[2]])
+        yield case.replace(f'change to "{whole}"{rounded}', str(whole), node.span, is_safe=not rounded)
 
 
 def skeleton(case: Case) -> Iterable[Repair]:
@@ -403,7 +452,7 @@ def skeleton(case: Case) -> Iterable[Repair]:
 
 
 REPAIRS: dict[str, tuple[Callable[[Case], Iterable[Repair]], ...]] = {
-    "K1": (jobs_below, merge),
+    "K1": (limit_in_minutes, jobs_below, merge),
     "K2": (merge,),
     "K4": (in_a_job, script_without_sign, value_of_output, other_kind),
     "K5": (other_type,),

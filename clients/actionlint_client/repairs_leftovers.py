@@ -1,4 +1,4 @@
-"""Repairs of what a merge, a page or a word processor leaves in a file: markers of conflicts, fences of Markdown, curly quotes."""
+"""Repairs of what a merge, a page or a word processor leaves in a file: markers of conflicts, signs of Markdown, curly quotes."""
 from __future__ import annotations
 
 import re
@@ -10,6 +10,7 @@ from .text import Point, Span
 BEGIN, BASE, MIDDLE, END = "<<<<<<<", "|||||||", "=======", ">>>>>>>"
 MARKER = re.compile(r"(<{7}|\|{7}|={7}|>{7})(?: +(.*?))?\s*")
 FENCE = re.compile(r"\s*(?:```|~~~)[\w-]*\s*")
+BACKTICKS = re.compile(r"`(\$\{\{[^`]+\}\})`")
 CURLY_QUOTED = re.compile("[\u2018\u201c\u201e\u201a]([^\u2018\u2019\u201c\u201d]*)[\u2019\u201d\u2018\u201c]")
 
 
@@ -74,7 +75,16 @@ def with_plain_quotes(case: Case) -> Iterable[Repair]:
         yield case.replace("write plain quotes", quoted(match[1]), here.value.span, is_safe=True)
 
 
+def without_backticks(case: Case) -> Iterable[Repair]:
+    """An expression without the backticks of Markdown."""
+    span = case.rest_span(case.span.start.line)
+    match = BACKTICKS.fullmatch(case.slice(span)) if span else None
+    if span and match:
+        yield case.replace("leave out the backticks", match[1], span)
+
+
 REPAIRS: dict[str, tuple[Callable[[Case], Iterable[Repair]], ...]] = {
-    **{code: (side_of_conflicts, without_fences) for code in ("Y4", "Y5", "Y6", "Y13", "Y17")},
+    **{code: (side_of_conflicts, without_fences) for code in ("Y4", "Y5", "Y6", "Y17")},
+    "Y13": (side_of_conflicts, without_fences, without_backticks),
     **{code: (with_plain_quotes,) for code in ("G1", "G2", "G4", "G8", "G12", "G14", "G19", "G20", "K5", "C1", "C7")},
 }

@@ -11,6 +11,7 @@ from .text import Point, Span
 from .tree import Node, Path, last_line
 
 MAX_LINES_ABOVE = 30
+EVENT_OF_CALLS = (("on", "workflow_dispatch", "outputs"), ("on", "workflow_dispatch", "secrets"))
 MAX_COLUMNS = 6
 # In longer files no section is looked up.
 MAX_LINES = 5_000
@@ -20,6 +21,9 @@ def moved_line(case: Case) -> Iterable[Repair]:
     """The line and those below it with the indentation of one of the lines above: first where a section knows its key, and there as deep as
     possible, since a key usually belongs to what it follows."""
     number, own = case.span.start.line, indent_of(case.line)
+    if case.line.lstrip().startswith("--"):
+        # the options of a command
+        return
     above = case.outline.lines[max(number - MAX_LINES_ABOVE, 0):number]
     columns = {column for line in above if line.elements for column in (line.elements[-1].column, line.indent)} - {own}
     nearest = sorted(columns, key=lambda column: (abs(column - own), -column))[:MAX_COLUMNS]
@@ -49,6 +53,24 @@ def line_above(case: Case) -> Iterable[Repair]:
                 if rank == 0 or rank == 1 and _is_below_empty_key(case, above, path):
                     yield moved(case, f'move "{elements[0].name}" {destination(case, path, own)}', [above], own - column)
             return
+
+
+def deeper_lines_above(case: Case) -> Iterable[Repair]:
+    """The first lines of a section that are deeper than several keys below them, with the indentation of these."""
+    number, own = case.span.start.line, indent_of(case.line)
+    first = number
+    while first and (not case.lines[first - 1].strip() or indent_of(case.lines[first - 1]) > own):
+        first -= 1
+    filled = [line for line in range(first, number) if case.lines[line].strip()]
+    after = next((indent_of(line) for line in case.lines[number + 1:] if line.strip() and indent_of(line) <= own), 0)
+    if not filled or after < own or not first or indent_of(case.lines[first - 1]) >= own or number - first > MAX_LINES_ABOVE:
+        return
+    elements, column = case.outline.lines[filled[0]].elements, indent_of(case.lines[filled[0]])
+    if elements and elements[0].name is not None and min(indent_of(case.lines[line]) for line in filled) == column:
+        path, rank = section_of(case, filled[0], own)
+        if rank == 0:
+            edits = [Edit(Span.on_line(line, 0, column - own), "") for line in filled]
+            yield case.of(f'move "{elements[0].name}" {destination(case, path, own)}', *edits)
 
 
 def _is_below_empty_key(case: Case, number: int, path: Path) -> bool:
@@ -122,6 +144,8 @@ def of_all_jobs(case: Case) -> Iterable[Repair]:
     here, jobs = case.key, case.at("jobs")
     if here is None or here.key is None or jobs is None or len(here.path) != 1 or not is_workflow(case.file) or jobs.is_flow:
         return
+    if _has_variables(here):
+        return
     entry = case.slice(Span(here.key.span.start, tight(case, here.value).end))
     lacking = [name for name, job in jobs.entries if here.key.value in case.known_keys(("jobs", name.value), job.names())]
     added = [first_entry(case, job, entry) for _, job in jobs.entries if job.entries and not job.is_flow]
@@ -137,12 +161,28 @@ def entry_of_another(case: Case) -> Iterable[Repair]:
         yield from (repair for path, repair in moves(case, here) if len(path) == len(here.path))
 
 
+def event_of_calls(case: Case) -> Iterable[Repair]:
+    """The event of a workflow that is called, in place of the one that is started by hand and has neither outputs nor secrets."""
+    here, on = case.key, case.at("on")
+    key = on.key("workflow_dispatch") if on else None
+    if here and on and key and here.path in EVENT_OF_CALLS and on.get("workflow_call") is None:
+        yield case.replace('change "workflow_dispatch" to "workflow_call"', "workflow_call", key.span)
+
+
+def _has_variables(here: Found) -> bool:
+    """Whether a key is written for that of variables."""
+    return here.path[-1] == "environment" and bool(here.value.entries) and here.value.get("name") is None
+
+
 def moves(case: Case, here: Found) -> Iterator[tuple[Path, Repair]]:
     """The sections that have a key, and the repairs that move it there."""
     if here.key is None or here.parent.is_flow or case.lines[here.key.span.start.line][:here.key.span.start.column].strip():
         return
-    if here.key.value == "environment" and here.value.entries and here.value.get("name") is None:
-        # variables
+    if _has_variables(here):
+        return
+    is_of_container = here.path[-2:-1] == ("container",) or here.path[-3:-2] == ("services",)
+    if is_of_container and here.key.value == "name" and here.parent.get("image") is None:
+        # the image
         return
     lines = range(here.key.span.start.line, last_line(here.value, case.lines) + 1)
     is_last = here.parent.entries[-1][0] is here.key
@@ -196,9 +236,9 @@ def _sections_around(case: Case, here: Found) -> list[tuple[Path, list[str], int
 
 
 REPAIRS: dict[str, tuple[Callable[[Case], Iterable[Repair]], ...]] = {
-    "K1": (another_level, of_all_jobs),
+    "K1": (event_of_calls, another_level, of_all_jobs),
     "K4": (entry_of_another,),
-    "Y4": (line_above,),
+    "Y4": (line_above, deeper_lines_above),
     "Y13": (line_above,),
     "G1": (another_level,),
 }

@@ -11,10 +11,10 @@ from .paths import is_workflow
 from .repair import Case, Edit, Found, Repair, first_entry, next_entry, quoted, without_entry, without_key
 from .other_syntax import with_empty_text
 from .repairs_expressions import choice_by_call, expression_of, in_yaml, is_alternative, is_in_condition, is_operand, rewritten
-from .repairs_needs import declared_output, is_written_elsewhere, needed_job, needs_for_jobs, output_of_job
-from .repairs_steps import (OF_CONTEXTS, named_step, names_before, only_output, only_step, output_of_any_job, properties_before,
+from .repairs_needs import declared_output, is_in_other_words, is_written_elsewhere, needed_job, needs_for_jobs, output_of_job
+from .repairs_steps import (OF_CONTEXTS, named_step, names_before, only_job, only_output, only_step, output_of_any_job, properties_before,
                             same_name_elsewhere, scope_of, shorter_chain, unused_name)
-from .repairs_values import joined_property
+from .repairs_values import OF_FILES, joined_property
 from .syntax import table
 from .text import Point, Span
 from .tree import Path
@@ -35,6 +35,7 @@ OF_EVENTS = {"pull_request", "issue", "release", "inputs", "comment", "review", 
              "workflow_run", "deployment", "client_payload", "before", "after", "forced", "number", "check_run", "check_suite"}
 OTHER_FUNCTIONS = {"failed": "failure", "succeeded": "success", "canceled": "cancelled", "toboolean": "fromJSON", "tonumber": "fromJSON",
                    "parsejson": "fromJSON", "tostring": "toJSON", "includes": "contains", "glob": "hashFiles", "hash": "hashFiles"}
+VARIABLE_OF_RUNNER = re.compile(r"(?:GITHUB|RUNNER)_[A-Z]")
 WORDS = ("true", "false", "null")
 OTHER_NULLS = ("none", "nil", "undefined")
 # Words for the state of a job or a step that the other one has.
@@ -46,6 +47,8 @@ OF_STRATEGY = {"fail-fast", "max-parallel"}
 def near_name(case: Case) -> Iterable[Repair]:
     """A similar name: a property that the object has here, a context or a function that is available here."""
     wrong = case.arguments[0]
+    if case.code == "X7" and VARIABLE_OF_RUNNER.match(wrong):
+        return
     quote = case.written[:1] if case.written[:1] == "'" else ""
     known = properties_before(case) if case.code == "X13" else _scope_names(case)
     word = misspelled(wrong, WORDS) if case.code == "X7" else None
@@ -83,7 +86,7 @@ def other_property(case: Case) -> Iterable[Repair]:
     if [one.lower() for one in before] == ["needs"] and wrong.lower() == "result":
         yield case.replace("change to needs.*.result", "*.result")
     scope = scope_of(case)
-    if scope and len(before) == 2 and before[0].lower() in ("steps", "needs"):
+    if scope and len(before) == 2 and before[0].lower() in ("steps", "needs", "jobs"):
         outputs = [one.name for one in scope.properties((*before, "outputs"))]
         name = wrong if wrong in outputs else misspelled(wrong, outputs)
         if name:
@@ -125,6 +128,8 @@ def declared_row(case: Case) -> Iterable[Repair]:
 def unknown_word(case: Case) -> Iterable[Repair]:
     """A function with its missing brackets, a property with its missing context, or a text in quotes: that first, if it is compared with
     what is before it."""
+    if VARIABLE_OF_RUNNER.match(case.arguments[0]) and list(of_github(case)):
+        return
     is_function = case.arguments[0].lower() in [name.lower() for name in _functions(case)]
     if is_function and not is_operand(case.line[:case.span.start.column], case.line[case.span.end.column:]):
         yield case.replace('add "()"', case.written + "()", is_safe=True)
@@ -190,7 +195,7 @@ def sibling_property(case: Case) -> Iterable[Repair]:
     scope = scope_of(case)
     before = chain_before(case.line[span.start.column:case.span.start.column] + ".") if chain else None
     number = len(before.chain) if before else 0
-    if scope is None or not 1 < number < len(chain) or joined_property(chain):
+    if scope is None or not 1 < number < len(chain) or joined_property(chain) or chain[number - 1].lower() in OF_FILES:
         return
     name = chain[number]
     if (chain[0].lower(), name.lower()) == ("runner", "name"):
@@ -222,6 +227,8 @@ def _declaring(case: Case, way: Path, name: str, title: str, *edits: Edit) -> It
     flow = f"{name}: {{type: string}}" if is_workflow(case.file) else f"{name}: {{description: {name}}}"
     around = case.at(*way)
     inputs = case.at(*way, "inputs")
+    if around and is_in_other_words(around, "inputs", table()["shapes"]["Call" if way else "Action"]["keys"]):
+        return
     if inputs and inputs.entries:
         yield case.of(title, first_entry(case, inputs, flow if inputs.is_flow else entry), *edits)
     elif inputs is None and around and around.entries:
@@ -238,6 +245,9 @@ def other_context(case: Case) -> Iterable[Repair]:
         return
     context = chain[0].lower()
     if context == "env" and len(chain) == 2:
+        scope = scope_of(case)
+        yield from (case.replace(f"change to inputs.{one.name}", f"inputs.{one.name}", span) for one in scope.properties(("inputs",))
+                    if one.name.lower().replace("-", "_") == chain[1].lower() and chain[1] not in case.tree.names("env")) if scope else ()
         if not _is_condition_of_job(case):
             yield from _value_of_variable(case, chain[1], span)
     if context in ("job", "needs") and case.scalar and case.scalar.path[:3] == ("on", "workflow_call", "outputs"):
@@ -385,6 +395,6 @@ REPAIRS: dict[str, tuple[Callable[[Case], Iterable[Repair]], ...]] = {
     "X9": (near_name, choice_by_call, rewritten("compare it with an empty text", with_empty_text)),
     "X10": (moved_variable,),
     "X14": (sibling_property,),
-    "X13": (other_property, same_name_elsewhere, shorter_chain, near_name, needed_job, named_step, output_of_job, only_step,
+    "X13": (other_property, same_name_elsewhere, shorter_chain, near_name, needed_job, named_step, output_of_job, only_step, only_job,
             unused_name, declared_input, declared_output, only_output, declared_row),
 }

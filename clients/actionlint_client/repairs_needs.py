@@ -5,8 +5,8 @@ from typing import Iterable
 
 from . import project as files
 from .names import likely, misspelled
+from .other_keys import other_keys
 from .repair import Case, Edit, Repair, first_entry, next_entry, quoted
-from .repairs_keys import OTHER_NAMES
 from .repairs_steps import properties_before
 from .report import Fault
 from .syntax import table
@@ -43,9 +43,13 @@ def is_written_elsewhere(case: Case, job: str, name: str) -> bool:
     """Whether a job has a key by another word or as a slip, or one of its steps has it."""
     node = case.at("jobs", job)
     steps = node.get("steps") if node else None
-    unknown = [key for key in node.names() if key not in table()["shapes"]["Job"]["keys"]] if node else []
     of_steps = any(step.get(name) for step in steps.items) if steps else False
-    return of_steps or any(OTHER_NAMES.get(key.lower()) == name or misspelled(key, [name]) for key in unknown)
+    return of_steps or node is not None and is_in_other_words(node, name, table()["shapes"]["Job"]["keys"])
+
+
+def is_in_other_words(node: Node, name: str, known: Iterable[str]) -> bool:
+    """Whether a mapping has a key by another word or as a slip, which its section doesn't know."""
+    return any(name in other_keys(key) or misspelled(key, [name]) for key in node.names() if key not in known)
 
 
 def need_of(case: Case, job: str, name: str) -> Edit:
@@ -153,4 +157,4 @@ def _declared_by(case: Case, callee: str, name: str) -> Iterable[Repair]:
         edit = first_entry(other, call, f"outputs: {{{entry}}}")
     else:
         edit = Edit(Span(key.span.end, call.span.end), f": {{outputs: {{{entry}}}}}")
-    yield Repair(f'add the output "{name}" to {callee}, without a value', {callee: (edit,)})
+    yield Repair(f'add the output "{name}" to {callee}, without a value', {callee: (edit,)}, is_last_resort=True)

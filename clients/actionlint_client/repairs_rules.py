@@ -5,6 +5,7 @@ import itertools
 import re
 from typing import Callable, Iterable
 
+from . import project as files
 from .names import LISTS, likely, misspelled, names
 from .repair import Case, Edit, Found, Repair, as_scalar, is_within_flow, next_entry, quoted, without_key
 from .repairs_expressions import BRACES
@@ -23,6 +24,7 @@ OTHER_EVENTS = {"tag": "push", "tags": "push", "commit": "push", "merge": "push"
 PRESETS = {"@hourly": "0 * * * *", "@daily": "0 0 * * *", "@midnight": "0 0 * * *", "@weekly": "0 0 * * 0", "@monthly": "0 0 1 * *",
            "@yearly": "0 0 1 1 *", "@annually": "0 0 1 1 *"}
 WORD_OF_CRON = re.compile(r"[A-Za-z]{3,}")
+HOUR_OF_HALF = re.compile(r"\b(\d{1,2})([ap]m)\b", re.I)
 OF_ONE_VALUE = re.compile(r"(?<!\w)(\w+)-\1(?!\w)")
 GREATEST = (59, 23, 31, 12, 6)
 MAX_SCHEDULE_CHARACTERS = 200
@@ -30,7 +32,7 @@ MAX_SCHEDULE_CHARACTERS = 200
 OTHER_VALUES = {"text": "string", "str": "string", "int": "number", "integer": "number", "float": "number", "bool": "boolean",
                 "array": "string", "flag": "boolean", "checkbox": "boolean", "file": "string", "json": "string", "object": "string",
                 "choice": "string", "environment": "string", "readonly": "read",
-                "read-only": "read", "rw": "write", "admin": "write", "push": "write", "pull": "read",
+                "read-only": "read", "r": "read", "w": "write", "rw": "write", "admin": "write", "push": "write", "pull": "read",
                 "all": "write-all", "merged": "closed", "merge": "closed", "updated": "synchronize", "pushed": "synchronize",
                 "commented": "created", "approved": "submitted", "node18": "node20", "node22": "node24", "node14": "node20",
                 "node": "node20", "javascript": "node20", "shell": "bash", "bash.exe": "bash", "batch": "cmd", "python3": "python"}
@@ -150,7 +152,7 @@ def pattern(case: Case) -> Iterable[Repair]:
         yield case.of("add a space after each dash", *(Edit(Span.at(Point(line, case.lines[line].index("-") + 1)), " ") for line in dashes),
                       is_safe=True)
         return
-    words = [word.strip() for word in text.split(",") if word.strip()]
+    words = [word.strip().strip("'\"") for word in text.split(",") if word.strip()]
     if len(words) > 1 and not is_within_flow(case, here.path) and not isinstance(here.path[-1], int):
         yield case.replace("make it a list", "[" + ", ".join(quoted(word) for word in words) + "]", here.value.span)
         return
@@ -173,7 +175,7 @@ def schedule(case: Case) -> Iterable[Repair]:
     if here is None or len(here.value.value) > MAX_SCHEDULE_CHARACTERS:
         return
     text = here.value.value.strip()
-    fields = PRESETS.get(text, text).replace("?", "*").split()
+    fields = [HOUR_OF_HALF.sub(_of_day, "*" * field.startswith("/") + field) for field in PRESETS.get(text, text).replace("?", "*").split()]
     if len(fields) == 6:
         without = [("delete the seconds", fields[1:]), ("delete the year", fields[:5])]
         is_daily = fields[1].isdigit() and fields[2] == "*"
@@ -191,21 +193,30 @@ def schedule(case: Case) -> Iterable[Repair]:
     yield case.replace(f'change to "{changed}"', quoted(changed), here.value.span, is_safe=is_same)
 
 
+def _of_day(match: re.Match[str]) -> str:
+    """The hour of a day that has two halves."""
+    return str(int(match[1]) % 12 + (12 if match[2].lower() == "pm" else 0))
+
+
 def _bounded(field: str, most: int) -> str:
-    """A field in which values above the greatest one wrap around to the least."""
-    least = 1 if most in (31, 12) else 0
+    """A field in which the value after the greatest one, such as the hour 24, is 0. A step is at least 1, and no greater than the greatest
+    value."""
 
     def bounded(match: re.Match[str]) -> str:
         value = int(match[0])
         if match.start() and field[match.start() - 1] == "/":
             return str(min(max(value, 1), most))
-        return str(match[0]) if least <= value <= most else str(max(value % (most + 1), least))
+        return "0" if value == most + 1 else str(match[0])
     return re.sub(r"\d+", bounded, field)
 
 
 def seldom_enough(case: Case) -> Iterable[Repair]:
+    """The minute 0 of each hour that is named, or every five minutes."""
     here = case.value
     fields = here.value.value.split() if here else []
+    if here and len(fields) == 5 and fields[0] == "*" and fields[1] != "*":
+        changed = " ".join(["0", *fields[1:]])
+        yield case.replace("run it at the full hour", quoted(changed), here.value.span)
     if here and len(fields) == 5:
         changed = " ".join(["*/5", *fields[1:]])
         yield case.replace("run it every 5 minutes", quoted(changed), here.value.span)
@@ -219,11 +230,19 @@ def right_id(case: Case) -> Iterable[Repair]:
     wrong = case.arguments[0]
     name = re.sub(r"[^\w-]+", "-", wrong, flags=re.A).strip("-") or "id"
     name = name if re.match(r"[A-Za-z_]", name) else "_" + name
-    used = [one for one in _ids_without_step(case) if one in re.split(r"[^\w-]+", wrong, flags=re.A) or misspelled(wrong, [one])]
-    name = used[0] if len(used) == 1 and not case.key else name
+    words = {*re.split(r"[^\w-]+", wrong, flags=re.A), wrong.lstrip("0123456789-")}
+    used = [one for one in _ids_without_step(case) if one in words or misspelled(wrong, [one])]
+    lacking = [one for one in _jobs_without_key(case) if misspelled(one, [wrong]) or one in wrong.split()] if case.key else used
+    name = lacking[0] if len(lacking) == 1 else name
     node = here.key if case.key and here.key else here.value
     others = [Edit(item.span, name) for item in _needs(case) if item.value == wrong] if case.key else []
     yield case.of(f'change to "{name}"', Edit(node.span, name), *others)
+
+
+def _jobs_without_key(case: Case) -> list[str]:
+    """The jobs in `needs` that the file doesn't have."""
+    jobs = case.tree.names("jobs") if case.tree else []
+    return list(dict.fromkeys(item.value for item in _needs(case) if item.value not in jobs))
 
 
 def _ids_without_step(case: Case) -> list[str]:
@@ -233,6 +252,13 @@ def _ids_without_step(case: Case) -> list[str]:
     ids = [step.text("id") for step in steps.items] if steps else []
     used = [chain.names for chain in case.chains_between(job.start, job.end)] if job else []
     return list(dict.fromkeys(names[1] for names in used if len(names) > 2 and names[0].lower() == "steps" and names[1] not in ids))
+
+
+def _outputs_of(case: Case, name: str) -> list[str]:
+    """The outputs that the expressions of the fault's job ask of a step."""
+    job = case.at("jobs", case.job) if case.job else case.at("runs")
+    used = [chain.names for chain in case.chains_between(job.start, job.end)] if job else []
+    return [names[3] for names in used if len(names) > 3 and (names[0].lower(), names[1]) == ("steps", name)]
 
 
 def _needs(case: Case) -> Iterable[Node]:
@@ -245,20 +271,27 @@ def _needs(case: Case) -> Iterable[Node]:
 
 
 def another_id(case: Case) -> Iterable[Repair]:
-    """A step's id or a job's key with a number that none has."""
+    """A step's id or a job's key with a number that none has; or the only id that expressions have and no step, if none but this step may
+    write the output that they ask for."""
     here = case.key or case.value
     node = here.key if here and case.key and here.key else here.value if here else None
-    if node:
+    used = _ids_without_step(case)
+    written = files.written_outputs(here.parent) if here else []
+    if here and not case.key and len(used) == 1 and (not written or set(written) & set(_outputs_of(case, used[0]))):
+        yield case.replace(f'change to "{used[0]}"', used[0], here.value.span)
+    elif node:
         taken = set(re.findall(r"-(\d+)(?!\d)", case.text))
         name = f"{node.value}-" + next(str(number) for number in itertools.count(2) if str(number) not in taken)
         yield case.replace(f'change to "{name}"', name, node.span)
 
 
 def near_job(case: Case) -> Iterable[Repair]:
-    """A similar job of the file in place of one that doesn't exist, or removes it."""
+    """A similar job of the file in place of one that doesn't exist, or removes it. Nothing if it is a word of a job's key that is no id."""
     here = case.value
     if here and case.tree:
         jobs = [name for name in case.tree.names("jobs") if name != case.job]
+        if any(case.arguments[0] in name.split() for name in jobs):
+            return
         words = re.split(r"[\s,;&|]+", here.value.value.strip())
         if len(words) > 1 and all(word in jobs for word in words):
             text = ", ".join(words)
@@ -315,7 +348,8 @@ def list_of_row(case: Case) -> Iterable[Repair]:
         elif not here.value.style.strip("'\""):
             yield case.replace("make it a list", f"[{text}]", here.value.span, is_safe=not re.search(r"\s", text))
     elif here.value.kind == "mapping" and here.value.is_flow:
-        yield case.replace("make it a list", f"[{text}]", here.value.span)
+        is_of_words = all(value.kind == "scalar" and not value.value for _, value in here.value.entries)
+        yield case.replace("make it a list", f"[{text.strip('{}') if is_of_words else text}]", here.value.span)
     elif here.value.kind == "mapping":
         yield from as_list(case, here.value)
 
@@ -324,7 +358,7 @@ def _entries_of_text(text: str) -> list[str]:
     """The entries of a list that is written as a text: between commas, on lines of their own, or as versions and labels beside each
     other."""
     text = text.strip()
-    text = text[1:-1] if text[:1] == "(" and text[-1:] == ")" else text
+    text = text[1:-1] if text[:1] == "(" and text[-1:] == ")" else text.rstrip("]") if "[" not in text else text
     words = text.split()
     is_of_words = all(re.search(r"[\d-]", word) for word in words)
     parts = text.split(",") if "," in text else text.split("\n") if "\n" in text else words if is_of_words else [text]

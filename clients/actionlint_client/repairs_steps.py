@@ -9,12 +9,15 @@ from . import project as files
 from .expressions import Scope, chain_before
 from .names import likely
 from .paths import is_workflow
-from .repair import Case, Repair, first_entry, next_entry, without_entry
+from .repair import Case, Edit, Found, Repair, first_entry, next_entry, tight, without_entry
 from .repairs_expressions import expression_of
 from .text import Point, Span
+from .tree import last_line
+
 # Keys that are written for the id of a step.
 OTHER_IDS = ("id", "ids", "step-id", "step_id", "stepid", "key")
 MAX_NAMES = 40
+STEP_STARTS = ("name", "id", "if")
 PROPERTIES_OF_ALL = {"needs": ["result", "outputs"], "steps": ["outputs", "outcome", "conclusion"]}
 
 
@@ -34,9 +37,9 @@ def properties_before(case: Case) -> list[str]:
     """The properties of what is before the fault."""
     scope = scope_of(case)
     chain = names_before(case)
-    if len(chain) == 2 and chain[1] == "*" and chain[0].lower() in PROPERTIES_OF_ALL:
-        return PROPERTIES_OF_ALL[chain[0].lower()]
-    return [one.name for one in scope.properties(chain)] if scope and chain else []
+    known = [one.name for one in scope.properties(chain)] if scope and chain else []
+    is_one = len(chain) == 2 and chain[0].lower() in PROPERTIES_OF_ALL
+    return PROPERTIES_OF_ALL[chain[0].lower()] if is_one and (known or chain[1] == "*") else known
 
 
 def names_before(case: Case) -> tuple[str, ...]:
@@ -96,8 +99,23 @@ def only_step(case: Case) -> Iterable[Repair]:
     writes = [step for step in steps if wanted and wanted in files.written_outputs(step)]
     has_output = writes or [step for step in steps if step.get("uses")]
     name = has_output[0].text("id") if len(has_output) == 1 and (writes or len(steps) == 1) else None
+    if len([step for step in steps if step.text("id") == name]) > 1:
+        # the wrong id is that of another step, which is written twice
+        return
     if name and not likely(chain[1], [name]):
         yield case.replace(f'change to "{name}"', name)
+
+
+def only_job(case: Case) -> Iterable[Repair]:
+    """The only job that has the output that is asked for."""
+    chain, scope = case.chain[0], scope_of(case)
+    is_output = len(chain) == 4 and chain[0].lower() in ("jobs", "needs") and chain[2].lower() == "outputs"
+    if scope is None or not is_output or chain[1].lower() != case.arguments[0].lower():
+        return
+    jobs = [job.name for job in scope.properties(chain[:1])]
+    found = [job for job in jobs if chain[3] in [one.name for one in scope.properties((chain[0], job, "outputs"))]]
+    if len(found) == 1 and not likely(chain[1], jobs):
+        yield case.replace(f'change to "{found[0]}"', found[0])
 
 
 def same_name_elsewhere(case: Case) -> Iterable[Repair]:
@@ -162,6 +180,53 @@ def shell_of_all_steps(case: Case) -> Iterable[Repair]:
         edits += [next_entry(case, step, "run", f"{name}: {value}") for step in scripts]
     if edits:
         yield case.of("put it on each script", without_entry(case, here.parent, here.key), *edits)
+
+
+def new_step(case: Case) -> Iterable[Repair]:
+    """A step that has a second `uses` or `run`, or another key twice, cut in two: at the name, the id or the condition before that key, or
+    at the key. The key with which other steps begin comes first. A script before the inputs of a call becomes a step after it."""
+    here = case.key
+    if here is None or here.key is None or here.path[-3:-2] != ("steps",) or here.parent.is_flow:
+        return
+    keys = [key for key, _ in here.parent.entries]
+    names_ = [key.value for key in keys]
+    number = next(number for number, key in enumerate(keys) if key is here.key)
+    if "with" in names_[number:] and "uses" in names_[:number] and names_[number] == "run":
+        yield from _script_after(case, here)
+        return
+    number = min(number, next((one for one, name in enumerate(names_) if name in names_[:one]), number))
+    begun = max((one for one in range(number) if names_[one] in ("uses", "run", "with")), default=0)
+    starts = [one for one in range(begun + 1, number) if names_[one] in STEP_STARTS]
+    start = next(iter(starts), number)
+    if names_[start] == "if":
+        # which often is the last key of a step too
+        begins = _first_keys(case, here)
+        start = next((one for one in (*starts, number) if names_[one] in begins), start)
+    first = here.parent.span.start
+    dash = case.lines[first.line][:first.column]
+    for one in dict.fromkeys([start, number]):
+        before = {key.value for key in keys[:one]}
+        at = keys[one].span.start
+        if before & {"run", "uses"} and dash.strip() == "-" and not case.lines[at.line][:at.column].strip():
+            yield case.replace(f'begin a new step at "{keys[one].value}"', dash, Span(Point(at.line, 0), at))
+
+
+def _script_after(case: Case, here: Found) -> Iterable[Repair]:
+    """A step without its script, which the next one has."""
+    assert here.key
+    start, line = here.parent.span.start, last_line(here.parent, case.lines)
+    dash = case.lines[start.line][:start.column]
+    if dash.strip() == "-":
+        text = case.slice(Span(here.key.span.start, tight(case, here.value).end))
+        added = Edit(Span.at(Point(line, len(case.lines[line]))), f"\n{dash}{text}")
+        yield case.of('move "run" to a step of its own', without_entry(case, here.parent, here.key), added)
+
+
+def _first_keys(case: Case, here: Found) -> set[str]:
+    """The keys with which the other steps begin, and the step of a key if that is a name, an id or a condition."""
+    steps = case.at(*here.path[:-2])
+    others = {step.entries[0][0].value for step in (steps.items if steps else ()) if step.entries and step is not here.parent}
+    return others | {here.parent.entries[0][0].value} & set(STEP_STARTS)
 
 
 REPAIRS: dict[str, tuple[Callable[[Case], Iterable[Repair]], ...]] = {

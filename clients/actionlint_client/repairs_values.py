@@ -13,6 +13,8 @@ from .text import Point, Span
 from .tree import Node
 
 PLACEHOLDER = re.compile(r"\{(\d{1,3})\}")
+# Contexts whose names are those of a file or a repository, so that none is a property of another context.
+OF_FILES = ("env", "secrets", "vars", "inputs", "matrix")
 # What expressions can't ask of a text.
 LENGTHS = ("length", "len", "size", "count")
 # What of a job or a step is compared with a text, and of which objects.
@@ -37,8 +39,8 @@ def without_index(case: Case) -> Iterable[Repair]:
     if names[:2] == ["github", "repository"] and len(chain) == 3 and names[2] not in LENGTHS:
         yield case.replace(f"change to github.event.repository.{chain[2]}", f"github.event.repository.{chain[2]}", span)
         return
-    if names[:2] == ["github", "env"] and len(chain) == 3:
-        yield case.replace(f"change to env.{chain[2]}", f"env.{chain[2]}", span)
+    if names[:1] in (["github"], ["env"]) and len(chain) == 3 and names[1] in OF_FILES:
+        yield case.replace(f"change to {chain[1]}.{chain[2]}", f"{chain[1]}.{chain[2]}", span)
         return
     dot = max(line.rfind(sign, span.start.column, case.span.start.column + 1) for sign in (".", "["))
     here = case.scalar

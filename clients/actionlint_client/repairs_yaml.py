@@ -1,38 +1,46 @@
 """Repairs of texts that aren't valid YAML: quotes, brackets, spaces."""
 from __future__ import annotations
 
+import itertools
 import re
 from itertools import islice
 from typing import Callable, Iterable
 
-from .names import likely
+from .names import likely, names
 from .operators import OPERATORS, choice_in, grouped
 from .repair import COMMENT, Case, Edit, Repair, quoted
 from .repairs_blocks import CLOSERS, open_brackets
 from .repairs_expressions import title_of
 from .repairs_levels import indent_of, moved_line
+from .repairs_script_lines import MAX_LINES_ABOVE, as_block, script_below, script_in_lines, script_without_sign, text_in_script
 from .scripts import expressions_in
-from .syntax import shape_at, table
+from .syntax import shape_at
 from .text import Point, Span
 
 FLOW_ITEM = re.compile(r"[^,\[\]{}]*")
 COLON_WITHOUT_SPACE = re.compile(r"^ *(?:- +)?[A-Za-z_][\w-]*:(?=[^\s/:])")
 DASH_WITHOUT_SPACE = re.compile(r"^( *)-(?=[A-Za-z_][\w-]*:(?: |$))")
+SEMICOLON = re.compile(r"^ *(?:- +)?([A-Za-z_][\w-]*) *;\s*$")
 FIRST_WORD = re.compile(r"^ *(?:- +)?([A-Za-z_][\w-]*)(?= (?! *=)|$)")
 EQUALS = re.compile(r"^ *(?:- +)?([A-Za-z_][\w-]*) *= *(?=[^=\s])")
 KEY_IN_BRACKETS = re.compile(r"\s*[\w-]+: +")
 IS_PAIR = re.compile(r"[a-z][\w-]*: |[\[{].*[\]}]$|\*[\w-]+$")
 QUOTED_BRACES = re.compile(r"['\"]?\$\{\{([^{}]*)\}\}['\"]?")
+OTHER_SIGN = re.compile(r"[%&@#]\{\{[^{}]*\}\}")
 NEGATED_BRACES = re.compile(r"! *\$\{\{([^{}]*)\}\}")
+CHAIN_IN_BRACES = re.compile(r"(?<!\$)\{\{(\s*(?:%s)\.[\w.-]+\s*)\}\}" % "|".join(names()["contexts"]))
 ANCHOR = re.compile(r"(?<!\S)&([^\s,\[\]{}]+)")
 ALIAS = re.compile(r"\*([^\s,\[\]{}]+)")
 ODD_SPACE = re.compile("[\u00a0\u2000-\u200a\u202f\u3000]")
 ODD_START = re.compile("[ \u00a0\u2000-\u200a\u202f\u3000-]*(?:[\\w-]+:)?[ \u00a0\u2000-\u200a\u202f\u3000]*")
+SIGNS_OF_LINES = re.compile(r"[|>][-+]{2,}")
+WIDE_DASH = re.compile(r"^( *)- {2,}(?=[A-Za-z_][\w-]*:)")
+PLAIN_ITEM = re.compile(r" *- [\w./*-]+")
 ITEM = re.compile(r"""(?:[\w-]+: *)?(?:'[^']*'|"[^"]*"|[^'"]*)""")
 MAX_ITEMS = 30
-MAX_LINES_ABOVE = 200
 MAX_LINES_OF_LIST = 30
-HERE_DOCUMENT = re.compile(r"<<-?\s*['\"]?(\w+)")
+# Words in quotes before others.
+QUOTED_WORDS = re.compile(r"""(['"])(?:(?!\1).)*(?<!\s)\1\s""")
 EXPRESSION_AS_ITEM = re.compile(r"(?<=[\[,])\s*(\$\{\{[^{}]*\}\})\s*(?=[\],])")
 
 
@@ -75,15 +83,18 @@ def _takes_texts(case: Case, span: Span) -> bool:
     shape = shape_at(case.file, place.path, (*place.around, {}))
     text = case.slice(span)
     is_text = shape is not None and not shape["items"] and not shape["free"] and "keys" not in shape and shape["scalars"] == "AnyScalar"
-    has_meaning = text[:1] in ("|", ">", "'", '"') or "?" in text or IS_PAIR.match(text) is not None
+    has_meaning = text.startswith(("|", ">", "'", '"', "`${{")) or "?" in text or IS_PAIR.match(text) is not None or OTHER_SIGN.match(text)
     return is_text and not has_meaning and place.path[-1:] not in (("if",), ("uses",))
 
 
 def as_schedule(case: Case) -> Iterable[Repair]:
-    """A schedule of every minute, which begins with a star, in quotes and as frequent as GitHub allows."""
+    """A schedule of every minute, which begins with a star, in quotes and as frequent as GitHub allows, or at the hours that it names."""
     span = case.rest_span(case.span.start.line)
     fields = case.slice(span).split() if span else []
-    if span and len(fields) == 5 and fields[0] == "*" and re.search(r"\bcron:\s*$", case.line[:span.start.column]):
+    is_schedule = span and re.search(r"\bcron:\s*$", case.line[:span.start.column])
+    if span and is_schedule and len(fields) == 5 and fields[0] == "*":
+        if fields[1] != "*":
+            yield case.replace("put it in quotes, at the full hour", quoted(" ".join(["0", *fields[1:]])), span)
         yield case.replace("put it in quotes, every 5 minutes", quoted(" ".join(["*/5", *fields[1:]])), span)
 
 
@@ -106,15 +117,6 @@ def _quoted_item(case: Case) -> Iterable[Repair]:
 def _end_of_item(line: str, start: int) -> int:
     match = FLOW_ITEM.match(line, start)
     return match.end() if match else start
-
-
-def as_block(case: Case) -> Iterable[Repair]:
-    """A script on lines of its own."""
-    span = case.rest_span(case.span.start.line)
-    line = case.outline.lines[case.span.start.line]
-    if span and line.elements and line.elements[-1].name == "run":
-        indent = " " * (line.elements[-1].column + 2)
-        yield case.replace("move the script below its key", f"|\n{indent}{case.slice(span)}", span)
 
 
 def pair_below(case: Case) -> Iterable[Repair]:
@@ -142,21 +144,29 @@ def as_condition(case: Case) -> Iterable[Repair]:
 
 
 def inner_quotes(case: Case) -> Iterable[Repair]:
-    """A text in quotes that has the same quotes inside, which are doubled or get a backslash. A condition has strings of its own."""
+    """A text in quotes that has the same quotes inside, which are doubled or get a backslash. Not a condition that may begin and end with
+    strings of its own, nor a text that begins with quoted words."""
     span = case.rest_span(case.span.start.line)
     text = case.slice(span) if span else ""
     quote, key = text[:1], case.outline.lines[case.span.start.line].elements[-1:]
-    if span and len(text) > 2 and quote in ("'", '"') and text.endswith(quote) and not (key and key[0].name == "if"):
+    is_whole = len(text) > 2 and quote in ("'", '"') and text.endswith(quote) and not QUOTED_WORDS.match(text)
+    if span and is_whole and (not (key and key[0].name == "if") or text.endswith(quote * 2)):
         inner = text[1:-1].replace("''", "'").replace("'", "''") if quote == "'" else re.sub(r'(?<!\\)"', r'\\"', text[1:-1])
         yield case.replace("write the quotes inside as a text", quote + inner + quote, span)
 
 
 def list_in_line(case: Case) -> Iterable[Repair]:
-    """A list whose first dash follows its key on the same line."""
-    span = case.rest_span(case.span.start.line)
+    """A list whose first dash follows its key on the same line, with the others there or on the lines below."""
+    number = case.span.start.line
+    span = case.rest_span(number)
     text = case.slice(span) if span else ""
     if span and text.startswith("- ") and ": " not in text:
-        yield case.replace("make it a list", "[" + ", ".join(text[2:].split(" - ")) + "]", span)
+        deeper = " " * (indent_of(case.line) + 1)
+        below = itertools.takewhile(lambda line: line.startswith(deeper) and PLAIN_ITEM.fullmatch(line),
+                                    case.lines[number + 1:number + MAX_LINES_OF_LIST])
+        items = [line.strip()[2:] for line in below]
+        end = Point(number + len(items), len(case.lines[number + len(items)])) if items else span.end
+        yield case.replace("make it a list", "[" + ", ".join([*text[2:].split(" - "), *items]) + "]", Span(span.start, end))
 
 
 def closed_above(case: Case) -> Iterable[Repair]:
@@ -254,34 +264,6 @@ def spaces_for_tabs(case: Case) -> Iterable[Repair]:
             yield case.of("replace tabs by spaces", *edits)
 
 
-def script_in_lines(case: Case) -> Iterable[Repair]:
-    """A script whose later lines begin at the column of its key, moved below that key."""
-    number = case.span.start.line - 1
-    while number > 0 and not case.outline.lines[number].elements:
-        number -= 1
-    line = case.outline.lines[number] if number >= 0 else None
-    if line is None or not line.elements or line.elements[-1].name != "run" or not line.rest or line.rest[0] in "|>":
-        return
-    column = line.elements[-1].column
-    if not _is_script(case, case.span.start.line, column):
-        return
-    indent = " " * (column + 2)
-    last = case.span.start.line
-    while last + 1 < len(case.lines) and case.lines[last + 1].strip() and _is_script(case, last + 1, column):
-        last += 1
-    texts = [line.rest, *(text.strip() for text in case.lines[number + 1:last + 1])]
-    start = Point(number, line.elements[-1].end)
-    yield case.replace("write the script as a block", " |" + "".join("\n" + indent + text for text in texts),
-                       Span(start, Point(last, len(case.lines[last]))))
-
-
-def _is_script(case: Case, number: int, column: int) -> bool:
-    """Whether a line looks like one of a script whose key begins at a column: it has no key or dash, or is below that key."""
-    line = case.outline.lines[number]
-    name = line.elements[0].name if line.elements else None
-    return not line.elements or line.indent > column and name is not None and name not in table()["shapes"]["Step"]["keys"]
-
-
 def as_expression(case: Case) -> Iterable[Repair]:
     """A condition that begins in double quotes, as in a shell, or with `!` before its braces, as one expression; or one whose braces lack
     the dollar."""
@@ -289,78 +271,17 @@ def as_expression(case: Case) -> Iterable[Repair]:
     text = case.slice(span).strip() if span else ""
     if span and text.startswith("{{") and text.endswith("}}"):
         yield case.replace("write a dollar before the braces", "$" + text, span, is_safe=True)
-    if span and text[:1] in ("'", '"') and "${{" in text and "}}" in text:
+    elif span and text.startswith("{{") and CHAIN_IN_BRACES.match(text):
+        yield case.replace("write a dollar before the braces", CHAIN_IN_BRACES.sub(r"${{\1}}", text), span)
+    key = case.outline.lines[case.span.start.line].elements[-1:]
+    if span and text[:1] in ("'", '"') and "${{" in text and "}}" in text and not (key and key[0].name == "run"):
         bare = QUOTED_BRACES.sub(lambda match: match[1].strip(), text).replace('"', "'")
         yield case.replace("write it as an expression", "${{ " + bare + " }}", span)
+    if span and OTHER_SIGN.match(text):
+        yield case.replace(f'write "$" for "{text[0]}"', "$" + text[1:], span)
     match = NEGATED_BRACES.fullmatch(text)
     if span and match:
         yield case.replace('put the "!" into the braces', "${{ !" + grouped(match[1].strip(), OPERATORS) + " }}", span, is_safe=True)
-
-
-def script_below(case: Case) -> Iterable[Repair]:
-    """A script that isn't indented below its key."""
-    number = case.span.start.line
-    header = number - 1
-    while header > 0 and not case.outline.lines[header].elements:
-        header -= 1
-    line = case.outline.lines[header] if header >= 0 else None
-    if line is None or not line.elements or line.rest[:1] not in ("|", ">"):
-        return
-    column = line.elements[-1].column
-    last, first = header, header + 1
-    while last + 1 < len(case.lines) and (not case.lines[last + 1].strip() or _is_text(case, last + 1, column)):
-        last += 1
-    while last > header and not case.lines[last].strip():
-        last -= 1
-    lines = [one for one in range(first, last + 1) if case.lines[one].strip()]
-    more = column + 2 - min((case.outline.lines[one].indent for one in lines), default=0)
-    edits = [Edit(Span.at(Point(one, 0)), " " * more) for one in lines if more > 0]
-    if edits and last >= number:
-        yield case.of(f'indent the script below "{line.elements[-1].name}"', *edits)
-
-
-def _is_text(case: Case, number: int, column: int) -> bool:
-    """Whether a line has no key or dash, unless it is deeper than a column."""
-    line = case.outline.lines[number]
-    return not line.elements or line.indent > column
-
-
-def text_in_script(case: Case) -> Iterable[Repair]:
-    """The lines of a script that are less indented than its first line, indented as that: up to the end of a here-document, or if another
-    line of the script follows."""
-    number, lines, outline = case.span.start.line, case.lines, case.outline.lines
-    above = range(number - 1, max(number - MAX_LINES_ABOVE, -1), -1)
-    header = next((one for one in above if [found.name for found in outline[one].elements[-1:]] == ["run"]), None)
-    if header is None or outline[header].rest[:1] not in ("|", ">"):
-        return
-    texts = [one for one in range(header + 1, number + 1) if lines[one].strip()] or [number]
-    column = indent_of(lines[texts[0]])
-    first = next((one for one in texts if indent_of(lines[one]) < column), None)
-    if first is None or column <= outline[header].elements[-1].column:
-        return
-    words = {word for one in lines[header:first] for word in HERE_DOCUMENT.findall(one)} - {line.strip() for line in lines[header:first]}
-    last = next((one for one in range(number, min(number + MAX_LINES_ABOVE, len(lines))) if lines[one].strip() in words), None)
-    if last is None and not any(outline[one].elements for one in range(first, number + 1)):
-        after = (one for one in range(number + 1, len(lines)) if lines[one].strip())
-        end = next((one for one in after if indent_of(lines[one]) >= column or outline[one].elements), None)
-        last = end - 1 if end is not None and indent_of(lines[end]) >= column else None
-    if last is not None:
-        has_end = indent_of(lines[last]) >= column
-        wrong = [one for one in range(first, last + 1) if lines[one].strip() and (not has_end or indent_of(lines[one]) < column)]
-        more = " " * (column - indent_of(lines[first]))
-        yield case.of("indent the lines of the script", *(Edit(Span.at(Point(one, 0)), more) for one in wrong))
-
-
-def script_without_sign(case: Case) -> Iterable[Repair]:
-    """A script that begins on the line below its key, with the sign of a text in lines."""
-    number = case.span.start.line
-    for header in range(number - 1, max(number - MAX_LINES_ABOVE, -1), -1):
-        line = case.outline.lines[header]
-        if line.elements and line.elements[-1].name == "run":
-            below = [one for one in range(header + 1, number + 1) if case.lines[one].strip()]
-            if not line.rest and all(case.outline.lines[one].indent > line.elements[-1].column for one in below):
-                yield case.replace('write "|" after "run:"', " |", Span.at(Point(header, line.elements[-1].end)))
-            return
 
 
 def comment(case: Case) -> Iterable[Repair]:
@@ -395,6 +316,15 @@ def with_space(case: Case) -> Iterable[Repair]:
         yield case.replace(f"add a space after the {'colon' if match[0].endswith(':') else 'dash'}", " ", place, is_safe=True)
 
 
+def without_spaces_after_dash(case: Case) -> Iterable[Repair]:
+    """An entry above whose first key is further right than the others, with one space after its dash."""
+    number = case.span.start.line - 1
+    match = WIDE_DASH.match(case.lines[number]) if number >= 0 else None
+    if match and len(match[1]) + 2 == indent_of(case.line):
+        span = Span.on_line(number, len(match[1]) + 1, match.end())
+        yield case.replace("write one space after the dash", " ", span, is_safe=True)
+
+
 def with_dash(case: Case) -> Iterable[Repair]:
     """A dash before a text that follows an entry of a list of texts."""
     number = case.span.start.line
@@ -404,10 +334,12 @@ def with_dash(case: Case) -> Iterable[Repair]:
 
 
 def with_colon(case: Case) -> Iterable[Repair]:
-    """A colon after a word that is alone on its line, or before the value on it, also in place of an equals sign."""
+    """A colon after a word that is alone on its line, or before the value on it, also in place of an equals sign or a semicolon."""
     for place, match in _after_match(case, EQUALS):
         line = place.start.line
         yield case.replace(f'write a colon after "{match[1]}"', ": ", Span.on_line(line, match.end(1), match.end()))
+    for place, match in _after_match(case, SEMICOLON):
+        yield case.replace(f'write a colon after "{match[1]}"', ":", Span.on_line(place.start.line, match.end(1), match.end()))
     for place, match in _after_match(case, FIRST_WORD):
         yield case.replace(f'add a colon after "{match[1]}"', ":", place)
 
@@ -451,8 +383,13 @@ def without_line(case: Case) -> Iterable[Repair]:
 
 
 def text_on_next_line(case: Case) -> Iterable[Repair]:
-    """The text after `|`, on a line of its own."""
+    """The text after `|`, on a line of its own; or `|` with one sign after it."""
     line = case.outline.lines[case.span.start.line]
+    if SIGNS_OF_LINES.fullmatch(line.rest):
+        start = Point(case.span.start.line, case.line.rindex(line.rest))
+        text = line.rest[:2]
+        yield case.replace(f'write "{text}"', text, Span(start, Point(start.line, start.column + len(line.rest))))
+        return
     column = line.elements[-1].column if line.elements else 0
     rest = case.line[case.span.start.column:]
     span = Span(case.span.start, Point(case.span.start.line, len(case.line)))
@@ -471,7 +408,8 @@ def quoted_key(case: Case) -> Iterable[Repair]:
 REPAIRS: dict[str, tuple[Callable[[Case], Iterable[Repair]], ...]] = {
     "Y2": (without_character,),
     "Y3": (spaces_for_tabs,),
-    "Y4": (plain_spaces, comment, list_in_line, with_dash, with_colon, with_space, script_below, moved_line, with_quotes),
+    "Y4": (plain_spaces, comment, list_in_line, without_spaces_after_dash, with_dash, with_colon, with_space, script_below, moved_line,
+           with_quotes),
     "Y5": (closed_quote,),
     "Y6": (closed_bracket, with_quotes),
     "Y7": (with_quotes, quoted_key),

@@ -195,6 +195,13 @@ def collected_last(program: str) -> None:
         check(program, slip)
 
 
+@CASES.case
+def more(program: str) -> None:
+    """More mistakes of all kinds."""
+    for slip in read_slips(SLIPS / "more.txt"):
+        check(program, slip)
+
+
 def every_text() -> Iterator[tuple[str, dict[str, str]]]:
     """The texts of all slips, and those of the examples of all faults."""
     for path in sorted(SLIPS.glob("*.txt")):

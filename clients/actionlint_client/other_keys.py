@@ -1,0 +1,38 @@
+"""The keys that are meant by words that other services have, or that aren't similar enough to be found."""
+from __future__ import annotations
+
+import re
+
+# For each key the words that are written for it. A word that stands for several keys means the first one that its section has.
+WORDS = {
+    "run": "command commands script cmd exec bash pwsh powershell", "uses": "action task plugin",
+    "with": "args arguments params parameters inputs input settings", "env": "environment environment-variables variables vars",
+    "name": "title display-name description label", "description": "desc help", "id": "step-id identifier",
+    "if": "condition when only-if run-if only",
+    "working-directory": "dir cwd workdir directory", "continue-on-error": "allow-failure continue-on-failure ignore-errors",
+    "timeout-minutes": "timeout max-minutes time-limit", "runs-on": "os runner pool executor agent platform machine vm-image host",
+    "needs": "depends-on requires dependencies after", "strategy": "matrix", "container": "image docker docker-image",
+    "outputs": "exports", "secrets": "secret", "environment": "environments deployment", "jobs": "job stages", "on": "triggers trigger",
+    "branches": "branch", "branches-ignore": "ignore-branches exclude-branches", "tags": "tag", "paths": "path",
+    "paths-ignore": "ignore-paths exclude-paths", "types": "type actions activities", "type": "kind",
+    "required": "mandatory", "default": "default-value",
+    "options": "choices values enum", "value": "from", "group": "name key", "cancel-in-progress": "cancel",
+    "image": "name dockerfile img", "ports": "expose", "volumes": "mounts", "credentials": "auth login",
+    "max-parallel": "parallel parallelism max-concurrency", "using": "runtime type", "main": "entrypoint entry script file",
+    "pre": "before setup", "post": "after cleanup teardown", "args": "command arguments cmd"}
+SIGNS = re.compile(r"[-_ ]")
+
+
+def _bare(word: str) -> str:
+    return SIGNS.sub("", word).lower()
+
+
+_KEYS: dict[str, list[str]] = {}
+for _key, _words in WORDS.items():
+    for _word in _words.split():
+        _KEYS.setdefault(_bare(_word), []).append(_key)
+
+
+def other_keys(word: str) -> list[str]:
+    """The keys that a word may be meant for, the most likely first."""
+    return _KEYS.get(_bare(word), [])
