@@ -56,7 +56,7 @@ PARAMETERS = {"Zero": "", "One": "{0}", "Two": "{0}, {1}", "OneOrTwo": "{0}, opt
 NUMBERS = ("zero one two three four five six seven eight nine ten eleven twelve thirteen fourteen fifteen sixteen seventeen eighteen "
            "nineteen twenty").split()
 COUNTED = (
-    ("README.md", r"activity types of all but (\w+) events", "events"),
+    ("README.md", r"activity types of only (\w+)\s+events", "events"),
     ("README.md", r"a function outside \[its (\w+)\]", "functions"),
     ("docs/FAULTS-EXPRESSIONS.md", r"beyond these (\w+) are reported", "functions"),
 )

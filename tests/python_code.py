@@ -1,6 +1,6 @@
-"""Checks the Python of tests/, tools/ and bench/ by flake8 and mypy, as setup.cfg says: python_code.py TOP.
+"""Checks the Python of tests/, tools/ and bench/ by flake8 and mypy, and that of clients/ by flake8, as setup.cfg says: python_code.py TOP.
 
-Prints a line for each; what isn't installed is skipped.
+Prints a line for each; what isn't installed is skipped. clients/tests/types_of_clients.py checks the types of the clients.
 """
 
 import os
@@ -12,6 +12,8 @@ import sys
 from running import exit_status, report, skip
 
 FOLDERS = ("tests", "tools", "bench")
+# beside the files of clients/ whose names end in .py
+CLIENTS = ("clients", "clients/actionlint-lsp", "clients/actionlint-report")
 
 
 def check(top, name, *words):
@@ -25,7 +27,7 @@ def check(top, name, *words):
 
 def main(folder):
     top = pathlib.Path(folder).resolve()
-    check(top, "flake8", "flake8", *FOLDERS)
+    check(top, "flake8", "flake8", *FOLDERS, *CLIENTS)
     for name in FOLDERS:
         files = [str(it.relative_to(top)) for it in sorted((top / name).glob("*.py"))]
         check(top, f"mypy-of-{name}", "mypy", f"--cache-dir={os.devnull}", *files)

@@ -12,7 +12,8 @@ the `use` lines of its file, and then the names that each of these definitions u
 what the value is. If an `impl` names proofs of its trait's laws (`specs/Proofs`), the laws count, which the trait states. Modules that use
 one another are listed together. No two of these definitions have the same name.
 
-Three tables of the page stand each behind a comment with its name: README.md's promises with their theorems, the theorems, and the crates.
+Two tables of the page stand each behind a comment with its name: the theorems, with the promises of README.md that they serve, and the
+crates.
 The page explains each word of a library and each form of notation in these definitions. Definitions that decide a fault without naming its
 code are in deciding.toml; a theorem rests on each, and each fault is decided by some definition.
 """
@@ -31,7 +32,6 @@ from fault_pages import codes
 PAGE = "docs/READING.md"
 DECIDING = "tests/deciding.toml"
 MADE = re.compile(r"(<!-- made by tests/reading_page\.py: (\w+) -->\n)(?:\|.*\n)*")
-PROMISE = re.compile(r"^\| (\d) \| (.*) \|$", re.MULTILINE)
 TYPE = re.compile(r"^(?:pub(?:\(crate\))? )?(?:struct|enum|trait|type) (\w+)", re.MULTILINE)
 # lines that are read in an hour, beside the standard
 SLOW, FAST = 60, 100
@@ -198,25 +198,18 @@ class Page:
         used = {other for item in self.items[module] for other, _ in self.definitions.used_by(module, item)} - {module}
         return sorted((it for it in used if it in self.items), key=lambda it: it.name)
 
-    def promises(self):
-        """README.md's promises, with the theorems that each rests on."""
-        readme = (self.top / "README.md").read_text(encoding="utf-8").partition("## What it promises")[2].partition("\n## ")[0]
-        yield "| | Promise | Theorems |"
-        yield "|---|---|---|"
-        for number, promise in PROMISE.findall(readme):
-            letters = " ".join(it.letter for it in THEOREMS if number in it.promises.split())
-            yield f"| {number} | {promise} | {letters or 'the contract of each function'} |"
-
     def theorems(self):
-        yield "| | Theorem | Contracts | Definitions | Their lines | Modules | Hours |"
-        yield "|---|---|---|--:|--:|--:|--:|"
+        yield "| | Theorem | Promises | Contracts | Definitions | Their lines | Modules | Hours |"
+        yield "|---|---|---|---|--:|--:|--:|--:|"
         for theorem in THEOREMS:
             found = self.found[theorem.letter]
             modules = len({module for module, _ in found})
             places = "; ".join(map(place, theorem.contracts))
-            yield f"| {theorem.letter} | {theorem.what} | {places} | {len(found)} | {lines_of(found):,} | {modules} | {hours(found)} |"
+            counts = f"{len(found)} | {lines_of(found):,} | {modules} | {hours(found)}"
+            promises = theorem.promises.replace(" ", ", ")
+            yield f"| {theorem.letter} | {theorem.what} | {promises} | {places} | {counts} |".replace("|  |", "| |")
         every = set().union(*self.found.values())
-        yield f"| | all of these | | {len(every)} | {lines_of(every):,} | {len(self.items)} | {hours(every)} |"
+        yield f"| | all of these | | | {len(every)} | {lines_of(every):,} | {len(self.items)} | {hours(every)} |"
 
     def naming(self):
         """The definitions of the program's theorems that name fault codes: the module, the definition and the codes."""
@@ -325,7 +318,7 @@ class Page:
 
     def tables(self):
         """The tables that stand behind a comment with their name."""
-        return {it.__name__: "".join(f"{row}\n" for row in it()) for it in (self.promises, self.theorems, self.crates)}
+        return {it.__name__: "".join(f"{row}\n" for row in it()) for it in (self.theorems, self.crates)}
 
 
 def lines_of(found):

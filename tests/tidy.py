@@ -3,9 +3,9 @@
 WHAT is `src` or `specs` (no line is longer than 140 characters), `proofs` (none is longer than 200), `heads` (each module of lemmas says at
 its top what it is for), `kinds` (definitions use neither words of private contracts, `specs/Private`, nor worked examples, `specs/Rows`,
 and none of all these uses proofs, including those of `specs/Proofs`), `words` (pages, helps, messages and comments of the clients have none
-of some home-made terms), `pages` (no line of text on a page is longer than 140 characters, and all pages together have at most so many) or
-`names` (each name that a `use` line imports occurs somewhere else in its file). `--write` removes the names that don't; then `rt fmt` and
-`rt check` have to be run in each changed crate.
+of some home-made terms), `pages` (no line of text on a page is longer than 140 characters, each table has a head and whole rows, and all
+pages together have at most so many lines) or `names` (each name that a `use` line imports occurs somewhere else in its file).
+`--write` removes the names that don't; then `rt fmt` and `rt check` have to be run in each changed crate.
 """
 
 import pathlib
@@ -35,7 +35,10 @@ COMMENT_OF_SCRIPTS = re.compile(r'^ *#.*$|^ *"""(?:.|\n)*?"""$', re.MULTILINE)
 # texts in quotes; in YAML those after a key
 QUOTED = re.compile(r"\"[^\"\n]*\"|'[^'\n]*'")
 VALUE = re.compile(r"(?<=: ).*$", re.MULTILINE)
-LONGEST_OF_PAGES, MOST_OF_PAGES = 140, 4_440
+LONGEST_OF_PAGES, MOST_OF_PAGES = 140, 4_400
+# what isn't text: rows, pictures, comments and code
+UNBROKEN = re.compile(r" *[|!<]| {4}")
+ROW, RULE = re.compile(r" {0,3}\|"), re.compile(r" *\|[-:| ]+\|$")
 FENCED = re.compile(r"^```.*?^```$", re.DOTALL | re.MULTILINE)
 CODE = re.compile(rf"{FENCED.pattern}|`[^`\n]*`", re.DOTALL | re.MULTILINE)
 # the folders of `specs/` that aren't about what the product means; each may use those before it
@@ -93,17 +96,26 @@ def unusual_words(top):
                     if re.search(rf"\b{it}\b", text))
 
 
+def broken_rows(lines):
+    """The numbers of the rows of tables that are cut, or have no head above them."""
+    for number, (above, line, below) in enumerate(zip(["", *lines], lines, [*lines[1:], ""]), 1):
+        if ROW.match(line) and not (line.endswith("|") and (ROW.match(above) or RULE.match(below))):
+            yield number
+
+
 def wrong_pages(top):
-    """Lines of text on pages that are too long, and too many lines."""
-    lines = 0
+    """Lines of text on pages that are too long, broken tables, and too many lines."""
+    count = 0
     for file in pages_of(top):
         text = file.read_text(encoding="utf-8")
-        lines += text.count("\n")
-        for number, line in enumerate(FENCED.sub(lambda it: "\n" * it[0].count("\n"), text).splitlines(), 1):
-            if len(line) > LONGEST_OF_PAGES and not line.startswith(("|", "!", "<", "    ")):
+        count += text.count("\n")
+        lines = FENCED.sub(lambda it: "\n" * it[0].count("\n"), text).splitlines()
+        for number, line in enumerate(lines, 1):
+            if len(line) > LONGEST_OF_PAGES and not UNBROKEN.match(line):
                 yield f"{file.relative_to(top)}:{number} has {len(line)} characters, of at most {LONGEST_OF_PAGES}"
-    if lines > MOST_OF_PAGES:
-        yield f"all pages have {lines} lines, of at most {MOST_OF_PAGES}"
+        yield from (f"{file.relative_to(top)}:{number} isn't a row of a table with a head" for number in broken_rows(lines))
+    if count > MOST_OF_PAGES:
+        yield f"all pages have {count} lines, of at most {MOST_OF_PAGES}"
 
 
 def headless(top):

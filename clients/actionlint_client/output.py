@@ -20,7 +20,8 @@ NEW_FILE = os.O_WRONLY | os.O_CREAT | os.O_EXCL | os.O_NOFOLLOW | os.O_CLOEXEC
 @contextmanager
 def report_output(file: str | None) -> Iterator[BinaryIO]:
     """What is written reaches the file or standard output only when the block ends without an exception. Raises OSError if it can't,
-    because something else than a regular file has the name (a link, a pipe, a device), or its path has a link below the current directory."""
+    because something else than a regular file has the name (a link, a pipe, a device), or a link is on its path below the current
+    directory."""
     if file is None:
         # If it is closed, a file that is opened next would take its place.
         os.fstat(STANDARD_OUTPUT)

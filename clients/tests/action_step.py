@@ -82,7 +82,8 @@ def no_linter(_: str) -> None:
     """If the named linter or any linter is missing, the status is 3 and a line says how to name one."""
     with tempfile.TemporaryDirectory(prefix="actionlint-test-") as here:
         shutil.copytree(CLIENTS, here + "/clients", ignore=shutil.ignore_patterns("tests"))
-        for program, why in (("nowhere/it", "there is no such program"), ("", "there is none that runs here, beside the clients or on the PATH")):
+        for program, why in (("nowhere/it", "there is no such program"),
+                             ("", "there is none that runs here, beside the clients or on the PATH")):
             runner = Runner(program, FILES, here)
             status, lines = runner.step()
             said = f"cannot start {program or 'actionlint'}: {why}; --program or the variable ACTIONLINT names the linter"

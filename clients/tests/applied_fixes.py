@@ -44,10 +44,12 @@ TEXTS = {
     WORKFLOWS + "mark.yml": ("\ufeff" + WRONG, "\ufeff" + RIGHT),
     WORKFLOWS + "mark at the fault.yml": ("\ufeffon: pussh\njobs: {}\n", "\ufeffon: push\njobs: {}\n"),
     WORKFLOWS + "old line ends.yml": (WRONG.replace("\n", "\r"), RIGHT.replace("\n", "\r")),
-    WORKFLOWS + " é 'a' \"b\" \U0001F600.yml": ("# \U0001F600 é\n" + WRONG.replace("echo", "echo \U0001F600é"),
-                                              "# \U0001F600 é\n" + RIGHT.replace("echo", "echo \U0001F600é")),
+    WORKFLOWS + " é 'a' \"b\" \U0001F600.yml":
+        ("# \U0001F600 é\n" + WRONG.replace("echo", "echo \U0001F600é"),
+         "# \U0001F600 é\n" + RIGHT.replace("echo", "echo \U0001F600é")),
     WORKFLOWS + "-r.yml": (WRONG, RIGHT),
-    WORKFLOWS + "far.yml": (WRONG + "#\n" * 30 + "env: {A: '${{ github.shaa }}'}\n", RIGHT + "#\n" * 30 + "env: {A: '${{ github.sha }}'}\n"),
+    WORKFLOWS + "far.yml": (WRONG + "#\n" * 30 + "env: {A: '${{ github.shaa }}'}\n",
+                            RIGHT + "#\n" * 30 + "env: {A: '${{ github.sha }}'}\n"),
 }
 
 
@@ -129,7 +131,8 @@ def patches_by_chance(_: str) -> None:
     for number in range(150):
         lines = [chance.choice(("a", "b", "c", "")) + chance.choice(("\n", "\n", "\n", "\r\n")) for _ in range(chance.randrange(40))]
         changed = [one for line in lines for one in chance.choice(([line],) * 12 + ([], ["x\n"], [line, "y\n"]))]
-        before[f"{number} x"], after[f"{number} x"] = ("".join(some)[:chance.choice((None, None, -1))].encode() for some in (lines, changed))
+        cut = ("".join(some)[:chance.choice((None, None, -1))].encode() for some in (lines, changed))
+        before[f"{number} x"], after[f"{number} x"] = cut
     assert unified_diff("x", b"", b"a\n") == b"--- a/x\t\n+++ b/x\t\n@@ -0,0 +1,1 @@\n+a\n"
     long = [b"%d\n" % (number % 9) for number in range(3 * MAX_COMPARED_LINES)]
     before["long"], after["long"] = b"".join(long), b"first\n" + b"".join(long[1:-1]) + b"last"

@@ -176,8 +176,8 @@ def fails_with(reader: Reader, kind: type[LinterEnded], path: str = FILE, data: 
 
 @CASES.case
 def which_program(_: str) -> None:
-    """The named one, else the one beside the linter, which may have the linter's own name, also behind links, else those of a clone, else the
-    one on the PATH; never the script that builds it."""
+    """The named one, else the one beside the linter, which may have the linter's own name, also behind links, else those of a clone, else
+    the one on the PATH; never the script that builds it."""
     finder = f"import sys; sys.path.insert(0, {str(CLIENTS)!r}); from actionlint_client.program import find_facts; "
     finder += "print(find_facts(sys.argv[1]))"
     with tempfile.TemporaryDirectory(prefix="actionlint-test-") as folder:

@@ -31,7 +31,7 @@ FIXED = {
     "property": ("on: push\n" + STEP.format("${{ github.acto }}"), "actor", "      - run: echo ${{ github.actor }}"),
     "property in brackets": ("on: push\n" + STEP.format("${{ github['acto'] }}"), "actor", "      - run: echo ${{ github['actor'] }}"),
     "after two units": ("on: push\n" + STEP.format("\U0001F600 ${{ github.acto }}"), "actor",
-                         "      - run: echo \U0001F600 ${{ github.actor }}"),
+                        "      - run: echo \U0001F600 ${{ github.actor }}"),
     "shell": ("on: push\n" + STEP.format("a") + "        shell: bsh\n", "bash", "        shell: bash"),
     "permission scope": ("on: push\npermissions:\n  content: read\njobs: {}\n", "contents", "  contents: read"),
     "permission value": ("on: push\npermissions:\n  contents: reed\njobs: {}\n", "read", "  contents: read"),

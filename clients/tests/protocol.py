@@ -67,11 +67,12 @@ def before_and_after(program: str) -> None:
     asked = {"method": "textDocument/hover", "params": {"textDocument": document, "position": {"line": 0, "character": 0}}}
     unknown = {"method": "nothing"}
     sent = [opened, message({**asked, "id": 2}), message({**unknown, "id": 3}), message(INITIALIZE), message({**INITIALIZE, "id": 4}),
-            message({**asked, "id": 5}), message(SHUTDOWN), opened, message({**asked, "id": 6}), message({**unknown, "id": 7}), message(EXIT)]
+            message({**asked, "id": 5}), message(SHUTDOWN), opened, message({**asked, "id": 6}), message({**unknown, "id": 7}),
+            message(EXIT)]
     status, found = answers(program, *map(frame, sent))
     assert status == 0 and len(found) == 8, found
-    assert codes(found) == [(2, SERVER_NOT_INITIALIZED), (3, SERVER_NOT_INITIALIZED), (1, None), (4, INVALID_REQUEST), (5, None), (99, None),
-                            (6, INVALID_REQUEST), (7, INVALID_REQUEST)], found
+    assert codes(found) == [(2, SERVER_NOT_INITIALIZED), (3, SERVER_NOT_INITIALIZED), (1, None), (4, INVALID_REQUEST), (5, None),
+                            (99, None), (6, INVALID_REQUEST), (7, INVALID_REQUEST)], found
     assert answers(program, frame(message(INITIALIZE)), frame(message(EXIT)))[0] == 1, "exit without shutdown"
 
 

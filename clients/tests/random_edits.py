@@ -302,7 +302,8 @@ def main(words: list[str]) -> int:
         compared += 1
     right = world.editor.quit() == 0 and faults > 0 and not world.editor.messages
     found = f"{dict(kinds)}; {world.editor.publications} publications; told: {world.editor.messages}"
-    report(f"clients-random-edits-{edits}-{seed}-{burst}", f"0 comparisons={compared} faults={faults} seconds={time.monotonic() - begun:.0f}",
+    seconds = time.monotonic() - begun
+    report(f"clients-random-edits-{edits}-{seed}-{burst}", f"0 comparisons={compared} faults={faults} seconds={seconds:.0f}",
            [] if right else [found])
     shutil.rmtree(os.path.dirname(world.root))
     return exit_status()

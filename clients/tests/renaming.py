@@ -27,15 +27,19 @@ FIRST = "on: push\njobs:\n  <>:\n" + JOB
 SAME = {
     "a job in brackets beside a text": FIRST + "  b:\n    needs: <>\n    if: needs['<>'].result == 'success'\n" + JOB,
     "a job in spaced brackets": FIRST + "  b:\n    needs: [ <> ]\n    if: needs [ '<>' ] . result == '<x>'\n" + JOB,
-    "a job after a text and in other brackets": FIRST + "  b:\n    needs: <>\n"
-                                                "    if: contains('x', 'y') && fromJSON('[1]')[0] && needs['<>']['result'] == 'b'\n" + JOB,
-    "a job in single quotes": FIRST + "  b:\n    needs: '<>'\n"
-                              "    if: 'needs[''<>''].result == ''it'''' is'' && ''needs.x'' != needs.<>.result'\n" + JOB,
-    "a job in single quotes after an apostrophe": FIRST + "  b:\n    needs: \"<>\"\n"
-                                                  "    name: 'it''s ${{ needs[''<>''].result }}'\n" + JOB,
+    "a job after a text and in other brackets":
+        FIRST + "  b:\n    needs: <>\n"
+        "    if: contains('x', 'y') && fromJSON('[1]')[0] && needs['<>']['result'] == 'b'\n" + JOB,
+    "a job in single quotes":
+        FIRST + "  b:\n    needs: '<>'\n"
+        "    if: 'needs[''<>''].result == ''it'''' is'' && ''needs.x'' != needs.<>.result'\n" + JOB,
+    "a job in single quotes after an apostrophe":
+        FIRST + "  b:\n    needs: \"<>\"\n"
+        "    name: 'it''s ${{ needs[''<>''].result }}'\n" + JOB,
     "a job after escapes": FIRST + "  b:\n    needs: <>\n    name: \"\\t\\\"\\n${{\\n needs.<>.result }}\"\n" + JOB,
-    "a job beside braces in a text": FIRST + "  b:\n    needs: <>\n"
-                                     "    name: ${{ format('{{}}', needs.<>.result) }} ${{ needs.<>.result }}\n" + JOB,
+    "a job beside braces in a text":
+        FIRST + "  b:\n    needs: <>\n"
+        "    name: ${{ format('{{}}', needs.<>.result) }} ${{ needs.<>.result }}\n" + JOB,
     "a job in parentheses": FIRST + "  b:\n    needs: <>\n    if: (needs).<>.result || !(needs.<>.result == 'x')\n" + JOB,
     "a row in brackets": "on: push\njobs:\n  b:\n    strategy: {matrix: {<>: [1, 2], include: [{<>: 3}], exclude: [{<>: 2}]}}\n"
                          "    runs-on: ${{ matrix['<>'] == 1 && 'a' || 'b' }}\n    steps: [{run: '${{ matrix[''<>''] }}'}]\n",
@@ -46,9 +50,10 @@ SAME = {
                               "    env: {A: \"${{ secrets['<>'] || 'none' }}\"}\n    steps: [{run: make}]\n",
     "a step in brackets": "on: push\njobs:\n  b:\n    runs-on: u\n    steps:\n      - id: <>\n        run: echo a=b >> $GITHUB_OUTPUT\n"
                           "      - if: steps['<>'].outputs['a'] == 'x' && steps['no'] != 1\n        run: make\n",
-    "a job that an index names": FIRST + "  b:\n    needs: <>\n"
-                                 "    strategy: {matrix: {k: [result]}}\n"
-                                 "    name: ${{ needs.<>[matrix.k] }} ${{ matrix[needs['<>'].result] }}\n" + JOB,
+    "a job that an index names":
+        FIRST + "  b:\n    needs: <>\n"
+        "    strategy: {matrix: {k: [result]}}\n"
+        "    name: ${{ needs.<>[matrix.k] }} ${{ matrix[needs['<>'].result] }}\n" + JOB,
 }
 TWO = "on: push\njobs:\n  one:\n    runs-on: u\n    steps:\n      - {id: p, run: make}\n      - {id: q, run: make}\n  two:\n" + JOB
 ROWS = ("on: push\njobs:\n  a:\n    strategy: {matrix: {x: [1], include: [{y: 2}]}}\n    runs-on: ${{ matrix.x }}\n"

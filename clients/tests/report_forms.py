@@ -64,20 +64,24 @@ ADVICE = {
     "on: push\nname: {x} y\n": "Y13: Text that begins with `[`, `{`, `*`, `@`, `%` or a backtick, or contains `: `, needs quotes, and",
     "on:\n  push:\n    branches:\n      - *\n": "Y13: Text that begins with `[`, `{`, `*`, `@`, `%` or a backtick, or contains `: `, needs",
     "on: push\nname: a: b\n": "Y13: Text that begins with `[`, `{`, `*`, `@`, `%` or a backtick, or contains `: `, needs quotes, and",
-    "on: push\nname: a\n  b: c\n": "Y13: If the place is the colon of a key, look at the line above: its colon has no space after it, or it",
+    "on: push\nname: a\n  b: c\n":
+        "Y13: If the place is the colon of a key, look at the line above: its colon has no space after it, or it",
     "on: push\njobs:\n  a:\n    runs-on:x\n    steps:\n": "Y13: If the place is the colon of a key, look at the line above: its colon",
     "on: push\nname: 'a\njobs: {}\nenv: {A: 'b'}\n": "Y13: Text that begins with `[`, `{`, `*`, `@`, `%` or a backtick, or contains",
     "on: push\n<<<<<<< HEAD\njobs: {}\n": "Y13: Lines that begin with `<<<<<<<`, `=======` or `>>>>>>>` are left from a merge: keep one",
-    "on: push\njobs:\n  a:\n    runs-on: x\n    steps:\n      - run: a\n      -run: b\n": "Y4: A dash before an entry needs a space after it.",
+    "on: push\njobs:\n  a:\n    runs-on: x\n    steps:\n      - run: a\n      -run: b\n":
+        "Y4: A dash before an entry needs a space after it.",
     "on: push\njobs:\n  a:\n    runs-on: x\n     steps: []\n": "Y13: If the place is the colon of a key, look at the line above: its",
     "on: push\nname: x\njobs: {}\n  env: {}\n": "Y4: Give the line the same indentation as the entries it belongs with.",
     "on: push\njobs: {}\nenv:\n  A: {{ github.ref }}\n": "Y17: An expression has a dollar before its braces.",
     "on: push\njobs: {}\n[a, b]: c\n": "Y17: Write the key as a scalar on one line, and its value after the colon.",
-    "on: push\njobs:\n  a: &a {runs-on: x, steps: []}\n  b: {<<: *a}\n": "K1: `<<` doesn't merge anything; an alias stands for a whole value.",
+    "on: push\njobs:\n  a: &a {runs-on: x, steps: []}\n  b: {<<: *a}\n":
+        "K1: `<<` doesn't merge anything; an alias stands for a whole value.",
     "on: push\njobs:\n  a: {runs-on: x, steps: [], if: always}\n": "X7: A function needs parentheses after its name, as in `always()`.",
     "on: push\njobs:\n  a: {runs-on: x, steps: [], if: github.ref == main}\n": "X7: Write the name of a context, or put a string in single",
     STEP + "run: echo ${{ github.run_number + 1 }}\n": "X1: Do arithmetic in a step's script.",
-    STEP + "run: echo ${{ matrix.os }}\n": "X13: `matrix` has only the rows of the job's own matrix and what `include` adds to them: add the",
+    STEP + "run: echo ${{ matrix.os }}\n":
+        "X13: `matrix` has only the rows of the job's own matrix and what `include` adds to them: add the",
     STEP + "run: echo ${{ matrix['os'] || 'x' }}\n": "X13: `matrix` has only the rows of the job's own matrix and what `include` adds",
     "on: push\njobs: {a: {runs-on: x, strategy: {matrix: {os: [{a: b}]}}, steps: [{run: 'echo ${{ matrix.os.c }}'}]}}\n":
         "X13: `matrix` has only the rows of the job's own matrix and what `include` adds to them: add the property there,",
@@ -87,11 +91,13 @@ ADVICE = {
     "on: push\njobs: {a: {runs-on: x, steps: []}, b: {runs-on: x, needs: a, steps: [{run: 'echo ${{ needs.a.outputs.o }}'}]}}\n":
         "X13: A job must declare the `outputs` that others read.",
     "on: push\n&x jobs: {}\n": "Y7: Text that begins with `*` or `&` needs quotes.",
-    STEP + 'run: echo ${{ github.ref == "a" }}\n': "X1: Write a string in single quotes, a choice as `TEST && THIS || THAT`, and equality as `==`.",
+    STEP + 'run: echo ${{ github.ref == "a" }}\n':
+        "X1: Write a string in single quotes, a choice as `TEST && THIS || THAT`, and equality as `==`.",
     STEP + "run: echo ${{ needs.build.result }}\n": "X13: A job must list in its own `needs` each job whose results it reads.",
     STEP + "run: echo ${{ needs['build'].result }}\n": "X13: A job must list in its own `needs` each job whose results it reads.",
     STEP + "run: echo ${{ github.build }}\n": "X13: Write a property that the context has here.",
-    STEP + "uses: actions/checkout\n": "C7: An action or a workflow in another repository needs `@REF` at its end: a branch, a tag or a commit.",
+    STEP + "uses: actions/checkout\n":
+        "C7: An action or a workflow in another repository needs `@REF` at its end: a branch, a tag or a commit.",
     STEP + "uses: checkout\n": "C7: Write `OWNER/REPO@REF`, `./DIR` or `docker://IMAGE` for a step, `./.github/workflows/FILE` or",
     "on: {schedule: [{cron: '0 0 * *'}]}\njobs: {}\n": "G4: Write five fields: minute, hour, day of the month, month, day of the week.",
     "on: push\njobs:\n  a:\n    runs-on: x\n    steps: make\n": "K4: A list is expected, with each entry on its own line",
@@ -106,7 +112,8 @@ ADVICE = {
     "on: push\njobs: {a: {runs-on: x, continue-on-error: 'true'}}\n": "K5: `true` or `false` is expected, without quotes.",
     "on:\njobs: {}\n": "K5: `on` needs an event.",
     "on: {push: {paths: [./src]}}\njobs: {}\n": "G3: Paths begin at the repository's root, without `./` in front.",
-    "on: {push: {branches: ['a b']}}\njobs: {}\n": "G3: Write the pattern as in GitHub's cheat sheet: `*` matches any text without a slash,",
+    "on: {push: {branches: ['a b']}}\njobs: {}\n":
+        "G3: Write the pattern as in GitHub's cheat sheet: `*` matches any text without a slash,",
     "name: x\njobs: {}\n": "K2: Add the key to the mapping that begins at this place.",
     STEP + "run: echo ${{ MATRIX.os }}\n": "X13: `matrix` has only the rows of the job's own matrix and what `include` adds",
     STEP + "name: x\n": "K2: A step needs `run` or `uses`.",
@@ -291,7 +298,8 @@ def rules_that_ignore_nothing(program: str) -> None:
             for form in ("text", "jsonl", "oneline", "codequality"):
                 status, _, errors = run(program, folder, "--form", form, "--ignore-file", "kept", "--", *words)
                 told = [line for line in errors.splitlines() if said in line]
-                assert (status, told) == (3 if words == ["no.yml"] else 0, [f"actionlint-report: {rule} {said}" for rule in expected]), errors
+                wanted = [f"actionlint-report: {rule} {said}" for rule in expected]
+                assert (status, told) == (3 if words == ["no.yml"] else 0, wanted), errors
         _, found, errors = run(program, folder, "--form", "github", "--ignore", "K1", "--", FILE)
         assert said not in found + errors
         _, found, errors = run(program, folder, "--form", "github", "--ignore", f"K1:{FILE}")

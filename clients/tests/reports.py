@@ -98,8 +98,8 @@ def characters(program: str) -> None:
         assert place["region"] == {"startLine": 6, "startColumn": 28, "endLine": 6, "endColumn": 32}, place
         assert one["ruleId"] == "X13" and one["message"]["text"] == 'property "reff" is not defined', one
         _, text, _ = run(program, "jsonl", "--root", folder)
-        assert json.loads(text) == {"path": path, "line": 6, "column": 28, "end_column": 32, "code": "X13", "kind": "expression", "level": "error",
-                                    "message": 'property "reff" is not defined',
+        assert json.loads(text) == {"path": path, "line": 6, "column": 28, "end_column": 32, "code": "X13", "kind": "expression",
+                                    "level": "error", "message": 'property "reff" is not defined',
                                     "link": DOCS + "/FAULTS-EXPRESSIONS.md#x13-property-0-is-not-defined",
                                     "advice": "Write a property that the context has here.", "fix": 'change to "ref"',
                                     "fix_is_safe": True}, text

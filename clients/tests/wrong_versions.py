@@ -28,7 +28,7 @@ RANDOM_EDITS = "random_edits.py 250 1"
 
 
 class WrongVersion(NamedTuple):
-    """A file, named from actionlint_client, a test with its arguments after PROGRAM, the right text in the file, and the wrong one in its place."""
+    """A file, named from actionlint_client, a test with its arguments after PROGRAM, the right text in the file, and the wrong one."""
 
     file: str
     test: str
@@ -204,7 +204,8 @@ WRONG_VERSIONS = {name: WrongVersion(*row) for name, *row in (
     ("every_colon_is_that_of_a_key", "advice.py", "report_forms.py advice",
      'return _character(problem) == ":" and KEY_BEFORE_COLON.fullmatch(_before(problem)) is not None', 'return _character(problem) == ":"'),
     ("annotations_have_no_fix", "forms.py", "first_fixes.py in_each_form", "*advice(problem)]))", "sentence(problem)]))"),
-    ("lines_of_json_have_no_fix", "forms.py", "first_fixes.py as_in_the_editor", '"fix": problem.fix and shown(problem.fix.title)', '"fix": None'),
+    ("lines_of_json_have_no_fix", "forms.py", "first_fixes.py as_in_the_editor",
+     '"fix": problem.fix and shown(problem.fix.title)', '"fix": None'),
     ("code_quality_has_no_advice", "forms.py", "first_fixes.py in_each_form",
      "if (said := advice(problem)) else {}", "if (said := []) else {}"),
     ("the_terminal_obeys_one_line", "forms.py", "report_edges.py characters",
@@ -254,7 +255,8 @@ WRONG_VERSIONS = {name: WrongVersion(*row) for name, *row in (
     ("links_to_the_linter_have_no_facts", "program.py", "facts_process.py which_program",
      "[Path(linter), Path(os.path.realpath(linter))]", "[Path(linter)]"),
     ("files_without_calls_need_no_facts", "folder.py", "lookup.py without_actionlint_facts", "            self.reader.check()\n", ""),
-    ("a_linter_is_not_missed", "folder.py", "lookup.py language_server", "            self._started()\n            raise", "            raise"),
+    ("a_linter_is_not_missed", "folder.py", "lookup.py language_server",
+     "            self._started()\n            raise", "            raise"),
     ("the_program_of_the_settings_is_not_run", "server.py", "lookup.py a_program_of_the_settings",
      'isinstance(given.get("program"), str)', "False"),
     ("the_program_of_the_settings_may_be_anything", "server.py", "lookup.py a_program_of_the_settings",
@@ -301,7 +303,7 @@ WRONG_VERSIONS = {name: WrongVersion(*row) for name, *row in (
     ("the_action_hides_a_status", "../github/run", "action_step.py a_root", 'return "${PIPESTATUS[0]}"', "return 0"),
     # Texts of strangers.
     ("markdown_of_strangers_is_obeyed", "markdown.py", "strangers.py markdown_of_strangers",
-     'return SIGNS.sub(r"\\\\\g<0>", shown(text))', "return shown(text)"),
+     'return SIGNS.sub(r"\\\\\\g<0>", shown(text))', "return shown(text)"),
     ("a_line_can_begin_a_list", "markdown.py", "strangers.py markdown_of_strangers",
      'return FIRST_SIGN.sub(r"\\1\\\\\\2", ', "return ("),
     ("addresses_become_links", "markdown.py", "strangers.py markdown_of_strangers", "code(found[0])]", "_escaped_words(found[0])]"),
@@ -354,7 +356,8 @@ WRONG_VERSIONS = {name: WrongVersion(*row) for name, *row in (
      "os.killpg(child.pid,", "os.kill(child.pid,"),
     ("each_call_is_read", "shellcheck.py", "shellcheck_notes.py each_file_once",
      "(reader.calls(path, data) or frozenset()) - seen", "reader.calls(path, data) or frozenset()"),
-    ("each_word_is_read", "shellcheck.py", "shellcheck_notes.py each_file_once", "dict.fromkeys(path.removeprefix", "list(path.removeprefix"),
+    ("each_word_is_read", "shellcheck.py", "shellcheck_notes.py each_file_once",
+     "dict.fromkeys(path.removeprefix", "list(path.removeprefix"),
     ("scripts_without_end_have_no_end", "shellcheck.py", "shellcheck_notes.py many_scripts_without_end",
      "if unchecked == MAX_UNCHECKED:", "if False:"),
     ("notes_stay_when_the_text_changes", "script_checks.py", "shellcheck_server.py notes_with_the_faults",
