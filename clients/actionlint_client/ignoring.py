@@ -3,8 +3,10 @@ from __future__ import annotations
 
 import os
 import re
+import stat
 from typing import Callable, Collection, Iterable, NamedTuple
 
+from .disk import OPENED
 from .entries import entries
 from .faults import NO_FAULTS, FileFaults
 from .notes.entries import entries_of_notes
@@ -135,7 +137,9 @@ def is_code(text: str) -> bool:
 def rules_in(file: str) -> list[str]:
     """The rules of a file, one per line, without blank lines and those that begin with `#`."""
     try:
-        with open(file, "rb") as opened:
+        with open(file, "rb", opener=lambda path, _: os.open(path, OPENED)) as opened:
+            if not stat.S_ISREG(os.fstat(opened.fileno()).st_mode):
+                raise WrongRule(f"cannot read {file}: it is not a regular file")
             data = opened.read(MAX_FILE_BYTES + 1)
         if len(data) > MAX_FILE_BYTES:
             raise WrongRule(f"{file} has more than {MAX_FILE_BYTES} bytes")

@@ -85,8 +85,10 @@ def a_file_that_changes(program: str) -> None:
         known.write_text("X13\n# longer\n", encoding="utf-8")
         editor.save(FILE)
         assert shown(editor) == {CALLED: [MISSING]}, shown(editor)
-        for text, why in (("X99\n", "'X99' is not a fault code"), (None, f"cannot read {known}: No such file or directory")):
-            known.unlink() if text is None else known.write_text(text, encoding="utf-8")
+        for change, why in ((lambda: known.write_text("X99\n", encoding="utf-8"), "'X99' is not a fault code"),
+                            (known.unlink, f"cannot read {known}: No such file or directory"),
+                            (lambda: os.mkfifo(known), f"cannot read {known}: it is not a regular file")):
+            change()
             editor.messages.clear()
             editor.save(FILE)
             editor.save(FILE)

@@ -35,8 +35,8 @@ CASES = Cases("notes")
 FILE = WORKFLOWS + "a.yml"
 SECONDS = 60.0
 JOB = "on: push\njobs:\n  a:\n    runs-on: ubuntu-latest\n    steps:\n"
-FAILING = {FILE: JOB + "      - uses: actions/upload-artifact@v3\n"}
-MESSAGE = 'GitHub fails each run of "actions/upload-artifact@v3"'
+FAILING = {FILE: JOB + "      - uses: actions/download-artifact@v3\n"}
+MESSAGE = 'GitHub fails each run of "actions/download-artifact@v3"'
 LINE = f"{FILE}:6:15: {MESSAGE} [note]"
 # A shell's program in place of actionlint-facts: it is gone, answers nothing that is JSON, has no answer, or doesn't answer.
 WRONG_FACTS = {"ends": "exit 0", "words": "echo words; cat", "list": "echo []; cat",
@@ -109,12 +109,27 @@ def each_row(program: str) -> None:
     assert [re.findall('"(.*?)"', line)[0] for line in found] == list(labels["ended"]), found
     uses = [f"{name}@v{major}" for name, row in actions.items() for kind in ("fail", "node 12", "node 16") for major in row.get(kind, [])]
     newest = [f"{name}@v{max(row.get('node 16') or row.get('fail') or row['node 12']) + 1}" for name, row in actions.items()]
-    found = lines_of(program, {FILE: JOB + "".join(f"      - uses: {one}\n" for one in [*uses, *newest])})
+    lines = lines_of(program, {FILE: JOB + "".join(f"      - uses: {one}\n" for one in [*uses, *newest])})
+    found = [line for line in lines if " needs input " not in line]
     assert [re.findall('"(.*?)"', line)[0] for line in found] == uses, found
     events = table("../github")["activity types"]
     text = "on:\n" + "".join(f"  {name}: {{types: [{', '.join([*types, 'no'])}]}}\n" for name, types in events.items())
     found = lines_of(program, {FILE: text + JOB.partition("\n")[2] + "      - run: a\n"})
     assert [re.findall('"(.*?)"', line) for line in found] == [[name, "no"] for name in events], found
+
+
+@CASES.case
+def each_interface(program: str) -> None:
+    """Each input and output of a known action is taken; with a letter more each is found, and so is each input that is needed."""
+    for more in ("", "q"):
+        steps, wanted = "", []
+        for number, (name, row) in enumerate(table("interfaces")["actions"].items()):
+            given = "".join(f"          {one}{more}: a\n" for one in row["inputs"])
+            read = "".join(f"      - run: echo ${{{{ steps.i{number}.outputs.{one}{more} }}}}\n" for one in row.get("outputs", []))
+            steps += f"      - uses: {name}@v{row['closed'] + 1}\n        id: i{number}\n        with:\n{given}{read}"
+            wanted += [one + more for one in row["inputs"] + row.get("outputs", [])] + row.get("needed", [])
+        found = [re.findall('"(.*?)"', line)[1] for line in lines_of(program, {FILE: JOB + steps})]
+        assert sorted(found) == (sorted(wanted) if more else []), (more, found)
 
 
 def table(name: str) -> dict:
@@ -167,11 +182,11 @@ def reports(program: str) -> None:
         ran = report(program, FAILING, "--form=jsonl", *words)
         told = json.loads(ran.stdout)
         assert (ran.returncode, told["code"], told["level"], told["message"], told["kind"]) == (status, "N15", level, MESSAGE, "note"), told
-        assert told["advice"] == "Use the newest major version." and told["end_column"] - told["column"] == 26, told
+        assert told["advice"] == "Use the newest major version." and told["end_column"] - told["column"] == 28, told
         sarif = json.loads(report(program, FAILING, *words).stdout)["runs"][0]
         assert sarif["results"][0]["level"] == level and sarif["tool"]["driver"]["rules"][0]["id"] == "N15", sarif
     text = report(program, FAILING, "--form=text", "--notes").stdout
-    assert text.endswith("0 faults and 1 note (not proved) in 1 file\n") and "      - uses: actions/upload-artifact@v3\n" in text, text
+    assert text.endswith("0 faults and 1 note (not proved) in 1 file\n") and "      - uses: actions/download-artifact@v3\n" in text, text
     assert report(program, FAILING, "--form=github", "--notes").stdout.startswith("::notice file=.github/workflows/a.yml,line=6,"), text
     assert json.loads(report(program, FAILING, "--form=codequality", "--notes").stdout)[0]["severity"] == "info"
     ran = report(program, FAILING, "--form=oneline", "--notes=error", "--ignore=N15", "--ignore=n13")

@@ -282,8 +282,11 @@ def ignored_faults(program: str) -> None:
         assert (found, errors) == (1, "actionlint-report: 1 fault in 1 file, 2 ignored\n") and len(said.splitlines()) == 1, (said, errors)
         # A run that could not go on is reported as such, whatever is ignored.
         assert run(program, folder, "--ignore", "X13", "no.yml")[0] == 3
+        os.mkfifo(folder + "/pipe")
         for words, why in ((["--ignore", "X99"], "'X99' is not a fault code"), (["--ignore", "expression"], "is not a fault code"),
-                           (["--ignore", "X13:"], "names no file"), (["--ignore-file", "none"], "cannot read none: No such file")):
+                           (["--ignore", "X13:"], "names no file"), (["--ignore-file", "none"], "cannot read none: No such file"),
+                           (["--ignore-file", "pipe"], "cannot read pipe: it is not a regular file"),
+                           (["--ignore-file", "."], "cannot read .: Is a directory")):
             found, said, errors = run(program, folder, *words)
             assert (found, said) == (2, "") and why in errors, (words, errors)
 

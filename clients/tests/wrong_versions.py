@@ -229,6 +229,8 @@ WRONG_VERSIONS = {name: WrongVersion(*row) for name, *row in (
      "if options.guesses and not (options.diff or options.fix):", "if False:"),
     ("every_rule_is_unused", "ignoring.py", "report_forms.py rules_that_ignore_nothing", "self._used |= found", "pass"),
     ("ignored_faults_are_shown", "ignoring.py", "ignore_files.py by_an_argument", "if not self.has_fault(fault))", ")"),
+    ("rules_come_from_pipes", "ignoring.py", "report_forms.py ignored_faults",
+     "if not stat.S_ISREG(os.fstat(opened.fileno()).st_mode):", "if False:"),
     ("rules_are_read_once", "ignoring.py", "ignore_files.py a_file_that_changes",
      "if stamps != self._stamps:", "if not self._stamps and stamps:"),
     ("old_rules_outlive_their_file", "ignoring.py", "ignore_files.py a_file_that_changes",

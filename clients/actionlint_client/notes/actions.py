@@ -19,6 +19,8 @@ def versions(file: File) -> Iterator[Finding]:
         if uses is None or found is None or row is None:
             continue
         major, minor = int(found[1]), int(found[2]) if found[2] else None
+        if minor is not None and major in row.get("mixed", []):
+            continue
         node = next((node for node in ("12", "16") if major in row.get(f"node {node}", [])), None)
         if major in row.get("fail", []) or minor is not None and minor < row.get("fail before", {}).get(str(major), 0):
             yield note("N15", uses, uses.text)

@@ -1,7 +1,7 @@
 """Rows of matrices: values that are there twice, and values that no row has."""
 from __future__ import annotations
 
-from typing import Iterator
+from typing import Any, Iterator
 
 from ..facts_tree import Chain, Expression, Node
 from ..facts_tree import walk as parts_of
@@ -42,7 +42,7 @@ def repeated_values(file: File) -> Iterator[Finding]:
         matrix, needs = job.get("strategy", "matrix"), job.get("needs")
         named = [key for key, _ in matrix.entries] if matrix else []
         for items in ([row.items for _, row in rows(job)] + [needs.items if needs else [], named]):
-            seen: set[tuple] = set()
+            seen: set[tuple[Any, ...]] = set()
             for item in items:
                 value, text = _value(item), _in_a_line(item)
                 if value in seen and not has_expression(text):
@@ -50,9 +50,9 @@ def repeated_values(file: File) -> Iterator[Finding]:
                 seen.add(value)
 
 
-def _value(node: Node) -> tuple:
+def _value(node: Node) -> tuple[Any, ...]:
     """What two equal values have in common."""
-    below = [(key.text, _value(value)) for key, value in node.entries] or [_value(item) for item in node.items]
+    below: list[Any] = [(key.text, _value(value)) for key, value in node.entries] or [_value(item) for item in node.items]
     return node.kind, node.schema_class, node.text, *below
 
 

@@ -1,4 +1,4 @@
-"""Outputs of steps that their scripts never write."""
+"""Outputs of steps that their scripts or actions never write."""
 from __future__ import annotations
 
 import re
@@ -6,6 +6,7 @@ from typing import Iterator
 
 from ..facts_tree import walk as parts_of
 from .file import File, Finding, names_of, note, table
+from .interfaces import lacks
 
 NAME = re.compile(r"""\s*(?:echo|printf)\s+["']?([A-Za-z_][\w-]*)(?:=|<<)[^|;&]*>>\s*"?\$\{?GITHUB_OUTPUT\}?"?\s*""")
 COMMAND = re.compile(r"(?:^|\||&&|;|\$\(|`|\bif\b|\bthen\b|\bdo\b|\belse\b)\s*(?=((?:\w+=(?:[^\s$`]|\$(?!\())*\s+)*[^\s;|&()`]+))")
@@ -34,16 +35,21 @@ def _is_plain(line: str) -> bool:
 
 
 def unwritten_outputs(file: File) -> Iterator[Finding]:
-    """N23: an output that the script of its step doesn't write, though it writes others, and nothing else in it could."""
+    """N23: an output that the script of its step doesn't write, though it writes others, and nothing else in it could; or one that a known
+    action doesn't have."""
     written: dict[tuple[int, str], set[str] | None] = {}
+    called: dict[tuple[int, str], str] = {}
     for job, step in file.steps:
-        identifier, script = step.scalar("id"), step.scalar("run")
+        identifier, script, uses = step.scalar("id"), step.scalar("run"), step.scalar("uses")
         if identifier and script:
             written[(job or file.root).start, identifier.lower()] = names_written(script)
+        elif identifier and uses:
+            called[(job or file.root).start, identifier.lower()] = uses
     for owner, trees in file.expressions_by_job:
         for part in (part for tree in trees for part in parts_of(tree)):
             names = names_of(part)
-            if len(names) == 4 and (names[0], names[2]) == ("steps", "outputs"):
-                found = written.get((owner.start, names[1]))
-                if found and names[3] != "*" and names[3] not in found:
+            if len(names) == 4 and (names[0], names[2]) == ("steps", "outputs") and names[3] != "*":
+                step_id = owner.start, names[1]
+                found, uses = written.get(step_id), called.get(step_id, "")
+                if found and names[3] not in found or lacks(uses, "outputs", names[3]):
                     yield note("N23", part, names[1], names[3])

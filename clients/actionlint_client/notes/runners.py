@@ -62,11 +62,21 @@ def labels_of_two_runners(file: File) -> Iterator[Finding]:
 
 
 def missing_shells(file: File) -> Iterator[Finding]:
-    """N30: a shell that GitHub's runners with the job's only label don't have, of a step or as the job's default."""
-    defaults = [(job, job.get("defaults", "run", "shell")) for _, job in file.jobs]
-    for job, shell in [(job, step.get("shell")) for job, step in file.steps if job] + defaults:
-        named = _named(job)
-        label = named[0].text.lower() if len(named) == 1 else ""
-        system = label.partition("-")[0] if label in TABLE["known"] else ""
-        if shell and shell.text in TABLE["missing shells"].get(system, []) and job.get("container") is None:
+    """N30: a shell that GitHub doesn't list for the only system of a job's runners, of a step or as the default that it has."""
+    systems = {job.start: _system(file, job) for _, job in file.jobs}
+    for job, step in file.steps:
+        if job is None or step.get("run") is None:
+            continue
+        defaults = [section for owner in (job, file.root) if (section := owner.get("defaults", "run"))]
+        shell = next((found for section in [step, *defaults] if (found := section.get("shell"))), None)
+        system, label = systems[job.start]
+        if shell and shell.text in TABLE["missing shells"].get(system, []):
             yield note("N30", shell, shell.text, label)
+
+
+def _system(file: File, job: Node) -> tuple[str, str]:
+    """The only system of a job's runners, with a label. Empty if there are several, or it may run on own runners or in a container."""
+    named = _named(job) if job.get("container") is None else []
+    given = _given_by(file, job, named[0]) if len(named) == 1 else []
+    systems = {one.text.lower().partition("-")[0] if one.text.lower() in TABLE["known"] else "" for one in given}
+    return (systems.pop(), given[0].text) if len(systems) == 1 else ("", "")

@@ -1,0 +1,36 @@
+"""Inputs and outputs of known actions in other repositories."""
+from __future__ import annotations
+
+import re
+from typing import Iterator
+
+from .actions import VERSION
+from .file import File, Finding, is_slip, note, table
+
+ACTIONS = table("interfaces")["actions"]
+SIGNS = re.compile(r"[-_]")
+
+
+def lacks(uses: str, kind: str, name: str) -> bool:
+    """Whether an action surely has no input or output (`kind`) of a name in lower case. For versions that may still get others, only slips
+    of known names are sure."""
+    action, _, version = uses.partition("@")
+    row = ACTIONS.get(action.lower(), {})
+    known, found = [one.lower() for one in row.get(kind, [])], VERSION.fullmatch(version)
+    if not known or name in known:
+        return False
+    is_closed = found is not None and int(found[1]) <= row["closed"]
+    return is_closed or any(is_slip(name, one) or SIGNS.sub("", name) == SIGNS.sub("", one) for one in known)
+
+
+def inputs_of_actions(file: File) -> Iterator[Finding]:
+    """N33: an input that a known action doesn't have. N34: one that it needs, and isn't given."""
+    for _, step in file.steps:
+        uses, given = step.get("uses"), step.get("with")
+        if uses is None:
+            continue
+        # (a blank in a name is the same as `_`)
+        names = [(key, key.text.lower().replace(" ", "_")) for key, _ in (given.entries if given else [])]
+        yield from (note("N33", key, uses.text, key.text) for key, name in names if lacks(uses.text, "inputs", name))
+        needed = ACTIONS.get(uses.text.partition("@")[0].lower(), {}).get("needed", [])
+        yield from (note("N34", uses, uses.text, one) for one in needed if one not in [name for _, name in names])
