@@ -167,6 +167,8 @@ class FirstFaults:
     def take(self, block: bytes) -> None:
         """Takes the next part of the answer."""
         self._size += len(block)
+        if self.is_too_long():
+            return
         if self._ended < self._most:
             self.held += block
             self._search()
