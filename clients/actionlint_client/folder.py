@@ -16,7 +16,7 @@ from .faults import MAX_FAULTS, FileFaults, faults_of
 from .files import Files
 from .linter_limits import MAX_FILE_BYTES, MAX_FILES, MAX_PATH_BYTES
 from .paths import is_workflow
-from .program import find_facts, missing_facts, missing_linter
+from .program import find_facts, missing_linter
 from .reader import Reader
 
 ENDS_OF_A_FILE = 2
@@ -187,7 +187,7 @@ class Folder:
     def _started(self) -> Facts:
         if self._facts is None:
             linter = self._program.words[0]
-            if missing := missing_linter(linter) or missing_facts(linter):
+            if missing := missing_linter(linter):
                 raise LinterMissing(missing)
             self._facts = Facts([find_facts(linter)], self._program.timeout)
             self._missing = ""
