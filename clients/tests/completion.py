@@ -231,7 +231,7 @@ jobs:
         offer = next(offer for offer in found if offer.label == label)
         assert offer.text == f"- {label}: ", offer
         value = {"cron": "'0 0 * * *'", "uses": "actions/checkout@v4"}.get(label, "a")
-        assert not linter.faults(FILE, put(before + after, span, offer.text + value)[0]), (line, label)
+        assert not faults_after(linter, FILE, put(before + after, span, offer.text + value)[0]), (line, label)
 
 
 @CASES.case

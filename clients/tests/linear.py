@@ -23,7 +23,7 @@ from promises import end, script, start
 from readers import reader
 from repositories import ACTION, CALLED, FILE, FILES, RIGHT, UNDEFINED, WORKFLOWS, WRONG, reported, write
 
-from actionlint_client import disk, facts, folder as folders, positions
+from actionlint_client import disk, facts, folder as following, positions
 from actionlint_client.diagnostics import Diagnostics
 from actionlint_client.files import may_call
 from actionlint_client.folder import REASONS, REPORTS_TOO_MUCH, Folder, Program
@@ -300,8 +300,8 @@ def the_first_faults(program: str) -> None:
 
 @CASES.case
 def only_what_was_rechecked_is_asked(program: str) -> None:
-    """Beside 300 files with a fault each, only the faults of the edited one are read, and of a call cycle those of its files. Those of all are
-    read at once, if they aren't too long."""
+    """Beside 300 files with a fault each, only the faults of the edited one are read, and of a call cycle those of its files. Those of all
+    are read at once, if they aren't too long."""
     root = tempfile.mkdtemp(prefix="actionlint-test-")
     one, two = f"{WORKFLOWS}one.yml", f"{WORKFLOWS}two.yml"
     wrong = {f"{WORKFLOWS}{number:04}.yml": WRONG for number in range(300)}
@@ -314,7 +314,7 @@ def only_what_was_rechecked_is_asked(program: str) -> None:
         first = folder.refresh().faults
         assert len(first) == 302 and not asked
         folder.close()
-        with mock.patch.object(folders, "MAX_REPORT_BYTES", 100):
+        with mock.patch.object(following, "MAX_REPORT_BYTES", 100):
             folder = Folder(os.fsencode(root), Program([program], 20.0), print)
             assert folder.refresh().faults == first and len(asked) == 303
         for path, text, paths in ((FILE, RIGHT, {FILE}), (FILE, RIGHT, set()), (FILE, WRONG, {FILE}),
