@@ -178,7 +178,7 @@ def shells(share, room):
     if shutil.which("zsh"):
         found = zsh_words(share / "zsh/site-functions/_actionlint") + zsh_words(share / "zsh/site-functions/_actionlint-report")
         wanted = ["--oneline[Prints each fault as one line, without the line of the file below it]",
-                  r"--root=[The repository's folder \[default\: .\]]:DIR:_files -/", "*:FILE:_files"]
+                  r"--root=[The root directory of the repository \[default\: .\]]:DIR:_files -/", "*:FILE:_files"]
         wrong = [f"{it!r} is missing of {found}" for it in wanted if it not in found]
         colors = [it for it in found if it.startswith("--color=[") and it.endswith(":value:(auto always never)")]
         yield "zsh", wrong + ([] if colors else [f"no colors are in {found}"])

@@ -318,7 +318,7 @@ def calls(place):
 
 def order_of_calls(place):
     """Of the paths that calls still wait for, the first one is tried each time, even if the file read last asked for it; the first fault
-    ends the run, and a file is read before it is counted."""
+    ends the run, and a called file is read before it is counted, a listed one after that."""
     no = b""
     workflow, large = f"{WORKFLOWS}/m.yml", b"#" * 1_048_577
     calling = lambda *names: CLEAN.replace(b"      - run: echo\n", b"".join(b"      - uses: ./%s\n" % name.encode() for name in names))
@@ -340,6 +340,10 @@ def order_of_calls(place):
     place.case("called-file-is-the-4097th", 3, no, refused("x/action.yml", 4))
     place.write("x/action.yml", large)
     place.case("called-file-too-large-is-the-4097th", 3, no, refused("x/action.yml", 3))
+    place.write(f"{WORKFLOWS}/0000.yml", large)
+    place.case("large-file-among-4096-listed-ones", 3, no, refused(f"{WORKFLOWS}/0000.yml", 3))
+    place.write(f"{WORKFLOWS}/z.yml", CLEAN)
+    place.case("4097-listed-files-are-refused-before-one-is-read", 3, no, refused(f"{WORKFLOWS}/z.yml", 4))
 
 
 # ---- the folders of examples

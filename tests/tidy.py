@@ -30,10 +30,11 @@ COMMENTED = ("clients/actionlint_client/**/*.py", "clients/actionlint-*", "clien
              "clients/github/run")
 # what a user reads beside pages: texts of helps and messages
 SHOWN = ("action.yml", ".pre-commit-hooks.yaml", "release", "tools/find_program.sh", "tools/build.py", "clients/which-actionlint",
-         "clients/actionlint_client/*.py", "clients/actionlint-*")
+         "clients/actionlint_client/*.py", "clients/actionlint-*", "crates/*/src/**/*.rt")
 COMMENT_OF_SCRIPTS = re.compile(r'^ *#.*$|^ *"""(?:.|\n)*?"""$', re.MULTILINE)
-# texts in quotes; in YAML those after a key
+# texts in quotes, which in Rattle may take several lines; in YAML those after a key
 QUOTED = re.compile(r"\"[^\"\n]*\"|'[^'\n]*'")
+LITERAL = re.compile(r"'\"'|\"(?:[^\"\\]|\\.)*\"", re.DOTALL)
 VALUE = re.compile(r"(?<=: ).*$", re.MULTILINE)
 LONGEST_OF_PAGES, MOST_OF_PAGES = 140, 4_400
 # what isn't text: rows, pictures, comments and code
@@ -80,14 +81,21 @@ def comments_of(text):
     return re.sub(r"^ *# ?", "", " ".join(COMMENT_OF_SCRIPTS.findall(text)), flags=re.MULTILINE)
 
 
+def shown_in(file):
+    """The texts of a source from which its messages are made."""
+    text = file.read_text(encoding="utf-8")
+    if file.suffix == ".rt":
+        return LITERAL.findall(COMMENT.sub("", text))
+    texts_of = VALUE if file.suffix in (".yml", ".yaml") else QUOTED
+    return texts_of.findall(COMMENT_OF_SCRIPTS.sub("", text))
+
+
 def unusual_words(top):
     """The words on pages, in helps, in messages and in comments of the clients for which there is a usual one."""
     texts = {file: CODE.sub("", file.read_text(encoding="utf-8")) for file in pages_of(top)}
     of_clients = {it for name in COMMENTED for it in top.glob(name)}
     for file in sorted(it for name in SHOWN for it in top.glob(name)):
-        texts_of = VALUE if file.suffix in (".yml", ".yaml") else QUOTED
-        shown = texts_of.findall(COMMENT_OF_SCRIPTS.sub("", file.read_text(encoding="utf-8")))
-        texts[file] = re.sub(r"\{[^{}]*\}", "", " ".join(it for it in shown if " " in it))
+        texts[file] = re.sub(r"\{[^{}]*\}", "", " ".join(it for it in shown_in(file) if " " in it))
     for file in sorted(of_clients):
         texts[file] = texts.get(file, "") + " " + CODE.sub("", comments_of(file.read_text(encoding="utf-8")))
     for file, text in texts.items():

@@ -42,7 +42,7 @@ class Row:
 
 
 def rows() -> list[Row]:
-    return [Row(*head, files) for head, files, _ in blocks(ROWS, HEAD)]
+    return [Row(*head, files=files) for head, files, _ in blocks(ROWS, HEAD)]
 
 
 def linked(found: str) -> str:

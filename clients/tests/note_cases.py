@@ -40,7 +40,7 @@ def blocks(file: Path, head: re.Pattern[str]) -> Iterator[tuple[tuple[Any, ...],
 
 
 def note_cases(file: Path = FILE) -> list[NoteCase]:
-    return [NoteCase(*head, files, notes) for head, files, notes in blocks(file, HEAD)]
+    return [NoteCase(*head, files=files, notes=notes) for head, files, notes in blocks(file, HEAD)]
 
 
 def cases_by_name() -> dict[tuple[str, str], NoteCase]:

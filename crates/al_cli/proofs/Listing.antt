@@ -1,9 +1,15 @@
 -- Files taken one after another that a folder has, and those that it lists.
-use Rattle.std.proofs.Common.{◌≡◌, ℕ, Bool, true, false, ◌||◌, ◌&&◌, if◌then◌else◌, List, [], ◌∷◌, ◌++◌, map, Option, None, Some, Ok, refl, sym, ap, ◌∙◌, subst, append_assoc, append-nil}
-use Rattle.std.specs.Prelude.{String, Vec, bytes_eq, filter, string_bytes}
+use Rattle.std.proofs.Common.{◌≡◌, ℕ, Bool, true, false, ◌||◌, ◌&&◌, if◌then◌else◌, List, [], ◌∷◌, ◌++◌, ◌≤◌, length, map}
+use Rattle.std.proofs.Common.{Option, None, Some, Ok, refl, sym, ap, ◌∙◌, subst, append_assoc, append-nil, option_map}
+use Rattle.std.specs.Prelude.{String, Vec, bytes_eq, filter, slice_get, string_bytes}
+use Rattle.std.specs.Borrow.{Bor}
 use Rattle.std.specs.Global.{Global}
 use Rattle.std.specs.BTreeSet.{BTreeSet}
+use Rattle.std.specs.Iterator.{SkipsThenYields, YieldsFirstBy}
+use Rattle.std.proofs.lemmas.Iterator.Consumers.{YieldsList-from_first, nth_from_yields_List}
+use Rattle.std.proofs.lemmas.List.{length-map}
 use Rattle.std.proofs.lemmas.List.Folds.{list_any-append}
+use Rattle.al_base.specs.Limits.{most_files}
 use Rattle.al_session.specs.Affected.{is_among}
 use Rattle.al_session.specs.Folder.{paths_of}
 use Rattle.al_session_folder.proofs.Views.{bytes_same}
@@ -60,13 +66,20 @@ found_file (Some folder) p = tt
 abbrev texts : List (String Global) → List (List ℕ)
 texts ks = map (λ (s : String Global). string_bytes s) ks
 
+-- what an iterator over these paths gives after the first n
+pub path_at : (r : Option (Bor (String Global))) (k : Bor (String Global)) (s u ks : List (String Global)) (n : ℕ) → r ≡ Some k → s ≡ ks
+    → SkipsThenYields (YieldsFirstBy (λ (x : Bor (String Global)). x.now) (λ l. l)) s n r u → slice_get ks n ≡ Some k.now
+path_at r k s u ks n is all ran =
+    sym (nth_from_yields_List r u n ran (YieldsList-from_first (λ (x : Bor (String Global)). x.now) (λ l. l) ks all))
+    ∙ ap (option_map (λ (x : Bor (String Global)). x.now)) is
+
 abbrev has_file : Holding → List ℕ → Bool
 has_file folder p = is_file (folder.has p)
 
--- the taken paths, and those of the rest at which the folder has a file, are the paths that it lists and has a file at
+-- the taken paths, and those of the rest at which the folder has a file, are the paths that it lists and has a file at, of which there aren't too many
 abbrev pub Covers : Option Holding → List (List ℕ) → List (List ℕ) → Type 0
 Covers None taken rest = Unit {0}
-Covers (Some folder) taken rest = (listed : List (List ℕ)) × (folder.listed ≡ Some listed)
+Covers (Some folder) taken rest = (listed : List (List ℕ)) × (folder.listed ≡ Some listed) × (length listed ≤ most_files)
     × ((p : List ℕ) → is_among p (taken ++ filter (has_file folder) rest) ≡ (is_among p listed && has_file folder p))
 
 and_or : (a b c : Bool) → (a ≡ true → c ≡ true) → (a || (b && c)) ≡ ((a || b) && c)
@@ -119,10 +132,10 @@ file_held folder es gs q b is held new =
 
 -- before the loop, nothing is taken
 pub covers_start : (h : Option Holding) (es : List (List ℕ × List ℕ)) (set : BTreeSet (String Global)) (rest : List (String Global)) → es ≡ [] → rest ≡ set.keys
-    → TellsListing h (Ok set) → Covers h (paths_of es) (texts rest)
-covers_start None es set rest none same lists = tt
-covers_start (Some folder) es set rest none same lists =
-    (texts set.keys, lists, λ p. rw (none, same) (among_filter (has_file folder) (texts set.keys) p))
+    → TellsListing h (Ok set) → length set.keys ≤ most_files → Covers h (paths_of es) (texts rest)
+covers_start None es set rest none same lists few = tt
+covers_start (Some folder) es set rest none same lists few =
+    (texts set.keys, lists, rw (length-map set.keys (λ (s : String Global). string_bytes s)) few, λ p. rw (none, same) (among_filter (has_file folder) (texts set.keys) p))
 
 -- in each iteration, the next path is taken
 pub covers_next : (h : Option Holding) (es gs : List (List ℕ × List ℕ)) (k : String Global) (ks ls : List (String Global)) (q : List ℕ)
@@ -137,8 +150,9 @@ covers_next (Some folder) es gs k ks ls q covers step text taken held =
     (file_held folder es gs q taken.0 taken.1 held (subst (λ (x : List ℕ). is_among x (paths_of es) ≡ false) (sym text) new)) in (
       covers.0,
       covers.1,
+      covers.2,
       λ p. same_among (has_file folder) (paths_of es) (paths_of gs) (filter (has_file folder) (texts ls)) (string_bytes k) p paths file
-          ∙ (rw step at covers.2 p),
+          ∙ (rw step at covers.3 p),
     )
 
 -- or it is skipped
@@ -151,8 +165,9 @@ covers_over (Some folder) es fs gs k ks ls q covers step text out same again =
     let others = filter (has_file folder) (texts ls) in (
       covers.0,
       covers.1,
+      covers.2,
       λ p. ap (λ (l : List (List ℕ × List ℕ)). is_among p (paths_of l ++ others)) (again ∙ same)
-          ∙ sym (ap (λ (t : Bool). is_among p (paths_of es ++ (if t then string_bytes k ∷ others else others))) none) ∙ (rw step at covers.2 p),
+          ∙ sym (ap (λ (t : Bool). is_among p (paths_of es ++ (if t then string_bytes k ∷ others else others))) none) ∙ (rw step at covers.3 p),
     )
 
 -- after the loop, nothing is left
@@ -160,4 +175,4 @@ pub covers_end : (h : Option Holding) (es : List (List ℕ × List ℕ)) (rest :
     → AreListedFiles h (paths_of es)
 covers_end None es rest none covers = tt
 covers_end (Some folder) es rest none covers =
-    (covers.0, covers.1, λ p. ap (is_among p) (sym (append-nil (paths_of es))) ∙ (rw none at covers.2 p))
+    (covers.0, covers.1, covers.2, λ p. ap (is_among p) (sym (append-nil (paths_of es))) ∙ (rw none at covers.3 p))

@@ -4,3 +4,4 @@ pub mod Puts
 pub mod Kept
 pub mod Turns
 pub mod Endings
+pub mod Reasons

@@ -1,11 +1,12 @@
 -- Files that a run took, in the order in which it put them.
-use Rattle.std.specs.Prelude.{◌≡◌, ◌&&◌, ℕ, true, nat_eq, codes, drop, fold, if◌then◌else◌, map, List, [], ◌∷◌, ◌++◌}
+use Rattle.std.specs.Prelude.{◌≡◌, ◌≤◌, ◌&&◌, ℕ, true, nat_eq, codes, drop, fold, if◌then◌else◌, length, map, List, [], ◌∷◌, ◌++◌}
 use Rattle.std.specs.Prelude.{Option, None, Some, Vec}
 use Rattle.std.specs.Cmp.Lexicographic.{slice_cmp}
 use Rattle.std.specs.Global.{Global}
 use Rattle.std.specs.List.{flat_map, starts_with}
 use Rattle.std.specs.List.Sorted.{IsStrictlySortedBy}
 use Rattle.std.specs.Ordering.{nat_cmp}
+use Rattle.al_base.specs.Limits.{most_files}
 use Rattle.al_session.specs.Affected.{is_among}
 use Rattle.al_session.specs.Folder.{Folder, bytes_at, paths_of, with_file}
 use Rattle.al_session.specs.Meaning.{candidates}
@@ -43,10 +44,10 @@ abbrev pub AreHeld : Option Holding → List (List ℕ × List ℕ) → Type 0
 AreHeld holding [] = Unit {0}
 AreHeld holding (e ∷ es) = IsHeld holding e.0 e.1 × AreHeld holding es
 
--- these are the paths that the folder lists and has a file at
+-- the folder lists no more paths than a run takes, and these are those that it has a file at
 abbrev pub AreListedFiles : Option Holding → List (List ℕ) → Type 0
 AreListedFiles None paths = Unit {0}
-AreListedFiles (Some folder) paths = (listed : List (List ℕ)) × (folder.listed ≡ Some listed)
+AreListedFiles (Some folder) paths = (listed : List (List ℕ)) × (folder.listed ≡ Some listed) × (length listed ≤ most_files)
     × ((p : List ℕ) → is_among p paths ≡ (is_among p listed && is_file (folder.has p)))
 
 -- the paths that FILEs ask for: their own, in order, each once; if there are no FILEs, those of the

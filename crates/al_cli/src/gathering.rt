@@ -1,14 +1,15 @@
 //! The files that a run without a script lints: those that it is given, and those that they call.
 
-ghost use Rattle.std.specs.Prelude.{◌≡◌, ◌≤◌, [], IfOk, OnOk, Ok, None, length, map, string_bytes, true};
+ghost use Rattle.std.specs.Prelude.{◌≡◌, ◌<◌, ◌≤◌, [], IfErr, IfOk, IsErrAnd, OnOk, Ok, None, length, map, string_bytes, true};
 ghost use Rattle.std.specs.List.{AllByRecursion};
 ghost use Rattle.std.specs.List.Sorted.{IsStrictlySortedBy};
 ghost use Rattle.std.specs.Ordering.{nat_cmp};
 ghost use Rattle.std.specs.Cmp.Lexicographic.{slice_cmp};
-ghost use Rattle.al_base.specs.Limits.{largest_file};
+ghost use Rattle.al_base.specs.Limits.{largest_file, most_files};
 ghost use Rattle.al_session.specs.Affected.{is_among};
 ghost use Rattle.al_session.specs.Folder.{paths_of};
 ghost use Rattle.al_cli.specs.Disk.{TellsListing};
+ghost use Rattle.al_cli.specs.Private.Reasons.{IsFailure, IsRefusal, IsTooMany, TellsAlso};
 ghost use Rattle.al_cli.specs.Private.Turns.{AreAmong, IsCalling, IsFoundAt, IsTakenAs};
 ghost use Rattle.al_cli.specs.Private.Turns.{IsTakenIfThere, KeepsHeld};
 ghost use Rattle.al_cli.specs.Taken.{AreAsked, AreGathered, AreHeld, AreInOrder, AreListedFiles};
@@ -16,6 +17,7 @@ ghost use Rattle.al_cli.specs.Taken.{IsGathered, called_by, each_once, owned_ent
 
 use crate::disk::{Disk, DiskError, Entry, SystemDisk, WORKFLOWS};
 use crate::taken::TakenFiles;
+use al_base::limits::MOST_FILES;
 use al_base::{Path, path_fault, printable};
 use al_check::Actions;
 use al_cli_words::Words;
@@ -81,7 +83,8 @@ impl<T: Drop> From<AllocFailed<T>> for Unread {
 /// # Errors
 ///
 /// [`Unread`], for the first file that can't be read or is refused, or if memory runs out. A path
-/// is refused before it is read, and of a file at most 1,048,577 bytes are asked for.
+/// is refused before it is read, a folder that lists more than 4,096 workflows before any of them
+/// is, and of a file at most 1,048,577 bytes are asked for.
 #[tactic(auto, using(crate::proofs::Turns::all_small))]
 pub fn gather<R: Files + RandomSource + AllocGlobal + Clone + Drop>(
     rt: &R,
@@ -258,7 +261,11 @@ impl Gathering {
         ensures stays { OnOk result (D.holds disk.new root.now ≡ D.holds disk.old root.now) }
         ensures waiting { OnOk result
             ((self.new).candidates.waiting.keys ≡ (self.old).candidates.waiting.keys) }
+        ensures refused { most_files < length listed.now.keys
+            → IsErrAnd result (IsTooMany listed.now.keys) }
+        ensures unread { most_files < length listed.now.keys → disk.new ≡ disk.old }
     {
+        self.check_count(listed)?;
         for path in listed {
             let path = path.as_str();
             match self.take(disk, root, path)? {
@@ -268,6 +275,17 @@ impl Gathering {
             }
         }
         Ok(())
+    }
+
+    // Refuses the first path for which those before it leave no room.
+    fn check_count(&self, listed: &BTreeSet<String>) -> Result<(), Unread>
+        ensures few { OnOk result (length listed.now.keys ≤ most_files) }
+        ensures many { IfErr result (IsTooMany listed.now.keys) }
+    {
+        match listed.iter().nth(MOST_FILES) {
+            Some(path) => Err(self.refusal(path.as_str(), Refused::Full)),
+            None => Ok(()),
+        }
     }
 
     // Takes the files that the command line names, which must exist.
@@ -349,6 +367,8 @@ impl Gathering {
 
     // Skips a path whose symbolic links point outside the folder, for good.
     fn pass_over(&mut self, path: &str) -> Result<(), Unread>
+        ensures told { OnOk result
+            (TellsAlso (self.old).outside.items (self.new).outside.items path.now) }
         ensures files { (self.new).files ≡ (self.old).files }
         ensures waiting { (self.new).candidates.waiting.keys
             ≡ (self.old).candidates.waiting.keys }
@@ -391,14 +411,18 @@ impl Gathering {
         }
     }
 
-    fn disk_failure(&self, path: &str, error: DiskError) -> Unread {
+    fn disk_failure(&self, path: &str, error: DiskError) -> Unread
+        ensures { IsFailure path.now error result }
+    {
         match (error, printable(self.files.alloc(), path)) {
             (DiskError::Unreadable, Ok(path)) => Unread::Unreadable(path),
             _ => Unread::Memory,
         }
     }
 
-    fn refusal(&self, path: &str, reason: Refused) -> Unread {
+    fn refusal(&self, path: &str, reason: Refused) -> Unread
+        ensures { IsRefusal path.now reason result }
+    {
         match (reason, printable(self.files.alloc(), path)) {
             (Refused::Memory, _) | (_, Err(_)) => Unread::Memory,
             (reason, Ok(path)) => Unread::Refused(path, reason),

@@ -15,7 +15,7 @@ use std::io::{BufWriter, Read};
 use std::process::ExitCode;
 use std::{env, io, mem};
 
-/// The exit status for a wrong command line.
+/// The exit status for invalid arguments.
 const BAD_WORDS: u8 = 2;
 
 /// The exit status of a run that could not go on.

@@ -11,7 +11,7 @@ loop-path-init g c =
       sorted = sorted_start c.args.self.now.files _ c.into_iter-path-iterator.result c.requires.files gives.0 gives.4;
       waiting = refl;
       covers = covers_start (g.D.Disk.holds c.args.disk.now c.args.root.now) c.args.self.now.files c.args.listed.now c.into_iter-path-iterator.result
-          c.requires.files gives.0 c.requires.listed;
+          c.requires.files gives.0 c.requires.listed c.in_ok-check_count.ensures.few;
       held = held_none (g.D.Disk.holds c.args.disk.now c.args.root.now) c.args.self.now.files c.requires.files;
       stays = refl;
     }
