@@ -108,8 +108,7 @@ def sentence(problem: Problem) -> str:
     """What to write instead: the sentence of the entry that fits the case, or its first one, or nothing without an entry."""
     if problem.entry is None:
         return ""
-    arguments = problem.entry.arguments(problem.fault.message) or ()
-    return next((slip.sentence for slip in SLIPS if slip.code == problem.code and slip.fits(problem, *arguments)),
+    return next((slip.sentence for slip in SLIPS if slip.code == problem.code and slip.fits(problem, *problem.fault.arguments)),
                 first_sentence(plain_text(problem.entry.repair)))
 
 

@@ -1,4 +1,4 @@
-"""A program that answers commands over pipes: the linter with `--session`, or actionlint-facts."""
+"""A program that answers commands over pipes, such as actionlint-facts."""
 from __future__ import annotations
 
 import os
@@ -6,7 +6,7 @@ import select
 import signal
 import subprocess
 import time
-from typing import NoReturn
+from typing import Iterator, NoReturn
 
 from .limit import LIMIT
 from .program import cannot_start
@@ -38,7 +38,6 @@ class Child:
         self._stdin, self._stdout = self._child.stdin, self._child.stdout
         os.set_blocking(self._stdin.fileno(), False)
         self._unread = b""
-        self._is_reporting = False
 
     def __del__(self) -> None:
         """Stops the program if nobody has, since what used it was cut short."""
@@ -46,16 +45,13 @@ class Child:
             self.stop()
 
     def stop(self) -> int:
-        """Stops the program and returns its status. The end of its input is enough, except while it writes, where it would complain that it
-        can't write the rest."""
+        """Stops the program and returns its status. The end of its input is enough."""
         with LIMIT.uninterrupted():
             return self._stop()
 
     def _stop(self) -> int:
         if self._child.returncode is not None:
             return self._child.returncode
-        if self._is_reporting and self._child.poll() is None:
-            os.killpg(self._child.pid, signal.SIGKILL)
         self._stdin.close()
         self._stdout.close()
         try:
@@ -68,16 +64,22 @@ class Child:
     def _line(self, max_bytes: int | None = None) -> bytes | None:
         """The next line of the output, without its line feed. None if it has more bytes than allowed: then it was read and dropped."""
         blocks, size = [], 0
-        block, self._unread = self._unread, b""
-        while b"\n" not in block:
+        for block in self._blocks():
             size += len(block)
             if max_bytes is None or size <= max_bytes:
                 blocks.append(block)
             else:
                 blocks = []
+        return None if max_bytes is not None and size > max_bytes else b"".join(blocks)
+
+    def _blocks(self) -> Iterator[bytes]:
+        """The next line of the output, without its line feed, piece by piece. All of it has to be taken before the next line."""
+        block, self._unread = self._unread, b""
+        while b"\n" not in block:
+            yield block
             block = self._read()
         last, self._unread = block.split(b"\n", 1)
-        return None if max_bytes is not None and size + len(last) > max_bytes else b"".join([*blocks, last])
+        yield last
 
     def _read(self) -> bytes:
         if not _is_ready(self._stdout.fileno(), select.POLLIN, self._timeout):
@@ -104,6 +106,9 @@ class Child:
             unsent = unsent[taken:]
 
     def _fail(self, why: str, kind: type[LinterEnded] = LinterEnded) -> NoReturn:
+        if kind is LinterSilent and self._child.returncode is None:
+            # The end of its input isn't enough: if it writes meanwhile, it complains that it can't write the rest.
+            os.killpg(self._child.pid, signal.SIGKILL)
         raise kind(f"{why} (status {self.stop()})")
 
 

@@ -4,15 +4,13 @@ from __future__ import annotations
 
 from dataclasses import dataclass, replace
 
-from .entries import entry_of
 from .faults import FileFaults
 from .positions import lines_of
 
 
 def is_no_yaml(found: FileFaults) -> bool:
     """Whether a file's one fault is that it isn't valid YAML."""
-    entry = entry_of(found.faults[0].message) if len(found.faults) == 1 else None
-    return entry is not None and entry.code.startswith("Y")
+    return len(found.faults) == 1 and found.faults[0].code.startswith("Y")
 
 
 @dataclass(frozen=True)

@@ -59,11 +59,9 @@ def entry_of(message: str) -> Entry | None:
     return _found_before(message) if len(message) <= KNOWN_CHARACTERS else _find(message)
 
 
-def argument_of(message: str) -> str | None:
-    """The first argument in a printed message."""
-    entry = entry_of(message)
-    arguments = entry and entry.arguments(message)
-    return arguments[0] if arguments else None
+@lru_cache(maxsize=None)
+def entries_by_code() -> dict[str, Entry]:
+    return {entry.code: entry for entry in entries()}
 
 
 def link_of(entry: Entry, docs: str) -> str:
@@ -104,12 +102,12 @@ def markdown_of(entry: Entry, docs: str | None, messages: Sequence[str] = ()) ->
     return f"**{entry.code}** {', '.join([*said, *more])}\n\n{text}" + (f"\n\n[{entry.page}]({link_of(entry, docs)})" if docs else "")
 
 
-def markdown_of_faults(messages: Iterable[str], docs: str | None) -> str | None:
-    """The entries of printed messages, each once, or None if no page has one of them."""
+def markdown_of_faults(faults: Iterable[tuple[str, str]], docs: str | None) -> str | None:
+    """The entries of faults, of which each is a code and a message, each entry once, or None if no page has one of them."""
     found: dict[str, tuple[Entry, list[str]]] = {}
-    for message in messages:
-        if (entry := entry_of(message)) is not None:
-            found.setdefault(entry.code, (entry, []))[1].append(message)
+    for named, message in faults:
+        if (entry := entries_by_code().get(named)) is not None:
+            found.setdefault(named, (entry, []))[1].append(message)
     return "\n\n---\n\n".join(markdown_of(entry, docs, said) for entry, said in found.values()) or None
 
 

@@ -10,6 +10,11 @@ from .facts_tree import CodedFault, Json, Node, Place, read_fault, read_node, re
 from .limit import LIMIT
 
 MAX_ANSWER_BYTES = 64 * 1_048_576
+# The answers for which only the first faults of a file are held, and how much these may take.
+MAX_FAULTS_BYTES = 1_024 * 1_048_576
+MAX_FIRST_FAULTS_BYTES = 32 * 1_048_576
+# What is between two faults, and never in a text, whose quotes are escaped.
+BETWEEN_FAULTS = b'},{"code"'
 SHOWN_OF_AN_ANSWER = 200
 
 
@@ -68,54 +73,72 @@ class Facts(Child):
         return self._edited(b"delete %s\n" % path.encode("utf-8"))
 
     def faults(self, path: str) -> list[CodedFault]:
-        return [read_fault(one) for one in self._asked("faults", path)["faults"]]
+        return [read_fault(one) for one in self._asked("faults", "faults", path)]
 
-    def report(self) -> dict[str, list[CodedFault]]:
-        """The faults of the files that have some."""
-        return _by_file(self._asked("report")["files"])
+    def first_faults(self, path: str, most: int) -> tuple[list[CodedFault], int]:
+        """The first faults of a file, at most so many, and how many more it has, which are only counted. Raises `NoAnswer` if they take
+        too many bytes."""
+        first = FirstFaults(most)
+        with LIMIT.uninterrupted():
+            self._send(f"faults {path}\n".encode())
+            for block in self._blocks():
+                first.take(block)
+        if first.is_too_long():
+            raise NoAnswer("the faults of a file take too many bytes")
+        found = self._member(self._object(bytes(first.held)), "faults")
+        return [read_fault(one) for one in found[:most]], first.more + len(found[most:])
+
+    def report(self, max_bytes: int = MAX_ANSWER_BYTES) -> dict[str, list[CodedFault]]:
+        """The faults of the files that have some. Raises `NoAnswer` if the answer has more bytes."""
+        return _by_file(self._asked("report", "files", max_bytes=max_bytes))
 
     def cycles(self) -> dict[str, list[CodedFault]]:
         """The faults of calls on a call cycle alone, of the files that have some."""
-        return _by_file(self._asked("cycles")["files"])
+        return _by_file(self._asked("cycles", "files"))
 
     def lacks(self) -> list[str]:
-        return list(self._asked("lacks")["lacks"])
+        return list(self._asked("lacks", "lacks"))
 
     def tree(self, path: str) -> Node:
         return read_node(self.answered_tree(path))
 
     def answered_tree(self, path: str) -> Json:
         """The tree as it is answered (docs/FACTS.md). Raises `NoTree`."""
-        root: Json = self._asked("tree", path)["tree"]
+        root: Json = self._asked("tree", "tree", path)
         return root
 
     def expressions(self, path: str) -> list[Place]:
-        return [read_place(one) for one in self._asked("expressions", path)["expressions"]]
+        return [read_place(one) for one in self._asked("expressions", "expressions", path)]
 
     def tables(self) -> dict[str, Any]:
         """What the linter accepts, its codes and its limits."""
-        return self._asked("tables")
+        return self._answer_to(b"tables\n")
 
     def _edited(self, *parts: bytes) -> list[str]:
         answer = self._answer_to(*parts)
         if "refused" in answer:
             raise EditRefused(answer["refused"], answer["reason"])
-        return list(answer["rechecked"])
+        return list(self._member(answer, "rechecked"))
 
-    def _asked(self, question: str, path: str | None = None) -> Json:
-        """The answer to a question, if it isn't the fault of a file without a tree."""
+    def _asked(self, question: str, key: str, path: str | None = None, max_bytes: int | None = None) -> Any:
+        """What the answer to a question has under a key, if it isn't the fault of a file without a tree."""
         words = question if path is None else f"{question} {path}"
-        answer = self._answer_to(f"{words}\n".encode())
-        if question in ("tree", "expressions") and "faults" in answer:
+        answer = self._answer_to(f"{words}\n".encode(), max_bytes=max_bytes)
+        if key != "faults" and "faults" in answer:
             raise NoTree(read_fault(answer["faults"][0]))
-        return answer
+        return self._member(answer, key)
 
-    def _answer_to(self, *parts: bytes) -> Json:
+    def _answer_to(self, *parts: bytes, max_bytes: int | None = None) -> Json:
+        most = MAX_ANSWER_BYTES if max_bytes is None else max_bytes
         with LIMIT.uninterrupted():
             self._send(*parts)
-            line = self._line(MAX_ANSWER_BYTES)
+            line = self._line(most)
         if line is None:
-            raise NoAnswer(f"its answer has more than {MAX_ANSWER_BYTES} bytes")
+            raise NoAnswer(f"its answer has more than {most} bytes")
+        return self._object(line)
+
+    def _object(self, line: bytes) -> Json:
+        """An answer that is no error."""
         try:
             answer = json.loads(line)
         except ValueError:
@@ -125,6 +148,50 @@ class Facts(Child):
         if "error" in answer:
             raise NoAnswer(str(answer["error"]))
         return answer
+
+    def _member(self, answer: Json, key: str) -> Any:
+        if key not in answer:
+            self._fail(f"it answered without {key}")
+        return answer[key]
+
+
+class FirstFaults:
+    """Holds the beginning of an answer with faults, as long as it has no more than so many, and counts the others."""
+
+    def __init__(self, most: int):
+        self.held, self.more = bytearray(), 0
+        self._most, self._size = most, 0
+        # How many faults end in what is held, up to where this was searched, and the last bytes of what isn't held.
+        self._ended, self._searched, self._tail = 0, 0, b""
+
+    def take(self, block: bytes) -> None:
+        """Takes the next part of the answer."""
+        self._size += len(block)
+        if self.is_too_long():
+            return
+        if self._ended < self._most:
+            self.held += block
+            self._search()
+        else:
+            self._count(block)
+
+    def is_too_long(self) -> bool:
+        return len(self.held) > MAX_FIRST_FAULTS_BYTES or self._size > MAX_FAULTS_BYTES
+
+    def _search(self) -> None:
+        while (at := self.held.find(BETWEEN_FAULTS, self._searched)) >= 0:
+            self._ended, self._searched = self._ended + 1, at + 1
+            if self._ended == self._most:
+                rest = bytes(self.held[at:])
+                self.held[at:] = b"}]}"
+                self._count(rest)
+                return
+        self._searched = max(self._searched, len(self.held) - len(BETWEEN_FAULTS) + 1)
+
+    def _count(self, block: bytes) -> None:
+        text = self._tail + block
+        self.more += text.count(BETWEEN_FAULTS)
+        self._tail = text[-len(BETWEEN_FAULTS) + 1:]
 
 
 def _by_file(files: Iterable[Json]) -> dict[str, list[CodedFault]]:

@@ -12,13 +12,15 @@ from typing import Callable, Iterable, NamedTuple, Sequence, Tuple
 from . import (repairs_blocks, repairs_calls, repairs_expressions, repairs_keys, repairs_kinds, repairs_leftovers, repairs_levels,
                repairs_names, repairs_rules, repairs_scripts, repairs_steps, repairs_values, repairs_yaml)
 from .child import LinterEnded
-from .entries import entry_of
+from .entries import entries_by_code
+from .facts import EditRefused, Facts, NoAnswer
+from .faults import faults_of
 from .linter_limits import MAX_FILE_BYTES
 from .paths import is_workflow
+from .program import find_facts
 from .project import Project
 from .repair import Case, Edit, Repair, replaced
-from .report import Fault, parse_report
-from .session import ReportTooLong, Session
+from .report import Fault
 
 MAX_FAULTS = 20
 MAX_LINE_CHARACTERS = 5_000
@@ -26,7 +28,7 @@ MAX_SECONDS = 1.0
 MAX_TRIED = 24
 MAX_SHOWN = 4
 MAX_FILES = 64
-MAX_REPORT_BYTES = 4 * 1_048_576
+MAX_REPORT_BYTES = 16 * 1_048_576
 # Faults of expressions that can't be read.
 UNREADABLE = ("X1", "X2", "X3", "X4", "X5", "X6", "X20")
 # What isn't looked at as long as the event, the kind of an action or the called file isn't known.
@@ -53,7 +55,7 @@ class Fix(NamedTuple):
 
 def repairs(project: Project, fault: Fault) -> list[Repair]:
     """Candidate repairs of a fault, the most likely first."""
-    entry = entry_of(fault.message)
+    entry = entries_by_code().get(fault.code)
     if entry is None or entry.code not in REPAIRS:
         return []
     case = Case(project, fault, entry)
@@ -90,11 +92,11 @@ def fixes(words: list[str], timeout: float, project: Project, faults: Iterable[F
                 found[result].append(repair if result is Result.CLEAN else replace(repair, is_safe=False))
             right = [*found[Result.CLEAN], *found[Result.UNCOVERS]] or found[Result.STOPS]
             mended += [Fix(fault, repair) for repair in _to_show(right)]
-    except (LinterEnded, ReportTooLong):
+    except (LinterEnded, NoAnswer):
         pass
     finally:
         if trial is not None:
-            trial.session.stop()
+            trial.close()
     return mended
 
 
@@ -121,17 +123,20 @@ class Result(Enum):
 
 
 class Trial:
-    """A session of its own, with a file, what it calls and what calls it, so that the folder's session never has a text that isn't the
+    """A run of the linter of its own, with a file, what it calls and what calls it, so that the folder's never has a text that isn't the
     file's."""
 
     def __init__(self, words: list[str], timeout: float, project: Project, file: str, max_files: int = MAX_FILES):
-        self.session = Session(words, True, timeout)
+        self._facts = Facts([find_facts(words[0])], timeout)
         self._max_files = max_files
         self.earlier: Counted = Counter()
         self.project = project
         self.texts: dict[str, str] = {}
         callers = [path for path in project.paths() if path != file and _calls(project, path, file)]
         self._include([file, *callers])
+
+    def close(self) -> None:
+        self._facts.stop()
 
     def result(self, repair: Repair, fault: Fault) -> Result:
         """What the report after a repair says."""
@@ -142,38 +147,36 @@ class Trial:
         shown = [one for one in after if (one.path, one.message) in counted - self.before - self.earlier]
         if counted[key] >= self.before[key]:
             # There is one fault of YAML at a time; the next one may have the same message.
-            shown += [one for one in after if (one.path, one.message) == key and code_of(one)[:1] == "Y" and one.line > fault.line]
+            shown += [one for one in after if (one.path, one.message) == key and one.code[:1] == "Y" and one.line > fault.line]
             if counted[key] > self.before[key] or not shown or shown[-1].message != fault.message:
                 return Result.WRONG
         if not shown:
             return Result.CLEAN
         before, lines = (text.split("\n") for text in (self.project.text(fault.path), changed.get(fault.path, "")))
         is_uncovered = all(_was_hidden(one, fault, repair, before, lines) for one in shown)
-        return (Result.STOPS if any(code_of(one)[:1] == "Y" for one in shown) else Result.UNCOVERS) if is_uncovered else Result.WRONG
+        return (Result.STOPS if any(one.code[:1] == "Y" for one in shown) else Result.UNCOVERS) if is_uncovered else Result.WRONG
 
     def faults_after(self, texts: dict[str, str]) -> Counted:
-        """The faults if some files had other texts. The session is unchanged afterwards."""
+        """The faults if some files had other texts. The folder is unchanged afterwards."""
         return _counted(self.report_after(texts))
 
     def report_after(self, texts: dict[str, str]) -> list[Fault]:
-        """The report if some files had other texts. The session is unchanged afterwards."""
+        """The report if some files had other texts. The folder is unchanged afterwards."""
         called = [path for text in texts.values() for path in self._called(text)]
         self._include([*(path for path in texts if self.project.has(path)), *called])
         for path, text in texts.items():
             self._put(path, text)
         after = self.report()
         for path in texts:
-            if path in self.texts:
-                self._put(path, self.texts[path])
-            else:
-                self.session.delete(path)
+            self._put(path, self.texts.get(path))
         return after
 
     def faults(self) -> Counted:
         return _counted(self.report())
 
     def report(self) -> list[Fault]:
-        return parse_report(self.session.report(MAX_REPORT_BYTES), False)
+        found = self._facts.report(MAX_REPORT_BYTES)
+        return [fault for path, some in found.items() for fault in faults_of(path, some, b"")]
 
     def _include(self, paths: list[str]) -> None:
         """Puts files and what they call, one after another, if they aren't there yet and up to a limit."""
@@ -193,15 +196,22 @@ class Trial:
         names = set(LOCAL_CALL.findall(text))
         return sorted({path for name in names for of_job in (True, False) if (path := self.project.callee(name, of_job))})
 
-    def _put(self, path: str, text: str) -> None:
-        self.session.put(path, text.encode("utf-8", "surrogatepass"))
+    def _put(self, path: str, text: str | None) -> None:
+        """Puts a file, or deletes it. A refused edit changes nothing."""
+        try:
+            if text is None:
+                self._facts.delete(path)
+            else:
+                self._facts.put(path, text.encode("utf-8", "surrogatepass"))
+        except EditRefused:
+            pass
 
 
 def _was_hidden(one: Fault, fault: Fault, repair: Repair, before: list[str], lines: list[str]) -> bool:
     """Whether a fault was there before a repair, hidden by the repaired one: an expression that can't be read has no other fault, the value
     of an unknown key has none, and a file that isn't YAML has none on its other lines. `before` and `lines` are those before and after the
     repair."""
-    code, hidden = code_of(one), code_of(fault)
+    code, hidden = one.code, fault.code
     if one.path != fault.path:
         return False
     if hidden in HIDES:
@@ -255,14 +265,8 @@ def _is_past(lines: list[str], above: int, fault: Fault) -> bool:
     below = enumerate(lines[above:fault.line], above + 1)
     indents = ((number, len(line) - len(line.lstrip(" "))) for number, line in below if line.strip())
     past = next(((number, indent) for number, indent in indents if found and indent <= found.end()), None)
-    is_misfit = past == (fault.line, fault.column - 1) and code_of(fault)[:1] == "Y" and code_of(fault) != "Y3"
+    is_misfit = past == (fault.line, fault.column - 1) and fault.code[:1] == "Y" and fault.code != "Y3"
     return past is not None and not is_misfit
-
-
-def code_of(fault: Fault) -> str:
-    """The code of a fault, or nothing if its message is unknown."""
-    entry = entry_of(fault.message)
-    return entry.code if entry else ""
 
 
 def _counted(faults: Iterable[Fault]) -> Counted:

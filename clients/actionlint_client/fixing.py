@@ -8,7 +8,6 @@ from dataclasses import dataclass
 from typing import Callable, Iterable, Iterator
 
 from .actions_on_disk import actions_below
-from .entries import entry_of
 from .faults import FileFaults
 from .fixes import MAX_FAULTS, UNREADABLE, fixes
 from .folder import Folder, Program
@@ -206,14 +205,14 @@ def _of_yaml(faults: dict[str, FileFaults]) -> Iterator[tuple[str, int]]:
     """The lines of the faults of files that aren't YAML. Each has one."""
     for path, of_file in faults.items():
         for fault in of_file.faults:
-            if (entry := entry_of(fault.message)) and entry.code.startswith("Y"):
+            if fault.code.startswith("Y"):
                 yield path, fault.line
 
 
 def _count_hiding(faults: dict[str, FileFaults]) -> int:
     """How many faults hide others: what isn't YAML, and expressions that can't be read."""
-    entries = (entry_of(fault.message) for of_file in faults.values() for fault in of_file.faults)
-    return sum(entry is not None and (entry.code.startswith("Y") or entry.code in UNREADABLE) for entry in entries)
+    codes = (fault.code for of_file in faults.values() for fault in of_file.faults)
+    return sum(code.startswith("Y") or code in UNREADABLE for code in codes)
 
 
 def _count(faults: dict[str, FileFaults]) -> int:

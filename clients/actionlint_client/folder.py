@@ -1,7 +1,7 @@
 """The files of one repository as the linter sees them, and their faults.
 
-After each change `refresh` sends puts and deletes until the session has the files that it should have, and reads one report. The last puts
-are compared with the wanted files, so edits, changes on disk, refusals and new linters are handled alike.
+After each change `refresh` sends puts and deletes until the linter has the files that it should have, and reads the faults of those that it
+has rechecked. The last puts are compared with the wanted files, so edits, changes on disk, refusals and new linters are handled alike.
 """
 from __future__ import annotations
 
@@ -10,17 +10,20 @@ from dataclasses import dataclass
 from typing import Callable, Iterable
 
 from .child import LinterEnded, LinterMissing, LinterSilent
-from .faults import FaultReader, FileFaults, Form, LongReport
+from .facts import EditRefused, Facts, NoAnswer
+from .facts_tree import CodedFault
+from .faults import MAX_FAULTS, FileFaults, faults_of
 from .files import Files
 from .linter_limits import MAX_FILE_BYTES, MAX_FILES, MAX_PATH_BYTES
 from .paths import is_workflow
+from .program import find_facts, missing_linter
 from .reader import Reader
-from .report import BadReport
-from .session import Session
 
 ENDS_OF_A_FILE = 2
+# The faults of more files than this are read at once, unless they are longer.
+MAX_ASKED_FILES, MAX_REPORT_BYTES = 32, 8 * 1_048_576
 
-BAD_PATH, TOO_LARGE, FULL = "refused E1", "refused E3", "refused E4"
+TAKEN, BAD_PATH, TOO_LARGE, FULL = "", "E1", "E3", "E4"
 ENDED_AT, REPORTS_TOO_MUCH = "ended", "reports too much"
 REASONS = {
     BAD_PATH: f"not linted, since its path has more than {MAX_PATH_BYTES:,} bytes, a control character or a backslash",
@@ -51,7 +54,7 @@ class Result:
 
 @dataclass
 class PutFile:
-    """The last put of a file, and its reply."""
+    """The last put of a file, and why it was refused."""
 
     data: bytes
     reply: str
@@ -59,7 +62,7 @@ class PutFile:
 
 @dataclass
 class LeftOut:
-    """Bytes of a file that are no longer put, since the linter ended at them too often, and a substitute for the reply."""
+    """Bytes of a file that are no longer put, and why: the linter ended at them, perhaps only once so far, or they have too many faults."""
 
     data: bytes
     reply: str
@@ -91,21 +94,22 @@ class Folder:
         self._program, self._say = program, say
         self.reader = Reader(program.words[0], program.timeout)
         self._files = Files(root, say, self.reader, keeps_calls)
-        self._session: Session | None = None
-        self._oneline = False
+        self._facts: Facts | None = None
         self._put_files: dict[str, PutFile] = {}
-        # The put files that the session has, those of them with a colon, and the reasons for those that it refused.
+        # The put files that the linter has, and the reasons for those that it refused.
         self._held: set[str] = set()
-        self._with_colon: set[str] = set()
         self._refused: dict[str, str] = {}
         self._left_out: dict[str, LeftOut] = {}
         self._restarts = Restarts()
         # The last message about a linter that can't be started.
         self._missing = ""
-        self._reader = FaultReader()
-        # The files that may differ from the last put, whether a report is needed, and the files that may differ from the last result.
+        self._faults: dict[str, FileFaults] = {}
+        self._cycles: dict[str, list[CodedFault]] = {}
+        # The files that may differ from the last put, whether there was an edit since `_cycles` was read, the files whose faults may differ
+        # from those that were read, and the files that may differ from the last result.
         self._unsent: set[str] = set()
-        self._needs_report = False
+        self._is_edited = False
+        self._rechecked: set[str] = set()
         self._untold: set[str] = set()
 
     def edit(self, path: str, data: bytes | None) -> None:
@@ -129,17 +133,15 @@ class Folder:
         while self.delay() == 0:
             try:
                 return self._refresh()
-            except LongReport as error:
-                self._take_long_report(error.path)
             except LinterMissing as error:
-                self._forget_session()
+                self._forget_linter()
                 self._restarts.note(True)
                 if str(error) != self._missing:
                     self._missing = str(error)
                     self._say(self._missing)
-            except (LinterEnded, BadReport) as error:
-                self._forget_session()
-                self._restarts.note(not isinstance(error, LinterEnded) or isinstance(error, LinterSilent))
+            except (LinterEnded, NoAnswer) as error:
+                self._forget_linter()
+                self._restarts.note(isinstance(error, (LinterSilent, NoAnswer)))
                 later = " in ten seconds" if self.delay() > 0 else ""
                 self._say(f"the linter stopped and is started again{later}: {error}")
         return None
@@ -155,21 +157,22 @@ class Folder:
 
     def close(self) -> None:
         self.reader.close()
-        self._end_session()
+        self._end_linter()
 
-    def _end_session(self) -> None:
-        if self._session:
-            self._session.stop()
-            self._session = None
+    def _end_linter(self) -> None:
+        if self._facts:
+            self._facts.stop()
+            self._facts = None
 
     def _refresh(self) -> Result:
         if self._files.is_stale():
             self._update_files()
         self._send_changes()
-        if self._needs_report:
-            self._read_report()
+        while self._is_edited or self._rechecked:
+            self._read_cycles()
+            self._read_faults()
         told, self._untold = self._untold, set()
-        return Result(self._reader.files, self._refused | self._files.unreadable, told)
+        return Result(self._faults, self._refused | self._files.unreadable, told)
 
     def _update_files(self) -> None:
         try:
@@ -181,36 +184,75 @@ class Folder:
         self._unsent |= changed
         self._untold |= changed
 
-    def _started(self) -> Session:
-        if self._session is None:
-            self._session = Session(self._program.words, self._oneline, self._program.timeout)
-            self.reader.check()
+    def _started(self) -> Facts:
+        if self._facts is None:
+            linter = self._program.words[0]
+            if missing := missing_linter(linter):
+                raise LinterMissing(missing)
+            self._facts = Facts([find_facts(linter)], self._program.timeout)
             self._missing = ""
-        return self._session
+        return self._facts
 
-    def _forget_session(self) -> None:
-        self._end_session()
-        self._untold |= {*self._put_files, *self._reader.files}
+    def _forget_linter(self) -> None:
+        self._end_linter()
+        self._untold |= {*self._put_files, *self._faults}
         self._unsent = set(self._files.wanted)
-        self._put_files.clear()
-        self._held.clear()
-        self._with_colon.clear()
-        self._refused.clear()
-        self._reader = FaultReader()
-        self._needs_report = False
+        self._put_files, self._refused, self._faults, self._cycles = {}, {}, {}, {}
+        self._held, self._rechecked = set(), set()
+        self._is_edited = False
 
-    def _take_long_report(self, path: str) -> None:
-        """Makes the next report shorter: first without snippets, then without the file that has most of it."""
-        if self._oneline:
-            self._left_out[path] = LeftOut(self._put_files[path].data, REPORTS_TOO_MUCH)
-        self._oneline = True
-        self._forget_session()
+    def _read_cycles(self) -> None:
+        """Notes the files whose calls on call cycles differ, which aren't rechecked for that."""
+        if not self._is_edited or self._facts is None:
+            return
+        try:
+            cycles = self._facts.cycles()
+        except NoAnswer:
+            # There are too many.
+            self._rechecked |= self._held
+            cycles = {}
+        self._rechecked |= {path for path in {*cycles, *self._cycles} if cycles.get(path) != self._cycles.get(path)}
+        self._cycles, self._is_edited = cycles, False
+
+    def _read_faults(self) -> None:
+        """Reads the faults of the files that were rechecked. A file with too many is left out, and with it what its callers know of it."""
+        if len(self._rechecked) > MAX_ASKED_FILES:
+            self._read_report()
+        while self._rechecked:
+            path = self._rechecked.pop()
+            self._take(path, self._faults_of(path) if path in self._held else None)
 
     def _read_report(self) -> None:
-        assert self._session
-        form = Form(self._held, bool(self._with_colon), not self._session.oneline)
-        self._untold |= self._reader.read(self._session.report_blocks(), form)
-        self._needs_report = False
+        """Reads the faults of all files that were rechecked, unless they are too long."""
+        assert self._facts
+        try:
+            found = self._facts.report(MAX_REPORT_BYTES)
+        except NoAnswer:
+            return
+        for path in self._rechecked:
+            some = found.get(path, [])
+            first = faults_of(path, some[:MAX_FAULTS], self._put_files[path].data) if some else ()
+            self._take(path, FileFaults(first, len(some[MAX_FAULTS:])) if some else None)
+        self._rechecked.clear()
+
+    def _take(self, path: str, found: FileFaults | None) -> None:
+        if found != self._faults.get(path):
+            self._untold.add(path)
+        if found is not None:
+            self._faults[path] = found
+        else:
+            self._faults.pop(path, None)
+
+    def _faults_of(self, path: str) -> FileFaults | None:
+        assert self._facts
+        data = self._put_files[path].data
+        try:
+            first, more = self._facts.first_faults(path, MAX_FAULTS)
+        except NoAnswer:
+            self._left_out[path] = LeftOut(data, REPORTS_TOO_MUCH)
+            self._refuse(path, REPORTS_TOO_MUCH)
+            return None
+        return FileFaults(faults_of(path, first, data), more) if first else None
 
     def _send_changes(self) -> None:
         """Sends what differs from the wanted files."""
@@ -234,30 +276,33 @@ class Folder:
 
     def _put(self, path: str, data: bytes) -> None:
         reply = self._reply_to_put(path, data)
-        if reply.startswith("ok "):
+        self._put_files[path] = PutFile(data, reply)
+        if reply == TAKEN:
             self._held.add(path)
-            if ":" in path:
-                self._with_colon.add(path)
             self._refused.pop(path, None)
             self._left_out.pop(path, None)
-            self._needs_report |= reply != "ok 0"
         else:
-            # After a refusal the session still has the old text.
-            self._delete(path)
-            self._refused[path] = REASONS.get(reply, reply)
-        self._put_files[path] = PutFile(data, reply)
+            self._refuse(path, reply)
+
+    def _refuse(self, path: str, reply: str) -> None:
+        """Notes why a file isn't linted. After a refusal the linter still has the old text."""
+        self._delete(path)
+        self._refused[path] = REASONS.get(reply, f"refused {reply}")
 
     def _reply_to_put(self, path: str, data: bytes) -> str:
-        """The session's reply. A path that doesn't fit into a command's line would end the session, so it is refused here, and so are bytes
-        that are left out."""
+        """Why the linter refuses a file, if it does. A path that doesn't fit into a command's line is refused here, and so are bytes that
+        are left out."""
         if "\n" in path or len(path.encode("utf-8")) > MAX_PATH_BYTES:
             return BAD_PATH
         left_out = self._left_out.get(path)
         if left_out is not None and left_out.data == data and left_out.ends >= ENDS_OF_A_FILE:
             return left_out.reply
-        session = self._started()
+        facts = self._started()
         try:
-            return session.put(path, data[:MAX_FILE_BYTES + 1])
+            self._note_edit(facts.put(path, data[:MAX_FILE_BYTES + 1]))
+            return TAKEN
+        except EditRefused as error:
+            return error.code
         except LinterEnded:
             ends = left_out.ends if left_out is not None and left_out.data == data else 0
             self._left_out[path] = LeftOut(data, ENDED_AT, ends + 1)
@@ -265,8 +310,10 @@ class Folder:
 
     def _delete(self, path: str) -> None:
         if path in self._held:
-            assert self._session
-            self._session.delete(path)
+            assert self._facts
             self._held.discard(path)
-            self._with_colon.discard(path)
-            self._needs_report = True
+            self._note_edit([path, *self._facts.delete(path)])
+
+    def _note_edit(self, rechecked: list[str]) -> None:
+        self._rechecked.update(rechecked)
+        self._is_edited |= bool(rechecked)

@@ -22,7 +22,7 @@ class Hover:
     def hover(self, textDocument: TextDocumentIdentifier, position: Position, **_: object) -> protocol.Hover | None:
         document = self._workspace.document(textDocument["uri"])
         found = document.faults_in({"start": position, "end": position}, with_earlier=True) if document else []
-        text = entries.markdown_of_faults((fault.message for fault, _ in found), self._docs)
+        text = entries.markdown_of_faults(((fault.code, fault.message) for fault, _ in found), self._docs)
         if text is not None:
             return {"contents": {"kind": self._editor.hover_format(), "value": text}, "range": found[0][1]}
         for note, place_of_note in document.notes_at(position) if document else []:

@@ -98,7 +98,7 @@ class LintRun:
 
     def _reported(self, lines: list[bytes]) -> Reported:
         width = marked_width(lines[-1]) if self._snippets else None
-        return Reported(parse_fault(lines[0], None, width), tuple(lines[1:]))
+        return Reported(parse_fault(lines[0], width), tuple(lines[1:]))
 
     def _end(self) -> None:
         status = self._child.wait()

@@ -5,7 +5,7 @@ import re
 from dataclasses import dataclass
 from typing import TYPE_CHECKING
 
-from .entries import Entry, argument_of, entry_of, link_of
+from .entries import Entry, entries_by_code, link_of
 from .report import Fault
 
 if TYPE_CHECKING:
@@ -48,8 +48,8 @@ class Problem:
 
 
 def problem_of(fault: Fault, snippet: tuple[bytes, ...] = ()) -> Problem:
-    """A fault of the linter with its entry. A message that no page has gets its kind as code."""
-    entry = entry_of(fault.message)
+    """A fault of the linter with its entry. One without an entry gets its kind as code."""
+    entry = entries_by_code().get(fault.code)
     code = entry.code if entry else fault.kind
     return Problem(fault, code, entry, snippet, level_of(code, fault))
 
@@ -59,8 +59,8 @@ def level_of(code: str, fault: Fault) -> str:
     for an action without `description`, which runs. ERROR for the rest: GitHub refuses the file, or a step or a job fails or goes on
     without what was meant, and nobody else says so."""
     if code == "G17":
-        return WARNING if argument_of(fault.message) in ("set-output", "save-state") else ERROR
-    if (code, argument_of(fault.message)) == ("K2", "description"):
+        return WARNING if fault.arguments[:1] in (("set-output",), ("save-state",)) else ERROR
+    if (code, fault.arguments[:1]) == ("K2", ("description",)):
         return WARNING
     return WARNING if (code, fault.kind) == ("C2", "action") else ERROR
 

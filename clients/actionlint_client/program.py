@@ -1,6 +1,7 @@
 """The linter that the clients run."""
 from __future__ import annotations
 
+import errno
 import os
 import shutil
 import subprocess
@@ -47,6 +48,12 @@ def find_facts(linter: str) -> str:
 def _is_facts(place: Path) -> bool:
     """Whether there is such a program. The link in a clone points to a script, which builds the program if none fits."""
     return os.access(place, os.X_OK) and place.resolve().name.endswith((SUFFIX, FACTS_OF_A_CLONE[0].rpartition("/")[2]))
+
+
+def missing_linter(linter: str) -> str:
+    """Says that the linter can't be run, and is empty if it can."""
+    why = errno.EACCES if os.path.exists(linter) else errno.ENOENT
+    return "" if shutil.which(linter) else cannot_start(linter, OSError(why, os.strerror(why)))
 
 
 def missing_facts(linter: str) -> str:

@@ -8,7 +8,7 @@ from .facts import EditRefused, Facts, NoAnswer, NoTree
 from .facts_tree import Place
 from .linter_limits import MAX_FILE_BYTES
 from .paths import is_linted, is_path
-from .program import find_facts, missing_facts
+from .program import find_facts
 from .tree import Node, tree_of
 
 Answer = TypeVar("Answer")
@@ -25,11 +25,6 @@ class Reader:
         self._facts: Facts | None = None
         # The path and the bytes that the program has, None if that isn't known.
         self._held: tuple[str, bytes] | None = None
-
-    def check(self) -> None:
-        """Raises `LinterMissing` if there is no such program."""
-        if missing := missing_facts(self._linter):
-            raise LinterMissing(missing)
 
     def tree(self, path: str, data: bytes) -> Node | None:
         return self._answer(path, data, lambda facts: tree_of(facts.answered_tree(path), data))

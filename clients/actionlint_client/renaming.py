@@ -5,12 +5,12 @@ import re
 from collections import Counter
 
 from .child import LinterEnded
+from .facts import NoAnswer
 from .fixes import Trial
 from .folder import Program
 from .project import Project
 from .references import Occurrence, Symbol, all_of, callers, occurrence_at, occurrences
 from .repair import Edit, replaced
-from .session import ReportTooLong
 from .text import Point
 
 IDENTIFIER = re.compile(r"[A-Za-z_][\w-]*", re.A)
@@ -75,8 +75,8 @@ def _refuse_faults(program: Program, project: Project, symbol: Symbol, edits: di
             after = trial.faults_after(texts)
             before = trial.before
         finally:
-            trial.session.stop()
-    except (LinterEnded, ReportTooLong) as error:
+            trial.close()
+    except (LinterEnded, NoAnswer) as error:
         raise Refusal("the linter can't be asked whether the name makes a fault") from error
     named = re.compile(rf"(?<=[\"./]){re.escape(symbol.name)}(?=[\"./])", re.I)
     renamed = before | Counter({(path, named.sub(lambda _: name, message)): count for (path, message), count in before.items()})

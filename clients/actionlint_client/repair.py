@@ -98,7 +98,7 @@ class Case:
 
     def __init__(self, project: Project, fault: Fault, entry: Entry):
         self.project, self.file, self.code, self.entry = project, fault.path, entry.code, entry
-        self.arguments = entry.arguments(fault.message) or ()
+        self.arguments = fault.arguments
         self.text = project.text(fault.path)
         self.lines = project.lines(fault.path)
         # The linter counts a byte order mark as a character of the first line.

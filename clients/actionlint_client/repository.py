@@ -20,8 +20,7 @@ from .script_checks import ScriptChecks
 from .uris import uri_of
 
 NOTHING = Result({}, {}, set())
-# The faults Y14, Y15 and X5.
-OF_SIZE = {"nesting is too deep", "too many nodes", "expression is too long"}
+OF_SIZE = {"Y14", "Y15", "X5"}
 
 
 @dataclass
@@ -113,7 +112,7 @@ class Repository:
             return True
         found = self.result.faults.get(path, NO_FAULTS)
         if path not in self._too_large or self._too_large[path][0] is not found:
-            self._too_large[path] = found, not OF_SIZE.isdisjoint(fault.message for fault in found.faults)
+            self._too_large[path] = found, not OF_SIZE.isdisjoint(fault.code for fault in found.faults)
         return self._too_large[path][1]
 
     def uri(self, path: str) -> str:

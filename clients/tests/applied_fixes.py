@@ -25,6 +25,7 @@ from repositories import ACTION, CALLED, FILE, FILES, RIGHT, WORKFLOWS, git, wri
 from actionlint_client import fixing
 from actionlint_client.fixes import Fix
 from actionlint_client.folder import Program
+from actionlint_client.program import find_facts
 from actionlint_client.repair import Edit, Repair
 from actionlint_client.report import Fault
 from actionlint_client.text import Span
@@ -205,12 +206,14 @@ def a_file_that_changes_meanwhile(program: str) -> None:
     """It is left as it is now, and told; the others are written."""
     other = WORKFLOWS + "b.yml"
     with folder_with({FILE: WRONG, other: WRONG}) as folder:
-        write(folder, {"linter": f'#!/bin/sh\ncase $1 in --session) echo "# new" >> "{folder}/{FILE}" ;; esac\nexec {program} "$@"\n'})
-        os.chmod(folder + "/linter", 0o755)
+        write(folder, {"linter": f'#!/bin/sh\nexec {program} "$@"\n',
+                       "linter-facts": f'#!/bin/sh\necho "# new" >> "{folder}/{FILE}"\nexec {find_facts(program)}\n'})
+        for name in ("linter", "linter-facts"):
+            os.chmod(f"{folder}/{name}", 0o755)
         status, _, said = report(folder + "/linter", folder, "--fix", "--form", "jsonl")
         assert status == 3 and said == [f"{FILE}: not fixed, since it changed meanwhile", f"{other}: fixed"], (status, said)
         found = contents(folder)
-        assert found[FILE].decode().startswith(WRONG + "# new\n") and found[other].decode() == RIGHT and len(found) == 3, found
+        assert found[FILE].decode().startswith(WRONG + "# new\n") and found[other].decode() == RIGHT and len(found) == 4, found
 
 
 @CASES.case

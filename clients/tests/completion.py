@@ -14,15 +14,14 @@ import sys
 from cases import Cases
 from completion_places import JOB, PLACES
 from promises import end, start
-from readers import reader
+from readers import Linter, reader
 from repositories import FILE, WORKFLOWS
 
 from actionlint_client import used
 from actionlint_client.completion import Offer, offers
 from actionlint_client.project import Project
-from actionlint_client.report import Fault, parse_report
+from actionlint_client.report import Fault
 from actionlint_client.sections import can_stand
-from actionlint_client.session import Session
 from actionlint_client.syntax import available
 from actionlint_client.text import Point, Span
 from actionlint_client.used import used_in
@@ -232,7 +231,7 @@ jobs:
         offer = next(offer for offer in found if offer.label == label)
         assert offer.text == f"- {label}: ", offer
         value = {"cron": "'0 0 * * *'", "uses": "actions/checkout@v4"}.get(label, "a")
-        assert not linter.faults(FILE, put(before + after, span, offer.text + value)[0]), (line, label)
+        assert not faults_after(linter, FILE, put(before + after, span, offer.text + value)[0]), (line, label)
 
 
 @CASES.case
@@ -332,17 +331,10 @@ def excluded_keys(program: str) -> None:
     assert can_stand("event", "tags", {"branches-ignore"}) and can_stand("no section", "run", {"uses"})
 
 
-class Linter:
-    """The faults of a folder in which one file changes."""
-
-    def __init__(self, program: str, folder: dict[str, str]):
-        self.session = Session([program], False, SECONDS)
-        for path, text in folder.items():
-            self.session.put(path, text.encode())
-
-    def faults(self, path: str, text: str) -> list[Fault]:
-        self.session.put(path, text.encode())
-        return [fault for fault in parse_report(self.session.report(1 << 26), True) if fault.path == path]
+def faults_after(linter: Linter, path: str, text: str) -> list[Fault]:
+    """The faults of a file once it has this text."""
+    linter.put(path, text)
+    return linter.faults_in(path)
 
 
 def put(text: str, span: Span, new: str) -> tuple[str, int, int]:
@@ -367,7 +359,7 @@ def each_is_taken(program: str) -> None:
     chance = random.Random(int(os.environ.get("SEED", "1")))
     linter = Linter(program, FOLDER)
     for path, text in FOLDER.items():
-        assert not linter.faults(path, text), linter.faults(path, text)
+        assert not faults_after(linter, path, text), faults_after(linter, path, text)
     tokens = [(path, match.start(), match.end()) for path, text in FOLDER.items() for match in TOKEN.finditer(text)]
     count = 0
     while count < PUTS:
@@ -375,7 +367,7 @@ def each_is_taken(program: str) -> None:
         whole = FOLDER[path]
         typed = start + chance.randrange(end - start + 1)
         count += check_some(linter, path, whole[:typed], whole[end:], chance, 6)
-        linter.faults(path, whole)
+        faults_after(linter, path, whole)
 
 
 @CASES.case
@@ -389,7 +381,7 @@ def each_is_taken_on_a_new_line(program: str) -> None:
         for number, indent in itertools.product(range(len(lines)), range(0, 14, 2)):
             before, after = "\n".join([*lines[:number], " " * indent]), "".join("\n" + line for line in lines[number:])
             count += check_some(linter, path, before, after, chance, 2)
-            linter.faults(path, whole)
+            faults_after(linter, path, whole)
     assert count > PUTS / 2, count
 
 
@@ -415,7 +407,7 @@ def check_put(linter: Linter, path: str, text: str, span: Span, offer: Offer) ->
         end += 1 + len(offer.text)
     if offer.kind == "module":
         changed, end = changed[:end] + ".x" + changed[end:], end + 2
-    wrong = [fault for fault in linter.faults(path, changed)
+    wrong = [fault for fault in faults_after(linter, path, changed)
              if touches(changed, fault, start, end) and not fault.message.endswith(STILL_LACKING)]
     assert not wrong, f"{path}: {changed[start:end]!r} at {span.start} gives {wrong[0]}\n{changed}"
 

@@ -166,10 +166,10 @@ def severities(program: str) -> None:
     assert all(found[undefined(number)] == ERROR for number in range(11)), found
     assert found['input "x" is not defined in "A" [action]'] == WARNING, found
     assert found['input "y" is not defined in "./.github/workflows/b.yml" [workflow-call]'] == ERROR, found
-    levels = {key: level_of("K2", Fault("a/action.yml", 1, 1, f'key "{key}" is missing', "syntax-check", 1))
+    levels = {key: level_of("K2", Fault("a/action.yml", 1, 1, f'key "{key}" is missing', "syntax-check", 1, "K2", (key,)))
               for key in ("description", "runs")}
     assert levels == {"description": WARNING_LEVEL, "runs": ERROR_LEVEL}, levels
-    assert level_of("X13", Fault("a", 1, 1, 'property "set-output" is not defined', "expression", 1)) == ERROR_LEVEL
+    assert level_of("X13", Fault("a", 1, 1, 'property "set-output" is not defined', "expression", 1, "X13", ("set-output",))) == ERROR_LEVEL
     end(editor)
 
 

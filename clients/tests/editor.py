@@ -178,8 +178,8 @@ def children(pid: int) -> list[int]:
 
 
 def linters(pid: int) -> list[int]:
-    """The linters that a server runs, without what reads texts for it."""
-    return [child for child in children(pid) if b"--session" in Path(f"/proc/{child}/cmdline").read_bytes()]
+    """The runs of actionlint-facts by a server: one for each folder, and where calls or trees were looked at, another that reads texts."""
+    return [child for child in children(pid) if b"facts" in Path(f"/proc/{child}/cmdline").read_bytes()]
 
 
 def memory(pid: int, which: str = "VmRSS") -> int:

@@ -170,7 +170,7 @@ def a_repair_that_fails(program: str) -> None:
     fails = mock.patch.object(fixes, "fixes", side_effect=AssertionError("x"))
     with tempfile.TemporaryDirectory(prefix="actionlint-test-") as folder, fails:
         write(folder, {FILE: FILES[FILE]})
-        problem = problem_of(Fault(FILE, 6, 30, 'property "reff" is not defined', "expression", 4))
+        problem = problem_of(Fault(FILE, 6, 30, 'property "reff" is not defined', "expression", 4, "X13", ("reff",)))
         assert list(FirstFixes(program, folder, []).add_to([problem])) == [problem]
 
 
@@ -189,7 +189,7 @@ def how_long(program: str) -> None:
     """Without time that is left, faults are reported without fixes."""
     with tempfile.TemporaryDirectory(prefix="actionlint-test-") as folder:
         write(folder, {FILE: FILES[FILE], f"{WORKFLOWS}other.yml": FILES[FILE]})
-        problems = [problem_of(Fault(path, 6, 30, 'property "reff" is not defined', "expression", 4))
+        problems = [problem_of(Fault(path, 6, 30, 'property "reff" is not defined', "expression", 4, "X13", ("reff",)))
                     for path in (FILE, f"{WORKFLOWS}other.yml")]
         for seconds, expected in ((60.0, 2), (1e-9, 1), (0.0, 0)):
             with mock.patch.object(advice, "SECONDS_OF_A_REPORT", seconds):

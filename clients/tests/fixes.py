@@ -9,7 +9,6 @@ import os
 import random
 import signal
 import sys
-import tempfile
 import time
 from contextlib import contextmanager
 from typing import Iterator
@@ -24,7 +23,6 @@ from actionlint_client.fixes import REPAIRS, UNREADABLE, Trial, fixes, repairs
 from actionlint_client.project import Project
 from actionlint_client.repair import Repair, replaced
 from actionlint_client.report import Fault
-from actionlint_client.session import ReportTooLong, Session
 
 CASES = Cases("fixes")
 SECONDS = 20.0
@@ -125,7 +123,8 @@ def lines_of_a_stranger(program: str) -> None:
         column = text.split("\n")[5].index(value) + 1 + ("${{" in value) * len("echo ${{ ")
         project = Project(reader(), {FILE: text.encode()}.get, lambda: [FILE])
         with within(2):
-            found = repairs(project, Fault(FILE, 6, column, ARGUMENT.sub("f", entry.message), "k", 1))
+            arguments = ("f",) * len(set(ARGUMENT.findall(entry.message)))
+            found = repairs(project, Fault(FILE, 6, column, ARGUMENT.sub("f", entry.message), "k", 1, code, arguments))
         assert all(len(edit.text) < 10_000 for one in found for edit in one.edits[FILE]), (code, value[:50])
 
 
@@ -194,35 +193,15 @@ def below(fault: Fault, folder: Folder, changed: dict[str, str]) -> bool:
 
 
 @CASES.case
-def a_report_that_is_too_long(program: str) -> None:
-    """A linter that is stopped in the middle of a report prints nothing about that on standard error, which is the editor's."""
-    with tempfile.TemporaryFile() as said:
-        kept = os.dup(2)
-        os.dup2(said.fileno(), 2)
-        try:
-            session = Session([program], False, SECONDS)
-            session.put(FILE, b"{" + b",".join(b"k%d: 1" % number for number in range(1_000)) + b"}\n")
-            session.report(100_000)
-            raise AssertionError("the report is short")
-        except ReportTooLong:
-            pass
-        finally:
-            os.dup2(kept, 2)
-            os.close(kept)
-        said.seek(0)
-        assert said.read() == b"", said.read()
-
-
-@CASES.case
 def a_trial(program: str) -> None:
-    """The session of a trial holds callers and what they call, and is unchanged after each trial."""
+    """The folder of a trial holds callers and what they call, and is unchanged after each trial."""
     folder = Folder(program, {FILE: STEP + "uses: ./act\n        with: {who: x}\n", **ACTION})
     trial = Trial([program], SECONDS, folder.project, "act/action.yml")
     assert not trial.before
     changed = ACTION["act/action.yml"].replace("who:", "whom:")
     assert len(trial.faults_after({"act/action.yml": changed})) == 2, "the caller's two faults"
     assert not trial.faults() and not trial.faults_after({"other/action.yml": ACTION["act/action.yml"]})
-    trial.session.stop()
+    trial.close()
 
 
 if __name__ == "__main__":

@@ -23,12 +23,13 @@ from repositories import CALLED, CLIENTS, FILE, FILES, RIGHT, UNDEFINED, WORKFLO
 
 from actionlint_client.child import LinterEnded
 from actionlint_client.diagnostics import Diagnostics
+from actionlint_client.facts import Facts
 from actionlint_client.folder import Folder, Program
 from actionlint_client.limit import LIMIT, TimeLimit, TooSlow
+from actionlint_client.program import find_facts
 from actionlint_client.project import MAX_HELD, Project
 from actionlint_client.references import callers, occurrences
 from actionlint_client.repository import Repository
-from actionlint_client.session import Session
 from actionlint_client.structure import parts_with
 from actionlint_client.tree import Node
 
@@ -140,8 +141,8 @@ def other_threads(_: str) -> None:
     assert not is_cut(limit, 0.5, waiting) and ended == [1]
 
 
-class SlowSession(Session):
-    """A session that takes long to send a command."""
+class SlowFacts(Facts):
+    """A run of the linter that takes long to send a command."""
 
     def _send(self, *parts: bytes) -> None:
         super()._send(*parts)
@@ -149,23 +150,23 @@ class SlowSession(Session):
 
 
 @CASES.case
-def sessions(program: str) -> None:
-    """A session with the linter isn't cut between a command and its reply: the limit is raised after it."""
-    session = SlowSession([program], True, 20.0)
+def commands(program: str) -> None:
+    """A command isn't cut from its answer: the limit is raised after it."""
+    linter = SlowFacts([find_facts(program)], 20.0)
     for number in range(3):
         text = f"{WRONG}#{number}".encode()
 
         def puts() -> None:
-            session.put(FILE, text)
+            linter.put(FILE, text)
             burn(1)
 
         try:
             assert is_cut(LIMIT, 0.01, puts)
-            assert session.put(FILE, text) == "ok 0"
-            assert [line for line in session.report(1 << 20) if b"reff" in line], number
+            assert linter.put(FILE, text) == []
+            assert [fault.code for fault in linter.faults(FILE)] == ["X13"], number
         except LinterEnded as error:
-            raise AssertionError("the session was cut") from error
-    session.stop()
+            raise AssertionError("the command was cut") from error
+    linter.stop()
 
 
 def endless_server(folder: str, module: str, function: str) -> Path:
@@ -180,11 +181,11 @@ def asks(editor: Editor, method: str, line: int, character: int, **more) -> dict
 
 @CASES.case
 def requests_that_never_end(program: str) -> None:
-    """They are answered with an error, wherever they were; the server goes on, with one linter."""
+    """They are answered with an error, wherever they were; the server goes on, with its linter and the one that reads texts."""
     with tempfile.TemporaryDirectory(prefix="actionlint-test-") as folder:
         for module, function, method, more in (
                 ("hover", "explanation", "textDocument/hover", {}),
-                ("fixes", "parse_report", "textDocument/rename", {"newName": "b"})):
+                ("fixes", "_counted", "textDocument/rename", {"newName": "b"})):
             editor = start(program, FILES, server=endless_server(folder, module, function))
             editor.open(FILE, RIGHT)
             answer = asks(editor, method, 2, 3, **more)
@@ -193,7 +194,7 @@ def requests_that_never_end(program: str) -> None:
             editor.change(FILE, WRONG)
             editor.settle()
             assert editor.texts(FILE) == [UNDEFINED], module
-            assert len(linters(editor.child.pid)) == 1, module
+            assert len(linters(editor.child.pid)) == 2, module
             end(editor)
 
 

@@ -6,13 +6,16 @@ here; the work is counted. bench/clients.py has the times.
 """
 from __future__ import annotations
 
+import json
 import os
 import random
 import shutil
+import subprocess
 import sys
 import tempfile
 from typing import Any
 from pathlib import Path
+from unittest import mock
 
 from cases import Cases
 from editor import memory
@@ -20,11 +23,11 @@ from promises import end, script, start
 from readers import reader
 from repositories import ACTION, CALLED, FILE, FILES, RIGHT, UNDEFINED, WORKFLOWS, WRONG, reported, write
 
-from actionlint_client import disk, faults, positions
+from actionlint_client import disk, facts, folder as following, positions
 from actionlint_client.diagnostics import Diagnostics
-from actionlint_client.faults import FaultReader, Form
 from actionlint_client.files import may_call
 from actionlint_client.folder import REASONS, REPORTS_TOO_MUCH, Folder, Program
+from actionlint_client.program import find_facts
 from actionlint_client.report import Fault
 from actionlint_client.repository import Repository
 from actionlint_client.workspace import Workspace
@@ -33,6 +36,8 @@ CASES = Cases("linear")
 EVERYWHERE = {"start": {"line": 0, "character": 0}, "end": {"line": 1_000, "character": 0}}
 HEAD = "on: push\njobs:\n  a:\n    runs-on: ubuntu-latest\n    steps:\n"
 FOLDERS = ("a", "b", "d e", "é", ".github/x", "a/b")
+# A workflow that calls another one.
+CALL = "on: workflow_call\njobs: {a: {uses: ./.github/workflows/two.yml}}\n"
 TWO_REQUIRED = "name: A\ndescription: d\ninputs:\n  who: {required: true}\n  what: {required: true}\nruns: {using: node20, main: m.js}\n"
 # Values of `uses`, and the folders of the actions that they name.
 USES: dict[str, list[str] | None] = {
@@ -171,17 +176,17 @@ def many_buffers(program: str) -> None:
 
 @CASES.case
 def bursts(program: str) -> None:
-    """Many edits that arrive together cause few reports."""
+    """Many edits that arrive together are sent at once."""
     folder = tempfile.mkdtemp(prefix="actionlint-test-")
     log = folder + "/log"
-    editor = start(script(folder, f'#!/bin/sh\ntee -a "{log}" | "{program}" "$@"\n'), FILES)
+    editor = start(script(folder, f'#!/bin/sh\ntee -a "{log}" | "{find_facts(program)}"\n'), FILES)
     editor.open(FILE, WRONG)
     editor.settle()
-    before = Path(log).read_text(encoding="utf-8").count("\nreport\n")
+    before = Path(log).read_text(encoding="utf-8").count("\ncycles\n")
     for number in range(100):
         editor.change(FILE, WRONG + "#" * number + "\n", held=number < 99)
     editor.settle()
-    assert Path(log).read_text(encoding="utf-8").count("\nreport\n") - before < 10
+    assert Path(log).read_text(encoding="utf-8").count("\ncycles\n") - before < 10
     assert editor.texts(FILE) == [UNDEFINED]
     end(editor)
     shutil.rmtree(folder)
@@ -189,17 +194,17 @@ def bursts(program: str) -> None:
 
 @CASES.case
 def fixes_of_many_faults(program: str) -> None:
-    """Quick fixes over 400 faults start one more linter, and those of the first faults are offered."""
+    """Quick fixes over 400 faults start one more linter besides that which reads the text, and those of the first faults are offered."""
     folder = tempfile.mkdtemp(prefix="actionlint-test-")
     log = folder + "/log"
     text = HEAD + "".join(f"      - run: echo ${{{{ github.acto{number} }}}}\n" for number in range(400))
-    editor = start(script(folder, f'#!/bin/sh\necho started >> "{log}"\nexec "{program}" "$@"\n'), {FILE: text})
+    editor = start(script(folder, f'#!/bin/sh\necho started >> "{log}"\nexec "{find_facts(program)}"\n'), {FILE: text})
     editor.open(FILE, text)
     editor.settle()
     assert len(editor.texts(FILE)) == 400
     found = editor.actions(FILE, EVERYWHERE)
     assert found and found[0]["title"] == 'change to "actor"', found[:1]
-    assert Path(log).read_text(encoding="utf-8").count("started") == 2
+    assert Path(log).read_text(encoding="utf-8").count("started") == 3
     end(editor)
     shutil.rmtree(folder)
 
@@ -235,7 +240,8 @@ def many_missing_inputs(program: str) -> None:
     faults."""
     inputs = "".join(f"  i{number}: {{required: true}}\n" for number in range(1_000))
     calls = "".join(f"      - uses: ./a\n        with:\n          x{number}: 1\n" for number in range(600))
-    editor = start(program, {FILE: WRONG, CALLED: HEAD + calls, ACTION: TWO_REQUIRED.replace("  who: {required: true}\n", inputs)})
+    texts = {FILE: WRONG, CALLED: HEAD + calls, ACTION: TWO_REQUIRED.replace("  who: {required: true}\n", inputs)}
+    editor = start(program, texts, words=("--timeout", "300"))
     assert editor.texts(FILE) == [UNDEFINED] and not editor.messages, editor.messages
     shown = editor.texts(CALLED)
     # Each call lacks `what` too, and gives an input that isn't one.
@@ -249,9 +255,9 @@ def many_missing_inputs(program: str) -> None:
 
 @CASES.case
 def a_report_that_is_too_long(program: str) -> None:
-    """The file with most of it is left out until it changes, with a message; the others are shown."""
-    held, most = faults.MAX_HELD_BYTES, faults.MAX_REPORT_BYTES
-    faults.MAX_HELD_BYTES, faults.MAX_REPORT_BYTES = 5_000, 20_000
+    """A file with too many faults is left out until it changes, with a message; the others are shown."""
+    most = facts.MAX_FAULTS_BYTES
+    facts.MAX_FAULTS_BYTES = 20_000
     root = tempfile.mkdtemp(prefix="actionlint-test-")
     write(root, {FILE: WRONG, CALLED: HEAD + "".join(f"      - run: echo ${{{{ github.a{number} }}}}\n" for number in range(1_000))})
     folder = Folder(os.fsencode(root), Program([program], 20.0), print)
@@ -264,65 +270,63 @@ def a_report_that_is_too_long(program: str) -> None:
         result = folder.refresh()
         assert len(result.faults[CALLED].faults) == 1 and result.refused == {}
     finally:
-        faults.MAX_HELD_BYTES, faults.MAX_REPORT_BYTES = held, most
+        facts.MAX_FAULTS_BYTES = most
         folder.close()
     shutil.rmtree(root)
 
 
-PATHS = [f".github/workflows/{name}.yml" for name in ("a", "ab", "b", "ba", "c", "x", "xy", "z")]
-SNIPPETS = ("  |\n1 | a\n  | ^\n", "  |\n1 | ab\n  | ^~\n", "  |\n1 | .github/workflows/b.yml:1:1: m [k]\n  | ^~\n")
-
-
-def report_line(chance: random.Random, path: str, snippets: bool) -> str:
-    line = f"{path}:{chance.randrange(1, 4)}:{chance.randrange(1, 3)}: {chance.choice(['m', 'mm', 'key'])} [k]\n"
-    return line + chance.choice(SNIPPETS) if snippets else line
-
-
 @CASES.case
-def reports_by_chance(_: str) -> None:
-    """Whatever changed between two reports, the faults read from the second are those of a reader that never saw the first."""
+def the_first_faults(program: str) -> None:
+    """However an answer comes in pieces, the first faults are those of the whole, and the others are counted; what looks like the end of a
+    fault in a text is none."""
     chance = random.Random(5)
-    for snippets, mistakable, held in ((False, False, True), (True, False, True), (True, True, True), (False, False, False)):
-        form, reader, files = Form(set(PATHS), mistakable, snippets), FaultReader(), {}
-        for _ in range(400):
-            for path in chance.sample(PATHS, chance.randrange(1, 3)):
-                lines = list(files.get(path, []))
-                if lines and chance.random() < 0.5:
-                    del lines[chance.randrange(len(lines))]
-                else:
-                    lines.insert(chance.randrange(len(lines) + 1), report_line(chance, path, snippets))
-                files[path] = lines if chance.random() < 0.8 else []
-            report = "".join(line for path in sorted(files) for line in files[path]).encode()
-            before, new = dict(reader.files), FaultReader()
-            faults.MAX_HELD_BYTES = 32 * 1_048_576 if held else -1
-            try:
-                changed = reader.read([report[at:at + 50] for at in range(0, len(report), 50)] or [b""], form)
-            finally:
-                faults.MAX_HELD_BYTES = 32 * 1_048_576
-            new.read([report], form)
-            assert reader.files == new.files, report
-            assert changed == {path for path in {*before, *new.files} if before.get(path) != new.files.get(path)}, report
+    for count in (0, 1, 2, 3, 4, 50):
+        text = "on: push\njobs: {}\n" + "".join("'a%d },{\"code\" },{': 1\n" % number for number in range(count))
+        script = f"put {FILE} {len(text)}\n{text}\nfaults {FILE}\n".encode()
+        done = subprocess.run([find_facts(program)], input=script, stdout=subprocess.PIPE, check=True)
+        answer = done.stdout.split(b"\n")[1]
+        found = json.loads(answer)["faults"]
+        assert len(found) == count
+        for most in (1, 2, 3, 60):
+            first, at = facts.FirstFaults(most), 0
+            while at < len(answer):
+                size = chance.choice((1, 2, 9, 30, 500))
+                first.take(answer[at:at + size])
+                at += size
+            whole = json.dumps({"faults": found[:most]}, separators=(",", ":")).encode()
+            assert bytes(first.held) == whole, (count, most, first.held)
+            assert first.more == max(count - most, 0), (count, most, first.more)
 
 
 @CASES.case
-def only_what_changed_is_parsed(_: str) -> None:
-    """In a report over 4,096 files with a fault each, only the lines of one file are parsed after it was edited."""
-    paths = [f"{WORKFLOWS}{number:04}.yml" for number in range(4_096)]
-    form, reader, parsed = Form(set(paths), False, False), FaultReader(), []
-    parser: Any = faults
-    parse = parser.parse_fault
-    parser.parse_fault = lambda line, *more: (parsed.append(line), parse(line, *more))[1]
+def only_what_was_rechecked_is_asked(program: str) -> None:
+    """Beside 300 files with a fault each, only the faults of the edited one are read, and of a call cycle those of its files. Those of all
+    are read at once, if they aren't too long."""
+    root = tempfile.mkdtemp(prefix="actionlint-test-")
+    one, two = f"{WORKFLOWS}one.yml", f"{WORKFLOWS}two.yml"
+    wrong = {f"{WORKFLOWS}{number:04}.yml": WRONG for number in range(300)}
+    write(root, {**wrong, FILE: WRONG, one: CALL, two: CALL.replace("two", "three")})
+    folder, asked = Folder(os.fsencode(root), Program([program], 20.0), print), []
+    kind: Any = facts.Facts
+    first_faults = kind.first_faults
+    kind.first_faults = lambda this, path, most: (asked.append(path), first_faults(this, path, most))[1]
     try:
-        reader.read([b"".join(b"%s:1:1: m [k]\n" % path.encode() for path in paths)], form)
-        for number in (0, 1_000, 4_095):
-            lines = [b"%s:1:1: m [k]\n" % path.encode() for path in paths]
-            for text in (b"%s:1:1: mm [k]\n", b"", b"%s:1:1: m [k]\n", b"%s:1:1: m [k]\n" * 2, b"%s:1:1: m [k]\n"):
-                lines[number] = text.replace(b"%s", paths[number].encode())
-                parsed.clear()
-                assert reader.read([b"".join(lines)], form) == {paths[number]}
-                assert parsed == [line + b" [k]" for line in lines[number].split(b" [k]\n")[:-1]], (number, text, parsed)
+        first = folder.refresh().faults
+        assert len(first) == 302 and not asked
+        folder.close()
+        with mock.patch.object(following, "MAX_REPORT_BYTES", 100):
+            folder = Folder(os.fsencode(root), Program([program], 20.0), print)
+            assert folder.refresh().faults == first and len(asked) == 303
+        for path, text, paths in ((FILE, RIGHT, {FILE}), (FILE, RIGHT, set()), (FILE, WRONG, {FILE}),
+                                  (two, CALL.replace("two", "one"), {one, two}), (two, RIGHT, {one, two})):
+            asked.clear()
+            folder.edit(path, text.encode())
+            result = folder.refresh()
+            assert set(asked) == paths and {FILE, *asked} >= result.changed, (path, asked, result.changed)
     finally:
-        parser.parse_fault = parse
+        kind.first_faults = first_faults
+        folder.close()
+    shutil.rmtree(root)
 
 
 if __name__ == "__main__":

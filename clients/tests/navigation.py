@@ -11,7 +11,7 @@ import sys
 from typing import Any
 
 from cases import Cases
-from completion import ACTION, CALLED, FOLDER, Linter, project_of
+from completion import ACTION, CALLED, FOLDER, Linter, faults_after, project_of
 from promises import end, start
 from repositories import FILE
 
@@ -156,8 +156,8 @@ def random_renames(program: str) -> None:
             texts[path] = replaced(texts[path], edits)
         assert texts != FOLDER
         for path, text in texts.items():
-            linter.faults(path, text)
-        assert not any(linter.faults(path, text) for path, text in texts.items()), (one, texts)
+            faults_after(linter, path, text)
+        assert not any(faults_after(linter, path, text) for path, text in texts.items()), (one, texts)
         back = project_of(texts)
         moved = next(other for file in texts for other in occurrences(back, file) if other.symbol.name == "new_name")
         for path, edits in rename(asked_linter, back, moved.file, moved.span.start, one.symbol.name).items():

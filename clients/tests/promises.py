@@ -20,6 +20,7 @@ from repositories import ACTION, CALLED, FILE, FILES, RIGHT, UNDEFINED, WORKFLOW
 
 from actionlint_client.faults import NO_FAULTS
 from actionlint_client.folder import Folder, Program
+from actionlint_client.program import find_facts
 
 CASES = Cases("promises")
 TOO_LARGE = "not linted, since it has more than 1,048,576 bytes"
@@ -57,10 +58,11 @@ def save(editor: Editor, path: str, data: bytes) -> None:
 
 
 def script(folder: str, text: str) -> str:
-    """A program in place of the linter."""
+    """A linter with this program in place of actionlint-facts."""
     file = folder + "/actionlint"
-    Path(file).write_text(text, encoding="utf-8")
-    os.chmod(file, stat.S_IRWXU)
+    for name in (file, file + "-facts"):
+        Path(name).write_text(text, encoding="utf-8")
+        os.chmod(name, stat.S_IRWXU)
     return file
 
 
@@ -186,8 +188,8 @@ def the_linter_is_killed(program: str) -> None:
     editor.open(FILE, WRONG)
     editor.settle()
     for text, expected in ((RIGHT, []), (WRONG, [UNDEFINED]), (RIGHT, [])):
-        (child,) = linters(editor.child.pid)
-        os.kill(child, signal.SIGKILL)
+        for child in linters(editor.child.pid):
+            os.kill(child, signal.SIGKILL)
         editor.change(FILE, text)
         editor.settle()
         assert editor.texts(FILE) == expected
@@ -227,7 +229,7 @@ def a_linter_that_answers_nonsense(program: str) -> None:
     """A linter that prints nonsense, reads without answering, neither reads nor answers, or ends."""
     folder = tempfile.mkdtemp(prefix="actionlint-test-")
     for body in ("echo hello", "cat > /dev/null", "exec sleep 100", "exit 3", "head -c 300 > /dev/null; exit 3",
-                 "echo ok 1; echo ok 1; echo ok 1; echo nonsense; echo status 1; cat > /dev/null"):
+                 'while read -r line; do echo "{}"; done', 'while read -r line; do echo "{\\"error\\": \\"no\\"}"; done'):
         editor = start(script(folder, f"#!/bin/sh\n{body}\n"), FILES, words=("--timeout", "1"))
         assert editor.diagnostics() == {} and editor.messages, body
         end(editor)
@@ -238,16 +240,17 @@ def a_linter_that_answers_nonsense(program: str) -> None:
 def a_linter_that_hangs(program: str) -> None:
     """It is stopped and replaced after a pause, and the user is told."""
     folder = tempfile.mkdtemp(prefix="actionlint-test-")
-    editor = start(script(folder, f'#!/bin/sh\nif [ -e "{folder}/hang" ]; then exec sleep 100; fi\nexec "{program}" "$@"\n'), FILES,
+    editor = start(script(folder, f'#!/bin/sh\nif [ -e "{folder}/hang" ]; then exec sleep 100; fi\nexec "{find_facts(program)}"\n'), FILES,
                    words=("--timeout", "1"))
     assert editor.texts(FILE) == [UNDEFINED]
-    (child,) = linters(editor.child.pid)
-    os.kill(child, signal.SIGSTOP)
+    stopped = linters(editor.child.pid)
+    for child in stopped:
+        os.kill(child, signal.SIGSTOP)
     begun = time.monotonic()
     save(editor, FILE, RIGHT.encode())
     assert time.monotonic() - begun < 6, "it was waited for too long"
     assert any("in time" in said for said in editor.messages) and editor.diagnostics() == {}, editor.messages
-    assert not os.path.exists(f"/proc/{child}"), "the linter that hung still runs"
+    assert not all(os.path.exists(f"/proc/{child}") for child in stopped), "the linter that hung still runs"
     time.sleep(PAUSE_SECONDS + 1)
     editor.settle()
     assert editor.texts(FILE) == [] and editor.texts(CALLED)
@@ -261,7 +264,7 @@ def a_file_that_ends_the_linter(program: str) -> None:
     folder = tempfile.mkdtemp(prefix="actionlint-test-")
     editor = start(script(folder, f"""#!{sys.executable}
 import os, subprocess, sys
-child = subprocess.Popen(["{program}", *sys.argv[1:]], stdin=subprocess.PIPE)
+child = subprocess.Popen(["{find_facts(program)}"], stdin=subprocess.PIPE)
 while True:
     block = os.read(0, 65536)
     if not block or b"DEADLY" in block:
@@ -319,6 +322,18 @@ def ranges(program: str) -> None:
         editor.settle()
         assert editor.texts(path) == [expected]
         editor.close(path)
+    end(editor)
+
+
+@CASES.case
+def a_fault_of_several_lines(program: str) -> None:
+    """Its range ends with its first line, as the linter's marks do."""
+    text = "on: push\njobs:\n  a:\n    runs-on: ubuntu-latest\n    steps: {run: x,\n      nam: y}\n"
+    editor = start(program, {FILE: text})
+    root = os.fsdecode(editor.root)
+    assert in_characters(editor.diagnostics(), {FILE: text}) == reported(program, os.fsencode(root))
+    found = editor.diagnostics()[FILE]
+    assert [one["range"]["end"] for one in found] == [{"line": 4, "character": 19}], found
     end(editor)
 
 
@@ -450,8 +465,7 @@ def many_edits(program: str) -> None:
         editor.change(FILE, WRONG + "#" * (number % 40) + "\n")
         editor.settle()
         if number % 1_000 == 999:
-            (child,) = linters(editor.child.pid)
-            sizes.append((memory(editor.child.pid), memory(child)))
+            sizes.append((memory(editor.child.pid), sum(map(memory, linters(editor.child.pid)))))
     print(f"  resident KiB of server and linter after each 1,000 edits: {sizes}")
     for before, after in zip(sizes[0], sizes[-1]):
         assert after <= before + 512, "more than 512 KiB more than after the first 1,000 edits"

@@ -152,7 +152,7 @@ def cut_messages(program: str) -> None:
     for sent in (b"Content-Length: 100\r\n\r\n{", b"Content-Length: 5", b"Content-Length: x\r\n\r\n{}", b"Content-Length: -1\r\n\r\n{}",
                  b"Hello\r\n\r\n{}", b"\r\n\r\n"):
         editor = start(program, FILES)
-        (child,) = linters(editor.child.pid)
+        (child, *_) = linters(editor.child.pid)
         editor.send_bytes(sent)
         if sent.startswith(b"Content-Length: 100") or sent.endswith(b"5"):
             editor.child.stdin.close()
@@ -164,7 +164,7 @@ def cut_messages(program: str) -> None:
 @CASES.case
 def the_editor_is_gone(program: str) -> None:
     editor = start(program, FILES)
-    (child,) = linters(editor.child.pid)
+    (child, *_) = linters(editor.child.pid)
     editor.child.stdin.close()
     assert editor.child.wait(timeout=60) == 1
     deadline = time.monotonic() + 5

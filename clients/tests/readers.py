@@ -1,4 +1,4 @@
-"""The run of actionlint-facts that the cases of a test share, and what it reads."""
+"""The run of actionlint-facts that the cases of a test share, and what it reads, and the faults of a folder."""
 from __future__ import annotations
 
 import os
@@ -9,7 +9,11 @@ from typing import Any
 from repositories import CLIENTS, FILE
 
 sys.path.insert(0, str(CLIENTS))
+from actionlint_client.facts import Facts
+from actionlint_client.faults import faults_of
+from actionlint_client.program import find_facts
 from actionlint_client.reader import Reader
+from actionlint_client.report import Fault
 from actionlint_client.tree import Node
 
 SECONDS = 60.0
@@ -19,6 +23,28 @@ SECONDS = 60.0
 def reader() -> Reader:
     """The one beside the linter that the test is given."""
     return Reader(os.path.abspath(sys.argv[1]), SECONDS)
+
+
+class Linter:
+    """The linter with a folder of its own."""
+
+    def __init__(self, program: str, texts: dict[str, str]):
+        self._facts, self._texts = Facts([find_facts(program)], SECONDS), {}
+        for path, text in texts.items():
+            self.put(path, text)
+
+    def put(self, path: str, text: str) -> None:
+        self._texts[path] = text.encode()
+        self._facts.put(path, self._texts[path])
+
+    def faults(self) -> list[Fault]:
+        return [fault for path, found in self._facts.report().items() for fault in faults_of(path, found, self._texts[path])]
+
+    def faults_in(self, path: str) -> list[Fault]:
+        return list(faults_of(path, self._facts.faults(path), self._texts[path]))
+
+    def stop(self) -> None:
+        self._facts.stop()
 
 
 def values(text: str) -> Any:

@@ -18,15 +18,13 @@ from pathlib import Path
 from typing import Iterator
 
 from cases import Cases
-from readers import reader
+from readers import Linter, reader
 from repositories import CLIENTS
 
-from actionlint_client.entries import entry_of
 from actionlint_client.fixes import Fix, fixes
 from actionlint_client.project import Project
 from actionlint_client.repair import replaced
-from actionlint_client.report import Fault, parse_report
-from actionlint_client.session import Session
+from actionlint_client.report import Fault
 
 CASES = Cases("slips")
 SLIPS = Path(__file__).resolve().parent / "slips"
@@ -96,7 +94,7 @@ def changed(text: str, changes: list[str]) -> str:
 
 
 class Folder:
-    """A folder in a session, and its files for features that look up names."""
+    """A folder of the linter, and its files for features that look up names."""
 
     def __init__(self, program: str, texts: dict[str, str]):
         self.program, self.texts = [program], texts
@@ -104,13 +102,11 @@ class Folder:
         self.project = Project(reader(), files.get, lambda: list(files))
 
     def faults(self) -> list[Fault]:
-        session = Session(self.program, False, SECONDS)
+        linter = Linter(self.program[0], self.texts)
         try:
-            for path, text in self.texts.items():
-                session.put(path, text.encode())
-            return parse_report(session.report(1 << 26), True)
+            return linter.faults()
         finally:
-            session.stop()
+            linter.stop()
 
     def fixes(self, fault: Fault) -> list[Fix]:
         return fixes(self.program, SECONDS, self.project, [fault], seconds=SECONDS)
@@ -145,8 +141,7 @@ def check(program: str, slip: Slip) -> None:
 
 def is_next_of_yaml(one: Fault, fault: Fault) -> bool:
     """Whether a fault of YAML is further below than another one, which hid it."""
-    entry = entry_of(fault.message)
-    return entry is not None and entry.code[0] == "Y" and (one.path, one.message) == (fault.path, fault.message) and one.line > fault.line
+    return fault.code.startswith("Y") and (one.path, one.message) == (fault.path, fault.message) and one.line > fault.line
 
 
 def counted(faults: list[Fault]) -> Counter:

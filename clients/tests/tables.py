@@ -55,7 +55,7 @@ def one_entry_each(program: str) -> None:
     assert len(lines) >= LEAST_LINES, len(lines)
     seen = set()
     for line in lines:
-        message = parse_fault(line, None).message
+        message = parse_fault(line).message
         found = [entry.code for entry in entries.entries() if entry.arguments(message) is not None]
         assert len(found) == 1, (found, message)
         seen.update(found)
