@@ -512,7 +512,10 @@ WRONG_VERSIONS = {name: WrongVersion(*row) for name, *row in (
     ("inputs_have_no_values", "completion.py", "completion.py texts_and_order",
      'value = {"boolean": "true", "number": "0"}.get(kind, "")', 'value = ""'),
     ("long_answers_are_kept", "child.py", "facts_process.py wrong_programs",
-     "return None if max_bytes is not None and", "return None if False and"),
+     """                blocks = []
+        return None if max_bytes is not None and size > max_bytes else b"".join(blocks)""",
+     """                blocks.append(block)
+        return b"".join(blocks)"""),
     ("facts_are_built", "program.py", "facts_process.py which_program",
      ' and place.resolve().name.endswith((SUFFIX, FACTS_OF_A_CLONE[0].rpartition("/")[2]))', ""),
     ("input_is_not_waited_for", "streams.py", "protocol.py streams_that_do_not_block",
