@@ -4,7 +4,8 @@ Each public item of the nine crates has a comment, fields and variants too; so d
 crate does. Only signatures of what is public for the crates above alone name such types. A function that returns a `Result` says under `#
 Errors` when it fails, and one with a `requires` under `# Requires` what it asks. Each item is on the page that tools/api_pages.py makes
 of its crate, with all its clauses. docs/LIBRARY.md has a row for each crate, and lists what is public for the crates above alone: items
-that exist, among them all that do nothing at run time. Prints a line for each.
+that exist, among them all that do nothing at run time. al_surface calls each other function, a method in a file that names its type.
+Prints a line for each.
 """
 
 import pathlib
@@ -76,6 +77,36 @@ def wrong_lists(top, named):
                     if EMPTY in it.comment.replace("\n", " ") and name not in listed)
 
 
+def functions_of(named):
+    """The functions of the crates, with their types: none for what stands by itself or in a module. One that two crates name counts for
+    the first."""
+    seen = set()
+    for crate, items in named.items():
+        for name, it in items_of(items):
+            if it.kind == "fn" and it.place not in seen:
+                seen.add(it.place)
+                owner, _, last = name.rpartition("::")
+                yield crate, name, "" if owner in items and items[owner].kind == "mod" else owner, last
+
+
+def is_called(source, crate, owner, name):
+    """Whether a source calls a function that it imports from a crate, or a method of a type that it names."""
+    if owner:
+        return re.search(rf"\b{owner}\b", source) and re.search(rf"(?:\.|\b{owner}::){name}\(", source)
+    return re.search(rf"^use {crate}\b[^;]*\b{name}\b", source, re.MULTILINE) and re.search(rf"(?<![.\w]){name}\(", source)
+
+
+def wrong_calls(top, named):
+    """The functions that al_surface doesn't call and docs/LIBRARY.md doesn't list, and those of which both is so."""
+    sources = [it.read_text(encoding="utf-8") for it in sorted((top / "crates/al_surface/src").glob("*.rt"))]
+    inner = inner_items(top)
+    for crate, name, owner, last in functions_of(named):
+        is_listed = not {name, owner}.isdisjoint(inner.get(crate, []))
+        calls = any(is_called(it, crate, owner, last) for it in sources)
+        if calls == is_listed:
+            yield f"{crate}::{name} is " + ("listed, and al_surface calls it" if calls else "called nowhere in al_surface, and not listed")
+
+
 def made_pages(top):
     """The pages that tools/api_pages.py makes, by crate; what it says where it fails."""
     with tempfile.TemporaryDirectory(prefix="actionlint-test-") as room:
@@ -100,6 +131,7 @@ def main(folder):
     for crate in PUBLIC:
         report(f"page-of-{crate}", "-", list(missing_on_page(pages.get(crate, ""), items_of(named[crate]))))
     report("library-page", "-", list(wrong_lists(top, named)))
+    report("calls-of-al_surface", "-", list(wrong_calls(top, named)))
     return exit_status()
 
 

@@ -2,7 +2,8 @@
 
 use al_scalar::lines::{
     after_break, begins, blank_line_end, blanks_end, first_byte, indent, is_blank, is_blank_or_end,
-    is_break_at, is_document_marker, is_flow_indicator, is_line_end, line_end, spaces_end,
+    is_break_at, is_document_marker, is_flow_indicator, is_line_end, is_marker, line_end,
+    spaces_end,
 };
 use al_scalar::{FaultAt, fault_at};
 use al_text::limits::LARGEST_FILE;
@@ -49,14 +50,15 @@ fn is_line(file: &[u8], at: usize, spaces: usize, end: usize) -> bool {
     at <= file.len() && indent(file, at) == spaces && line_end(file, at) == end
 }
 
-fn is_marker(file: &[u8], at: usize) -> bool {
-    at <= file.len() && is_document_marker(file, at)
+/// Whether a marker of three `-` at an offset begins a document.
+fn begins_document(file: &[u8], at: usize) -> bool {
+    at <= file.len() && is_marker(file, at, b'-') && is_document_marker(file, at)
 }
 
 #[test]
 fn lines_of_a_file(rt: HostRuntime) {
     assert!(rt; is_line(b"a:\n  b: c\r\n", 3, 2, 9));
-    assert!(rt; is_marker(b"---\na", 0) && !is_marker(b"---\na", 4));
+    assert!(rt; begins_document(b"---\na", 0) && !begins_document(b"---\na", 4));
 }
 
 #[test]

@@ -23,8 +23,7 @@ fn replies_with(alloc: Global, script: &[u8], wanted: &[u8]) -> Result<bool, Sto
 }
 
 #[test]
-fn a_script_in_memory(rt: HostRuntime) -> Result<(), Stop> {
+fn a_script_in_memory(rt: HostRuntime) {
     let script = b"delete .github/workflows/a.yml\nreport\n";
-    assert!(rt; replies_with(rt.alloc(), script, b"refused E5\nstatus 0\n")?);
-    Ok(())
+    assert!(rt; replies_with(rt.alloc(), script, b"refused E5\nstatus 0\n") == Ok(true));
 }

@@ -31,7 +31,6 @@ fn finds_event(alloc: Global, file: &[u8]) -> Result<bool, AllocError> {
 }
 
 #[test]
-fn an_unknown_event(rt: HostRuntime) -> Result<(), AllocError> {
-    assert!(rt; finds_event(rt.alloc(), b"on: pus\njobs: {}\n")?);
-    Ok(())
+fn an_unknown_event(rt: HostRuntime) {
+    assert!(rt; finds_event(rt.alloc(), b"on: pus\njobs: {}\n") == Ok(true));
 }

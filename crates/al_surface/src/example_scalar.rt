@@ -26,13 +26,11 @@ fn are_at(alloc: Global, file: &[u8], at: usize, wanted: &[u32]) -> Result<bool,
 }
 
 #[test]
-fn each_byte_has_an_offset(rt: HostRuntime) -> Result<(), AllocError> {
-    assert!(rt; are_at(rt.alloc(), b"a: \"x\\u00e9\"\n", 3, &[4, 5, 5])?);
-    Ok(())
+fn each_byte_has_an_offset(rt: HostRuntime) {
+    assert!(rt; are_at(rt.alloc(), b"a: \"x\\u00e9\"\n", 3, &[4, 5, 5]) == Ok(true));
 }
 
 #[test]
-fn a_fault_has_no_bytes(rt: HostRuntime) -> Result<(), AllocError> {
-    assert!(rt; are_at(rt.alloc(), b"a: 'b\n", 3, &[])?);
-    Ok(())
+fn a_fault_has_no_bytes(rt: HostRuntime) {
+    assert!(rt; are_at(rt.alloc(), b"a: 'b\n", 3, &[]) == Ok(true));
 }

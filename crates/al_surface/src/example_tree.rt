@@ -41,7 +41,6 @@ fn has_jobs(alloc: Global, file: &[u8]) -> Result<bool, AllocError> {
 }
 
 #[test]
-fn jobs_and_faults(rt: HostRuntime) -> Result<(), AllocError> {
-    assert!(rt; has_jobs(rt.alloc(), b"jobs:\n  a: {uses: ./b}\n  b: {uses: ./c}\n")?);
-    Ok(())
+fn jobs_and_faults(rt: HostRuntime) {
+    assert!(rt; has_jobs(rt.alloc(), b"jobs:\n  a: {uses: ./b}\n  b: {uses: ./c}\n") == Ok(true));
 }

@@ -1,11 +1,11 @@
 //! `al_expr`: tokens, trees, chunks, signatures and types.
 
 use al_expr::{
-    Available, Chunk, Context, ContextTypes, Expr, Form, Operand, Operator, Parameters, PathStep,
-    Returned, Scope, Signature, Token, TokenKind, Ty, Wanted, Word, assignable, chunks, fuse, lex,
-    parse_expr, signature_of, type_of,
+    Available, Chunk, Context, ContextTypes, Expr, Form, Function, Operand, Operator, Parameters,
+    PathStep, Returned, Scope, Signature, Token, TokenKind, Ty, Wanted, Word, assignable, chunks,
+    extent, fuse, lex, parse_expr, signature_of, type_of,
 };
-use al_text::{Code, ExpressionCode, Fault};
+use al_text::{Code, ExpressionCode, Fault, Span};
 use std::alloc::{AllocError, Global};
 
 static FAULTS: [(&str, ExpressionCode, u32); 9] = [
@@ -41,11 +41,10 @@ fn has_fault(
 }
 
 #[test]
-fn faults_of_contents(rt: HostRuntime) -> Result<(), AllocError> {
+fn faults_of_contents(rt: HostRuntime) {
     for (content, code, start) in faults() {
-        assert!(rt; has_fault(rt.alloc(), content, *code, *start)?);
+        assert!(rt; has_fault(rt.alloc(), content, *code, *start) == Ok(true));
     }
-    Ok(())
 }
 
 fn is_word(word: &Word<'_>, text: &str) -> bool {
@@ -120,9 +119,20 @@ fn is_read(alloc: Global, content: &str) -> Result<bool, AllocError> {
 }
 
 #[test]
-fn operators_bind_by_their_levels(rt: HostRuntime) -> Result<(), AllocError> {
-    assert!(rt; is_read(rt.alloc(), "a.b == 'x' && !c")?);
-    Ok(())
+fn operators_bind_by_their_levels(rt: HostRuntime) {
+    assert!(rt; is_read(rt.alloc(), "a.b == 'x' && !c") == Ok(true));
+}
+
+fn extends_over(alloc: Global, content: &str, span: Span) -> Result<bool, AllocError> {
+    match parse_expr(alloc, content)? {
+        Ok(expr) => Ok(extent(&expr) == span),
+        Err(_) => Ok(false),
+    }
+}
+
+#[test]
+fn the_extent_of_an_expression(rt: HostRuntime) {
+    assert!(rt; extends_over(rt.alloc(), " a && b.c ", Span { start: 1, end: 9 }) == Ok(true));
 }
 
 fn are_of_kinds(tokens: &[Token<'_>], kinds: &[TokenKind]) -> bool {
@@ -150,9 +160,8 @@ fn negated() -> &'static [TokenKind] {
 }
 
 #[test]
-fn tokens(rt: HostRuntime) -> Result<(), AllocError> {
-    assert!(rt; has_kinds(rt.alloc(), "! c.", negated())?);
-    Ok(())
+fn tokens(rt: HostRuntime) {
+    assert!(rt; has_kinds(rt.alloc(), "! c.", negated()) == Ok(true));
 }
 
 fn is_chunk(found: &[Chunk], content: &str, start: u32, end: u32) -> bool {
@@ -172,9 +181,8 @@ fn has_one_chunk(alloc: Global, text: &str) -> Result<bool, AllocError> {
 }
 
 #[test]
-fn a_chunk_ends_outside_quotes(rt: HostRuntime) -> Result<(), AllocError> {
-    assert!(rt; has_one_chunk(rt.alloc(), "a ${{ 'x}}' }} b")?);
-    Ok(())
+fn a_chunk_ends_outside_quotes(rt: HostRuntime) {
+    assert!(rt; has_one_chunk(rt.alloc(), "a ${{ 'x}}' }} b") == Ok(true));
 }
 
 static SIGNATURES: [(&str, Option<Signature>); 3] = [
@@ -206,20 +214,32 @@ fn signatures_by_name(rt: HostRuntime) {
     }
 }
 
+/// Whether calls have two arguments of these types.
+fn takes_two(parameters: Parameters, first: Wanted, second: Wanted) -> bool {
+    parameters.takes(2)
+        && !parameters.takes(1)
+        && parameters.parameter_at(0) == first
+        && parameters.parameter_at(1) == second
+}
+
+#[test]
+fn parameters_of_a_function(rt: HostRuntime) {
+    let parameters = Parameters::Two(Wanted::String, Wanted::Any);
+    assert!(rt; takes_two(parameters, Wanted::String, Wanted::Any));
+}
+
 fn fuse_to(alloc: Global, a: Ty, b: Ty, form: Form) -> Result<bool, AllocError> {
     Ok(fuse(alloc, a, b)?.form() == form)
 }
 
 #[test]
-fn a_number_and_a_string_are_strings(rt: HostRuntime) -> Result<(), AllocError> {
-    assert!(rt; fuse_to(rt.alloc(), Ty::Number, Ty::String, Form::String)?);
-    Ok(())
+fn a_number_and_a_string_are_strings(rt: HostRuntime) {
+    assert!(rt; fuse_to(rt.alloc(), Ty::Number, Ty::String, Form::String) == Ok(true));
 }
 
 #[test]
-fn null_and_a_number_are_anything(rt: HostRuntime) -> Result<(), AllocError> {
-    assert!(rt; fuse_to(rt.alloc(), Ty::Null, Ty::Number, Form::Any)?);
-    Ok(())
+fn null_and_a_number_are_anything(rt: HostRuntime) {
+    assert!(rt; fuse_to(rt.alloc(), Ty::Null, Ty::Number, Form::Any) == Ok(true));
 }
 
 #[test]
@@ -254,6 +274,12 @@ fn only_github() -> Available {
         contexts: &[Context::Github],
         special: &[],
     }
+}
+
+#[test]
+fn functions_that_can_be_called(rt: HostRuntime) {
+    assert!(rt; only_github().allows(Function::Contains));
+    assert!(rt; !only_github().allows(Function::Always));
 }
 
 pub(crate) fn scope(alloc: Global) -> Scope {
@@ -300,23 +326,27 @@ fn typed() -> &'static [(
     &TYPED
 }
 
-/// Whether typing an expression finds one fault, with this code and these texts.
-fn has_one(
-    alloc: Global,
-    expr: &Expr<'_>,
-    code: ExpressionCode,
-    texts: (Option<&str>, Option<&str>),
-) -> Result<bool, AllocError> {
-    let mut out = Vec::new(alloc);
-    type_of(alloc, &scope(alloc), expr, &mut out)?;
-    Ok(match out.as_slice() {
+/// Whether these are one fault, with this code and these texts.
+fn is_only(found: &[Fault], code: ExpressionCode, texts: (Option<&str>, Option<&str>)) -> bool {
+    match found {
         [only] => {
             only.code == Code::Expression(code)
                 && only.args.first() == texts.0
                 && only.args.second() == texts.1
         }
         _ => false,
-    })
+    }
+}
+
+/// Whether typing an expression finds one fault, with this code and these texts.
+fn has_one(
+    alloc: Global,
+    expr: &Expr<'_>,
+    code: ExpressionCode,
+    texts: (Option<&str>, Option<&str>),
+) -> bool {
+    let mut out = Vec::new(alloc);
+    type_of(alloc, &scope(alloc), expr, &mut out).is_ok() && is_only(&out, code, texts)
 }
 
 fn is_typed(
@@ -326,15 +356,14 @@ fn is_typed(
     texts: (Option<&str>, Option<&str>),
 ) -> Result<bool, AllocError> {
     match parse_expr(alloc, content)? {
-        Ok(expr) => has_one(alloc, &expr, code, texts),
+        Ok(expr) => Ok(has_one(alloc, &expr, code, texts)),
         Err(_) => Ok(false),
     }
 }
 
 #[test]
-fn faults_of_types(rt: HostRuntime) -> Result<(), AllocError> {
+fn faults_of_types(rt: HostRuntime) {
     for (content, code, first, second) in typed() {
-        assert!(rt; is_typed(rt.alloc(), content, *code, (*first, *second))?);
+        assert!(rt; is_typed(rt.alloc(), content, *code, (*first, *second)) == Ok(true));
     }
-    Ok(())
 }

@@ -7,6 +7,8 @@ pub(crate) const CALLER: &str = ".github/workflows/c.yml";
 
 pub(crate) const ACTION: &str = "a/action.yml";
 
+pub(crate) const LOOP: &str = ".github/workflows/r.yml";
+
 /// A workflow whose step calls the action.
 pub(crate) fn caller() -> &'static [u8] {
     b"on: push
@@ -34,4 +36,14 @@ runs:
 /// The report on both, without snippets.
 pub(crate) fn missing_input() -> &'static [u8] {
     b".github/workflows/c.yml:6:15: required input \"who\" of \"A\" is missing [action]\n"
+}
+
+/// A workflow whose job calls the workflow itself.
+pub(crate) fn calls_itself() -> &'static [u8] {
+    b"on:
+  workflow_call:
+jobs:
+  a:
+    uses: ./.github/workflows/r.yml
+"
 }

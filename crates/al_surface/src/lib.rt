@@ -36,9 +36,13 @@ mod linters;
 #[cfg(test)]
 mod names;
 #[cfg(test)]
+mod places;
+#[cfg(test)]
 mod programs;
 #[cfg(test)]
 mod sessions;
+#[cfg(test)]
+mod syntax;
 #[cfg(test)]
 mod texts;
 #[cfg(test)]

@@ -1,9 +1,11 @@
-//! Paths and names: `al_tree`, `al_expr` and `al_rules`.
+//! Paths and names: `al_tree`, `al_expr`, `al_rules` and `al_check`.
 
+use al_check::{Name, NameList};
 use al_expr::{Context, Function, Returned};
 use al_rules::activities_of;
 use al_text::is_same_name;
 use al_tree::{FileKind, file_kind, is_action, is_combination_key, is_event, is_workflow};
+use std::alloc::{AllocError, Global};
 
 /// A path, and whether it is a workflow's and an action's.
 static PATHS: [(&str, bool, bool); 5] = [
@@ -71,4 +73,27 @@ fn gives_text(name: &str) -> bool {
 #[test]
 fn names_in_any_case(rt: HostRuntime) {
     assert!(rt; is_same_name(b"a-B", b"A-b") && is_secrets("SECRETS") && gives_text("ToJson"));
+}
+
+/// The list of one name, by way of copies.
+fn list_of(alloc: Global, bytes: &[u8]) -> Result<NameList, AllocError> {
+    let name = Name::new(alloc, bytes)?;
+    let mut names = Vec::new(alloc);
+    names.push(name.copy(alloc)?)?;
+    NameList::new(names)?.copy(alloc)
+}
+
+/// Whether a list has one name, at which it is found.
+fn has_only(names: &NameList, bytes: &[u8]) -> Result<bool, AllocError> {
+    let is_only = names.len() == 1 && names.at(0) == bytes && names.as_slice().len() == 1;
+    Ok(is_only && names.position(bytes)? == Some(0))
+}
+
+fn lists_name(alloc: Global, bytes: &[u8]) -> Result<bool, AllocError> {
+    has_only(&list_of(alloc, bytes)?, bytes)
+}
+
+#[test]
+fn lists_of_names(rt: HostRuntime) {
+    assert!(rt; lists_name(rt.alloc(), b"who") == Ok(true));
 }

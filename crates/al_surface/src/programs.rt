@@ -1,17 +1,21 @@
 //! `al_cli`: command lines, scripts, and the files of a folder on disk.
 
-use crate::files::{CALLER, action, caller, missing_input};
+use crate::files::{ACTION, CALLER, action, caller, missing_input};
 use al_check::Actions;
 use al_cli::{
-    Fatal, Unread, Usage, Words, gather, lint_all, parse_words, run_commands, run_session,
+    Disk, DiskError, Ending, Entry, Fatal, SystemDisk, Unread, Usage, WaitingInput, WaitingOutput,
+    Words, gather, lint_all, load, number_of, parse_words, run, run_commands, run_session, say_why,
 };
 use al_session::{Refused, Session};
-use al_text::{Input, Output, Path, Stop};
+use al_text::{Input, Output, Path, Stop, path_fault};
+use al_tree::is_action;
 use std::alloc::Global;
 use std::fs;
+use std::io::ErrorKind;
 use std::random::RandomSource;
 use std::rt::Files;
 use std::test::Fail;
+use std::time::Clock;
 
 fn asks_for_a_file(words: &Words<'_>) -> bool {
     words.oneline
@@ -65,9 +69,8 @@ fn answers(alloc: Global, script: &[u8], wanted: &[u8]) -> Result<bool, Stop> {
 }
 
 #[test]
-fn a_script(rt: HostRuntime) -> Result<(), Stop> {
-    assert!(rt; answers(rt.alloc(), script(), replies())?);
-    Ok(())
+fn a_script(rt: HostRuntime) {
+    assert!(rt; answers(rt.alloc(), script(), replies()) == Ok(true));
 }
 
 fn run_over(
@@ -86,19 +89,24 @@ fn run_over(
 }
 
 /// Whether a script starts with the folder that the one before it left.
-fn goes_on(alloc: Global, first: &[u8], second: &[u8], wanted: &[u8]) -> Result<bool, Stop> {
-    let mut session = Session::open(alloc, Actions::new());
+fn goes_on(
+    alloc: Global,
+    session: &mut Session<Actions>,
+    first: &[u8],
+    second: &[u8],
+    wanted: &[u8],
+) -> Result<bool, Stop> {
     let mut output = Vec::new(alloc);
-    run_over(alloc, &mut session, first, &mut output)?;
-    let status = run_over(alloc, &mut session, second, &mut output)?;
+    run_over(alloc, session, first, &mut output)?;
+    let status = run_over(alloc, session, second, &mut output)?;
     Ok(status == 1 && output.as_slice() == wanted)
 }
 
 #[test]
-fn two_scripts_over_a_session(rt: HostRuntime) -> Result<(), Stop> {
+fn two_scripts_over_a_session(rt: HostRuntime) {
     let put = b"put .github/workflows/a.yml 0\n\n";
-    assert!(rt; goes_on(rt.alloc(), put, b"report\n", replies())?);
-    Ok(())
+    let session = &mut Session::open(rt.alloc(), Actions::new());
+    assert!(rt; goes_on(rt.alloc(), session, put, b"report\n", replies()) == Ok(true));
 }
 
 static REFUSED: [(&str, &[u8]); 2] = [(CALLER, b""), ("x.yml", b"")];
@@ -144,9 +152,7 @@ fn report(alloc: Global, files: &[(Path, Vec<u8>)]) -> Result<(u8, Vec<u8>), Fat
 
 fn are_both(files: &[(Path, Vec<u8>)]) -> bool {
     match files {
-        [(first, _), (second, _)] => {
-            first.as_str() == CALLER && second.as_str() == "a/action.yml"
-        }
+        [(first, _), (second, _)] => first.as_str() == CALLER && second.as_str() == ACTION,
         _ => false,
     }
 }
@@ -158,16 +164,20 @@ fn is_reported(alloc: Global, files: &[(Path, Vec<u8>)], wanted: &[u8]) -> bool 
     }
 }
 
+/// What a run over a whole folder is asked for.
+fn words_for(alloc: Global, root: &str) -> Words<'_> {
+    Words {
+        oneline: true,
+        session: false,
+        root,
+        files: Vec::new(alloc),
+    }
+}
+
 /// Whether the files of the folder are its only workflow and the action that this calls, and their
 /// report is this one.
 fn gathers<R: Files + RandomSource + AllocGlobal + Clone + Drop>(rt: &R, wanted: &[u8]) -> bool {
-    let words = Words {
-        oneline: true,
-        session: false,
-        root: ROOT,
-        files: Vec::new(rt.alloc()),
-    };
-    match gather(rt, rt.alloc(), &words) {
+    match gather(rt, rt.alloc(), &words_for(rt.alloc(), ROOT)) {
         Ok(files) => is_reported(rt.alloc(), &files, wanted),
         Err(_) => false,
     }
@@ -175,16 +185,63 @@ fn gathers<R: Files + RandomSource + AllocGlobal + Clone + Drop>(rt: &R, wanted:
 
 /// Whether listing a missing folder fails.
 fn is_unread<R: Files + RandomSource + AllocGlobal + Clone + Drop>(rt: &R) -> bool {
-    let words = Words {
-        oneline: true,
-        session: false,
-        root: "al_surface_no_folder",
-        files: Vec::new(rt.alloc()),
-    };
-    match gather(rt, rt.alloc(), &words) {
+    match gather(
+        rt,
+        rt.alloc(),
+        &words_for(rt.alloc(), "al_surface_no_folder"),
+    ) {
         Err(Unread::Unreadable(path)) => path.as_str() == ".github/workflows",
         _ => false,
     }
+}
+
+/// Whether loading the folder from a disk reads the action.
+fn loads_action<D: Disk>(alloc: Global, disk: &mut D) -> bool {
+    match load(alloc, disk, &words_for(alloc, ROOT)) {
+        Ok(loaded) => loaded.files.bytes(ACTION) == Some(action()) && loaded.outside.is_empty(),
+        Err(_) => false,
+    }
+}
+
+/// Whether a session under the seed of a disk begins without files.
+fn is_empty<D: Disk>(alloc: Global, disk: &D) -> bool {
+    let session = Session::open_seeded(alloc, Actions::new(), disk.seed());
+    session.path_at(0).is_none()
+}
+
+fn lists_workflow<D: Disk>(alloc: Global, disk: &mut D) -> Result<bool, DiskError> {
+    let listed = disk.workflows(alloc, ROOT)?;
+    Ok(listed.len() == 1 && listed.contains(CALLER))
+}
+
+fn is_file(entry: &Entry, wanted: &[u8]) -> bool {
+    match entry {
+        Entry::File(bytes) => bytes.as_slice() == wanted,
+        _ => false,
+    }
+}
+
+/// Whether a disk has an action at a path of the folder.
+fn holds_action<D: Disk>(alloc: Global, disk: &mut D, path: &str) -> Result<bool, DiskError> {
+    if path_fault(path).is_some() || !is_action(path.as_bytes()) {
+        return Ok(false);
+    }
+    let entry = disk.read(alloc, ROOT, path)?;
+    Ok(is_file(&entry, action()))
+}
+
+fn arguments() -> &'static [&'static str] {
+    &["actionlint", "--oneline", "--root", ROOT]
+}
+
+/// Whether a run over the folder writes this report.
+fn runs<D: Disk, C: Clock>(alloc: Global, disk: &mut D, clock: &C, wanted: &[u8]) -> bool {
+    let mut text = Vec::new(alloc);
+    let mut errors = Vec::new(alloc);
+    let output = &mut Output::new(WaitingOutput::new(&mut text, clock));
+    let input = &mut Input::new(WaitingInput::new(b"".as_slice(), clock));
+    let ending = run(alloc, arguments(), disk, input, output, &mut errors);
+    ending.status() == 1 && text.as_slice() == wanted && errors.is_empty()
 }
 
 #[test]
@@ -192,6 +249,34 @@ fn a_folder_of_the_disk(rt: HostRuntime) -> Result<(), Fail> {
     make_folder(&rt)?;
     assert!(rt; gathers(&rt, missing_input()));
     assert!(rt; is_unread(&rt));
+    assert!(rt; loads_action(rt.alloc(), &mut SystemDisk::new(&rt)));
+    assert!(rt; lists_workflow(rt.alloc(), &mut SystemDisk::new(&rt)) == Ok(true));
+    assert!(rt; holds_action(rt.alloc(), &mut SystemDisk::new(&rt), ACTION) == Ok(true));
+    assert!(rt; is_empty(rt.alloc(), &SystemDisk::new(&rt)));
+    assert!(rt; runs(rt.alloc(), &mut SystemDisk::new(&rt), &rt, missing_input()));
     fs::remove_dir_all(&rt, ROOT)?;
     Ok(())
+}
+
+fn says(alloc: Global, ending: &Ending, wanted: &[u8]) -> bool {
+    let mut text = Vec::new(alloc);
+    say_why(&mut text, ending).is_ok() && text.as_slice() == wanted
+}
+
+#[test]
+fn why_a_run_ended(rt: HostRuntime) {
+    let wanted = b"actionlint: arguments are not valid UTF-8\n";
+    assert!(rt;
+        says(
+            rt.alloc(),
+            &Ending::of_unreadable(ErrorKind::InvalidData),
+            wanted
+        )
+    );
+}
+
+#[test]
+fn statuses_and_numbers(rt: HostRuntime) {
+    assert!(rt; Ending::of_unreadable(ErrorKind::OutOfMemory).status() == 3);
+    assert!(rt; number_of(Refused::NotAccepted) == 2);
 }

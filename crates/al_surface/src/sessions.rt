@@ -1,9 +1,9 @@
 //! `al_session`: edits of a folder that is linted by `al_check`.
 
-use crate::files::{ACTION, CALLER, action, caller, missing_input};
+use crate::files::{ACTION, CALLER, LOOP, action, caller, calls_itself, missing_input};
 use al_check::Actions;
-use al_session::{Edit, Refused, Session};
-use al_text::{Output, Path, Stop};
+use al_session::{Edit, Paths, Refused, Session};
+use al_text::{CallCode, Caller, Code, Fault, Output, Path, Stop};
 use std::alloc::{AllocError, Global};
 
 fn are_paths(paths: &[Path], wanted: &[&str]) -> bool {
@@ -97,12 +97,50 @@ fn refuses_all(session: &mut Session<Actions>) -> bool {
 }
 
 #[test]
-fn an_edited_folder(rt: HostRuntime) -> Result<(), Stop> {
-    assert!(rt; follows_edits(rt.alloc(), &mut Session::open(rt.alloc(), Actions::new()))?);
-    Ok(())
+fn an_edited_folder(rt: HostRuntime) {
+    let session = &mut Session::open(rt.alloc(), Actions::new());
+    assert!(rt; follows_edits(rt.alloc(), session) == Ok(true));
 }
 
 #[test]
 fn refused_edits(rt: HostRuntime) {
     assert!(rt; refuses_all(&mut Session::open(rt.alloc(), Actions::new())));
+}
+
+fn is_own_call(faults: &[Fault]) -> bool {
+    match faults {
+        [fault] => fault.code == Code::Call(CallCode::CallCycle, Caller::Job),
+        _ => false,
+    }
+}
+
+/// Whether a call cycle is found as soon as a file calls itself.
+fn finds_cycle(session: &mut Session<Actions>) -> Result<bool, AllocError> {
+    let is_put = puts(session, LOOP, calls_itself(), &[LOOP]);
+    let faults = session.call_cycle_faults()?;
+    Ok(match faults.as_slice() {
+        [of_file] => is_put && is_own_call(of_file),
+        _ => false,
+    })
+}
+
+#[test]
+fn a_file_that_calls_itself(rt: HostRuntime) {
+    assert!(rt; finds_cycle(&mut Session::open(rt.alloc(), Actions::new())) == Ok(true));
+}
+
+fn lists_path(alloc: Global, text: &str) -> Result<bool, AllocError> {
+    let Ok(path) = Path::new(alloc, text) else {
+        return Ok(false);
+    };
+    let mut listed = Vec::new(alloc);
+    listed.push(path)?;
+    let paths = Paths::new(listed);
+    let is_listed = are_paths(paths.as_slice(), &[text]);
+    Ok(is_listed && paths.into_vec().len() == 1)
+}
+
+#[test]
+fn a_list_of_paths(rt: HostRuntime) {
+    assert!(rt; lists_path(rt.alloc(), ACTION) == Ok(true));
 }

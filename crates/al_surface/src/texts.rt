@@ -1,10 +1,12 @@
 //! `al_text`: paths, positions, printed faults, and readers and writers.
 
-ghost use Rattle.std.specs.Prelude.{◌≡◌, IfOk};
+ghost use Rattle.std.specs.Prelude.{◌≡◌, ◌≤◌, length, true};
 
+use al_text::limits::LARGEST_FILE;
 use al_text::{
     Args, CallCode, Caller, Code, ExpressionCode, Fault, Input, KeyCode, Lines, Output, Path,
-    PathFault, RuleCode, Span, Stop, WriteFault, YamlCode, kind, path_fault, position, write_fault,
+    PathFault, RuleCode, Span, Stop, WriteFault, YamlCode, kind, location_of, path_fault, position,
+    write_fault_at, write_faults,
 };
 use std::alloc::{AllocError, Global};
 
@@ -48,21 +50,16 @@ fn letters(alloc: Global, count: u32) -> Result<String, AllocError> {
     Ok(text)
 }
 
-/// The fault of a path of this many letters.
-fn fault_of_letters(alloc: Global, count: u32) -> Result<Option<PathFault>, AllocError> {
-    Ok(path_fault(letters(alloc, count)?.as_str()))
+/// Whether a path of this many letters has this fault.
+fn has_fault(alloc: Global, count: u32, wanted: Option<PathFault>) -> Result<bool, AllocError> {
+    let path = letters(alloc, count)?;
+    Ok(path_fault(path.as_str()) == wanted)
 }
 
 #[test]
-fn a_path_has_1024_bytes(rt: HostRuntime) -> Result<(), AllocError> {
-    assert!(rt; fault_of_letters(rt.alloc(), 1_024)?.is_none());
-    Ok(())
-}
-
-#[test]
-fn a_path_has_no_1025_bytes(rt: HostRuntime) -> Result<(), AllocError> {
-    assert!(rt; fault_of_letters(rt.alloc(), 1_025)? == Some(PathFault::TooLong));
-    Ok(())
+fn a_path_has_1024_bytes(rt: HostRuntime) {
+    assert!(rt; has_fault(rt.alloc(), 1_024, None) == Ok(true));
+    assert!(rt; has_fault(rt.alloc(), 1_025, Some(PathFault::TooLong)) == Ok(true));
 }
 
 /// One break, and characters of two and three bytes.
@@ -82,7 +79,9 @@ fn places() -> &'static [(u32, (u32, u32))] {
 }
 
 fn is_at(bytes: &[u8], offset: u32, place: (u32, u32)) -> bool {
-    offset as usize <= bytes.len() && bytes.len() <= 1_048_576 && position(bytes, offset) == place
+    offset as usize <= bytes.len()
+        && bytes.len() <= LARGEST_FILE
+        && position(bytes, offset) == place
 }
 
 #[test]
@@ -117,9 +116,6 @@ fn codes_have_kinds(rt: HostRuntime) {
 
 const PATH: &str = ".github/workflows/a.yml";
 
-// The number of bytes of the file.
-const BYTES: usize = 95;
-
 fn misspelled() -> &'static [u8] {
     b"on: push
 jobs:
@@ -138,9 +134,7 @@ fn printed() -> &'static [u8] {
 "
 }
 
-fn fault(alloc: Global) -> Result<Fault, AllocError>
-    ensures { IfOk result (λ fault. fault.span ≡ record { start = 87; end = 91 }) }
-{
+fn fault(alloc: Global) -> Result<Fault, AllocError> {
     Ok(Fault {
         span: Span { start: 87, end: 91 },
         code: Code::Expression(ExpressionCode::UndefinedProperty),
@@ -148,37 +142,101 @@ fn fault(alloc: Global) -> Result<Fault, AllocError>
     })
 }
 
-fn is_printed(alloc: Global, bytes: &[u8], wanted: &[u8]) -> Result<bool, Stop> {
-    if bytes.len() != BYTES {
-        return Ok(false);
-    }
-    let fault = fault(alloc)?;
-    let mut output = Vec::new(alloc);
-    write_fault(&mut Output::new(&mut output), PATH, bytes, &fault, false)?;
-    Ok(position(bytes, 87) == (6, 30) && output.as_slice() == wanted)
+/// Whether a span lies in a file.
+fn is_within(bytes: &[u8], span: Span) -> bool
+    ensures ordered { result ≡ true → span.start ≤ span.end }
+    ensures inside { result ≡ true → span.end ≤ length bytes.now }
+{
+    span.start <= span.end && span.end as usize <= bytes.len()
 }
 
-fn is_printed_by_lines(alloc: Global, bytes: &[u8], wanted: &[u8]) -> Result<bool, Stop> {
-    if bytes.len() != BYTES {
+fn is_printed(alloc: Global, bytes: &[u8], fault: &Fault, wanted: &[u8]) -> bool {
+    if bytes.len() > LARGEST_FILE || !is_within(bytes, fault.span) {
+        return false;
+    }
+    let start = location_of(bytes, fault.span.start);
+    let mut text = Vec::new(alloc);
+    let writer = &mut Output::new(&mut text);
+    let result = write_fault_at(writer, PATH, bytes, fault, start, false);
+    result.is_ok() && text.as_slice() == wanted
+}
+
+/// The same by a table of lines.
+fn is_printed_by_lines(
+    alloc: Global,
+    bytes: &[u8],
+    fault: &Fault,
+    wanted: &[u8],
+) -> Result<bool, AllocError> {
+    if bytes.len() > LARGEST_FILE || !is_within(bytes, fault.span) {
         return Ok(false);
     }
-    let fault = fault(alloc)?;
     let lines = Lines::of(alloc, bytes)?;
-    let mut output = Vec::new(alloc);
-    lines.write_fault(&mut Output::new(&mut output), PATH, bytes, &fault, false)?;
-    Ok(lines.position(bytes, 87) == (6, 30) && output.as_slice() == wanted)
+    let mut text = Vec::new(alloc);
+    let writer = &mut Output::new(&mut text);
+    let result = lines.write_fault(writer, PATH, bytes, fault, false);
+    Ok(result.is_ok() && text.as_slice() == wanted)
+}
+
+fn prints_fault(alloc: Global, bytes: &[u8], wanted: &[u8]) -> Result<bool, AllocError> {
+    let fault = fault(alloc)?;
+    let is_by_lines = is_printed_by_lines(alloc, bytes, &fault, wanted) == Ok(true);
+    Ok(is_by_lines && is_printed(alloc, bytes, &fault, wanted))
 }
 
 #[test]
-fn a_fault_is_printed_with_its_line(rt: HostRuntime) -> Result<(), Stop> {
-    assert!(rt; is_printed(rt.alloc(), misspelled(), printed())?);
-    Ok(())
+fn a_fault_is_printed_with_its_line(rt: HostRuntime) {
+    assert!(rt; prints_fault(rt.alloc(), misspelled(), printed()) == Ok(true));
+}
+
+/// Whether a list of one fault is printed so.
+fn are_printed(
+    alloc: Global,
+    bytes: &[u8],
+    fault: Fault,
+    wanted: &[u8],
+) -> Result<bool, AllocError> {
+    if bytes.len() > LARGEST_FILE || !is_within(bytes, fault.span) {
+        return Ok(false);
+    }
+    let lines = Lines::of(alloc, bytes)?;
+    let mut text = Vec::new(alloc);
+    let writer = &mut Output::new(&mut text);
+    let result = write_faults(writer, &lines, PATH, bytes, &[fault], false);
+    Ok(result.is_ok() && text.as_slice() == wanted)
+}
+
+fn prints_list(alloc: Global, bytes: &[u8], wanted: &[u8]) -> Result<bool, AllocError> {
+    are_printed(alloc, bytes, fault(alloc)?, wanted)
 }
 
 #[test]
-fn a_fault_is_printed_by_a_table_of_lines(rt: HostRuntime) -> Result<(), Stop> {
-    assert!(rt; is_printed_by_lines(rt.alloc(), misspelled(), printed())?);
-    Ok(())
+fn a_list_of_faults_is_printed(rt: HostRuntime) {
+    assert!(rt; prints_list(rt.alloc(), misspelled(), printed()) == Ok(true));
+}
+
+/// Whether an offset has a position, counted from another one.
+fn is_counted_on(
+    alloc: Global,
+    bytes: &[u8],
+    from: u32,
+    offset: u32,
+    place: (u32, u32),
+) -> Result<bool, AllocError> {
+    let length = bytes.len();
+    if length > LARGEST_FILE || from as usize > length || offset as usize > length {
+        return Ok(false);
+    }
+    let lines = Lines::of(alloc, bytes)?;
+    let known = lines.location(bytes, from);
+    let location = lines.location_after(bytes, from, known, offset);
+    let is_there = lines.position(bytes, offset) == place;
+    Ok(is_there && (location.line, location.column) == place)
+}
+
+#[test]
+fn a_position_after_another(rt: HostRuntime) {
+    assert!(rt; is_counted_on(rt.alloc(), TEXT.as_bytes(), 3, 8, (2, 3)) == Ok(true));
 }
 
 fn counts_reads(bytes: &[u8]) -> Result<bool, Stop> {
@@ -186,25 +244,25 @@ fn counts_reads(bytes: &[u8]) -> Result<bool, Stop> {
     let mut buffer = [0u8; 4];
     let first = reader.read(&mut buffer)?;
     let end = reader.read(&mut buffer)?;
-    Ok(first == 2 && end == 0 && reader.turns() == 2 && reader.failures() == 0)
+    let asked = reader.largest_ask() == 4;
+    Ok(first == 2 && end == 0 && asked && reader.turns() == 2 && reader.failures() == 0)
 }
 
 fn counts_no_failure(alloc: Global, bytes: &[u8]) -> Result<bool, Stop> {
     let mut output = Vec::new(alloc);
     let mut writer = Output::new(&mut output);
     writer.write_all(bytes)?;
+    writer.flush()?;
     let failures = writer.failures();
     Ok(failures == 0 && output.as_slice() == bytes)
 }
 
 #[test]
-fn a_reader_counts(rt: HostRuntime) -> Result<(), Stop> {
-    assert!(rt; counts_reads(b"ab")?);
-    Ok(())
+fn a_reader_counts(rt: HostRuntime) {
+    assert!(rt; counts_reads(b"ab") == Ok(true));
 }
 
 #[test]
-fn a_writer_counts(rt: HostRuntime) -> Result<(), Stop> {
-    assert!(rt; counts_no_failure(rt.alloc(), b"ab")?);
-    Ok(())
+fn a_writer_counts(rt: HostRuntime) {
+    assert!(rt; counts_no_failure(rt.alloc(), b"ab") == Ok(true));
 }

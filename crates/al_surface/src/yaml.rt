@@ -2,11 +2,9 @@
 
 use al_scalar::{ScalarContext, ScalarRead, read_scalar};
 use al_text::YamlCode;
+use al_text::limits::LARGEST_FILE;
 use al_yaml::{Class, Doc, Node, Scalar, Style, YamlFault, read_yaml};
 use std::alloc::{AllocError, Global};
-
-/// The maximum size of a file, in bytes.
-const MOST: usize = 1_048_576;
 
 /// A scalar at the fourth byte of a file, in a block mapping: its text, the offsets of its bytes
 /// and of its end, and the offset at which the rest begins.
@@ -68,7 +66,7 @@ fn is_as_expected(read: &ScalarRead, row: &Row) -> bool {
 }
 
 fn reads_scalar(alloc: Global, row: &Row) -> Result<bool, AllocError> {
-    if row.file.len() > MOST || row.file.len() < 3 {
+    if row.file.len() > LARGEST_FILE || row.file.len() < 3 {
         return Ok(false);
     }
     match read_scalar(alloc, row.file, 3, ScalarContext::BlockFromIndent(1))? {
@@ -78,16 +76,15 @@ fn reads_scalar(alloc: Global, row: &Row) -> Result<bool, AllocError> {
 }
 
 #[test]
-fn scalars_by_themselves(rt: HostRuntime) -> Result<(), AllocError> {
+fn scalars_by_themselves(rt: HostRuntime) {
     for row in scalars() {
-        assert!(rt; reads_scalar(rt.alloc(), row)?);
+        assert!(rt; reads_scalar(rt.alloc(), row) == Ok(true));
     }
-    Ok(())
 }
 
 /// The result of reading a file; out of memory for one above the size limit.
 fn read(alloc: Global, file: &[u8]) -> Result<Result<Doc, YamlFault>, AllocError> {
-    if file.len() > MOST {
+    if file.len() > LARGEST_FILE {
         return Err(AllocError);
     }
     read_yaml(alloc, file)
@@ -136,11 +133,10 @@ fn has_fault(alloc: Global, file: &[u8], code: YamlCode, start: u32) -> Result<b
 }
 
 #[test]
-fn first_faults(rt: HostRuntime) -> Result<(), AllocError> {
+fn first_faults(rt: HostRuntime) {
     for (file, code, start) in faults() {
-        assert!(rt; has_fault(rt.alloc(), file, *code, *start)?);
+        assert!(rt; has_fault(rt.alloc(), file, *code, *start) == Ok(true));
     }
-    Ok(())
 }
 
 fn five_values() -> &'static [u8] {
@@ -160,22 +156,22 @@ fn classes() -> &'static [Class] {
 }
 
 fn is_of_class(node: &Node, class: Class) -> bool {
-    match node {
-        Node::Scalar(scalar) => scalar.class() == class,
-        _ => false,
+    match node.scalar() {
+        Some(scalar) => scalar.class() == class,
+        None => false,
     }
 }
 
 fn are_of_classes(node: &Node, wanted: &[Class]) -> bool {
-    match node {
-        Node::Sequence { items, .. } => {
+    match node.sequence() {
+        Some(items) => {
             items.len() == wanted.len()
                 && items
                     .iter()
                     .zip(wanted)
                     .all(|(item, class)| is_of_class(item, *class))
         }
-        _ => false,
+        None => false,
     }
 }
 
@@ -202,7 +198,39 @@ fn has_classes(alloc: Global, file: &[u8], wanted: &[Class]) -> Result<bool, All
 }
 
 #[test]
-fn classes_of_scalars(rt: HostRuntime) -> Result<(), AllocError> {
-    assert!(rt; has_classes(rt.alloc(), five_values(), classes())?);
-    Ok(())
+fn classes_of_scalars(rt: HostRuntime) {
+    assert!(rt; has_classes(rt.alloc(), five_values(), classes()) == Ok(true));
+}
+
+/// Whether the root of a file is a scalar with this text.
+fn is_text(alloc: Global, file: &[u8], wanted: &str) -> Result<bool, AllocError> {
+    if file.len() > LARGEST_FILE {
+        return Ok(false);
+    }
+    match read_yaml(alloc, file)? {
+        Ok(doc) => Ok(doc.root.text() == Some(wanted)),
+        Err(_) => Ok(false),
+    }
+}
+
+#[test]
+fn the_text_of_a_node(rt: HostRuntime) {
+    assert!(rt; is_text(rt.alloc(), b"'it''s'\n", "it's") == Ok(true));
+}
+
+/// Whether a file is UTF-8, and begins with a scalar of this text.
+fn begins_with(alloc: Global, file: &str, wanted: &str) -> Result<bool, AllocError> {
+    let bytes = file.as_bytes();
+    if bytes.len() > LARGEST_FILE {
+        return Ok(false);
+    }
+    match read_scalar(alloc, bytes, 0, ScalarContext::BlockFromIndent(1))? {
+        Ok(read) => Ok(read.scalar.as_str() == wanted),
+        Err(_) => Ok(false),
+    }
+}
+
+#[test]
+fn the_text_of_a_scalar(rt: HostRuntime) {
+    assert!(rt; begins_with(rt.alloc(), "\"\\u00e9\"", "é") == Ok(true));
 }
