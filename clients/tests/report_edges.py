@@ -293,6 +293,8 @@ def end_by(number: signal.Signals) -> None:
                               preexec_fn=lambda: signal.signal(number, signal.SIG_DFL)) as child:
             while not os.path.exists(os.path.join(folder, "started")):
                 time.sleep(0.02)
+            # (it may not know yet that the linter has begun)
+            time.sleep(0.3)
             os.killpg(child.pid, number)
             assert child.communicate(timeout=SECONDS) == (b"", b"") and child.returncode == -number, child.returncode
         assert sorted(os.listdir(folder)) == sorted({*(path.partition("/")[0] for path in FILES), "slow", "started"}), os.listdir(folder)
