@@ -13,8 +13,7 @@ use Rattle.al_yaml_tree.specs.Texts.{HasTexts}
 use Rattle.al_yaml_tree.specs.View.{view}
 use Rattle.al_check_interfaces.specs.Uses.{calls_in, wrong_uses}
 use Rattle.al_check.specs.FileFaults.{own_faults}
-use Rattle.al_check.specs.RuleFaults.{rule_faults}
-use Rattle.al_check.proofs.RuleSets.{rules_added}
+use Rattle.al_rules.specs.Rules.{rule_faults}
 use Rattle.al_check.proofs.files.read_file.Goals as goal
 
 pub returns : goal.returns
@@ -26,7 +25,6 @@ returns c =
     let doc = view c.in-Ok.doc.root in
     let same : doc ≡ root = sym c.in_ok-tree.ensures.root in
     let keys = c.in_ok-tree.ensures.faults ∙ ap (λ k. root_faults (shape_of k) doc) (sym c.in_ok-tree.ensures.kind) ∙ ap (root_faults (shape_of kind)) same in
-    let added = rules_added tree _ _ c.in_ok-rules.ensures.rules in
     record {
       given = record {
         kind_is = c.in_ok-tree.ensures.kind;
@@ -38,6 +36,6 @@ returns c =
       };
       own = set_trans c.document_calls.new.own.items (c.rules.new.out.items ++ flat_map wrong_uses (calls_in kind root)) (own_faults kind root) (same_set _ _ c.in_ok-calls.ensures.own)
           (set_more c.rules.new.out.items (root_faults (shape_of kind) root ++ rule_faults kind root) (flat_map wrong_uses (calls_in kind root))
-          (subst (λ list. SameSet c.rules.new.out.items (list ++ rule_faults kind root)) keys added));
+          (subst (λ list. SameSet c.rules.new.out.items (list ++ rule_faults kind root)) keys c.in_ok-rules.ensures.rules));
       calls = c.in_ok-calls.ensures.calls;
     }
