@@ -4,11 +4,12 @@ use Rattle.std.specs.Prelude.{Ok}
 use Rattle.al_base.proofs.Growing.{same_set}
 use Rattle.al_base.proofs.Sets.{set_more, set_trans}
 use Rattle.al_base.specs.Growth.{SameSet}
+use Rattle.al_base.specs.Limits.{largest_file}
 use Rattle.al_tree.specs.Faults.{root_faults}
 use Rattle.al_tree.specs.Files.{kind_in, root_of, shape_of}
-use Rattle.al_yaml_tree.proofs.LaidLemmas.{laid-higher}
+use Rattle.al_yaml_tree.proofs.LaidLemmas.{laid-wider}
 use Rattle.al_yaml_tree.specs.Document.{tree_of}
-use Rattle.al_yaml_tree.specs.Spans.{AreFrom, IsInside, IsLaid}
+use Rattle.al_yaml_tree.specs.Spans.{IsLaid}
 use Rattle.al_yaml_tree.specs.Texts.{HasTexts}
 use Rattle.al_yaml_tree.specs.View.{view}
 use Rattle.al_check_interfaces.specs.Uses.{calls_in, wrong_uses}
@@ -29,10 +30,8 @@ returns c =
       given = record {
         kind_is = c.in_ok-tree.ensures.kind;
         root_is = subst (λ n. tree_of bytes ≡ Ok n) same (rw c.in-Ok.is at c.in_ok-doc.ensures.tree);
-        inside = subst (IsInside (length bytes)) same (rw c.in-Ok.is at c.in_ok-doc.ensures.inside);
-        laid = subst (IsLaid 1048576) same (laid-higher (length bytes) 1048576 doc c.requires (rw c.in-Ok.is at c.in_ok-doc.ensures.laid));
+        laid = subst (IsLaid largest_file) same (laid-wider (length bytes) (length bytes) largest_file largest_file c.requires c.requires doc (rw c.in-Ok.is at c.in_ok-doc.ensures.laid));
         texts = subst HasTexts same (rw c.in-Ok.is at c.in_ok-doc.ensures.texts);
-        from = subst (AreFrom (length bytes)) same (rw c.in-Ok.is at c.in_ok-doc.ensures.from);
       };
       own = set_trans c.document_calls.new.own.items (c.rules.new.out.items ++ flat_map wrong_uses (calls_in kind root)) (own_faults kind root) (same_set _ _ c.in_ok-calls.ensures.own)
           (set_more c.rules.new.out.items (root_faults (shape_of kind) root ++ rule_faults kind root) (flat_map wrong_uses (calls_in kind root))
