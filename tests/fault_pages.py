@@ -13,7 +13,7 @@ import sys
 from fault_entries import cases_of_entries, entries, files_of, report_of
 
 CODE = re.compile(r"/// ([YKGXC][0-9]+): .*\n\s+([A-Za-z0-9]+),")
-NUMBER = re.compile(r"^code_place \(C\.(\w+) (\w+)(?: by)?\) = (?:2 \* )?(\d+)(?: \+ turn by)?$", re.MULTILINE)
+CODES = re.compile(r"^(\w+)_codes =\n((?: .*\n)+)", re.MULTILINE)  # the codes of a kind, in order
 ROW = re.compile(r"^code_row \(C\.(\w+) (\w+)(?: by)?\) = (\w+)(?: by)? (.*)$", re.MULTILINE)
 EVERY_KIND = re.compile(r'^(\w+) = row "(.*)"$', re.MULTILINE)  # of all rows that this makes
 CALL_KIND = re.compile(r'^call_kind caller\.\w+ = "(.*)"$', re.MULTILINE)
@@ -32,8 +32,9 @@ def codes(top):
 
 def tables(top):
     """The row of each variant, by letter and name: the number, the words of its message, and its kinds."""
-    numbers = {(group, variant): number
-               for group, variant, number in NUMBER.findall((top / "crates/al_base/specs/Codes.antt").read_text())}
+    lists = CODES.findall((top / "crates/al_base/specs/Codes.antt").read_text())
+    numbers = {(kind.capitalize(), variant): str(number)
+               for kind, names in lists for number, variant in enumerate(re.findall(r"\w+", names), 1)}
     text = (top / "crates/al_text/specs/Wordings.antt").read_text()
     every, of_calls = dict(EVERY_KIND.findall(text)), sorted(CALL_KIND.findall(text))
     rows = {}

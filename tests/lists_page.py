@@ -49,7 +49,7 @@ WANTED = {
     "String": "string",
     "ArrayOrString": "array or string",
 }
-FUNCTION = re.compile(r'^function_name function\.(\w+) = codes "(\w+)"', re.MULTILINE)
+FUNCTION = re.compile(r'\(codes "(\w+)", function\.(\w+)\)')
 SIGNATURE = re.compile(r"^signature function\.(\w+) = giving \(?(\w+)((?: wants\.\w+)*)\)? returns\.(\w+)$", re.MULTILINE)
 PARAMETERS = {"Zero": "", "One": "{0}", "Two": "{0}, {1}", "OneOrTwo": "{0}, optional {1}", "OneOrMore": "{0}, {1}.."}
 # Numbers in words, and where pages say one: the page, the words around it and what it counts.
@@ -299,7 +299,8 @@ def places(crates):
 
 def functions(crates):
     """What each function accepts and returns."""
-    names, found = dict(FUNCTION.findall((crates / FUNCTION_NAMES).read_text())), {}
+    names = {variant: name for name, variant in FUNCTION.findall((crates / FUNCTION_NAMES).read_text())}
+    found = {}
     for variant, form, arguments, gives in SIGNATURE.findall((crates / SIGNATURES).read_text()):
         wanted = [WANTED[it] for it in re.findall(r"wants\.(\w+)", arguments)]
         found[names[variant]] = PARAMETERS[form].format(*wanted), gives.lower()

@@ -1,5 +1,5 @@
 -- The order of faults is the derived one and is total; only equal faults compare as equal.
-use Rattle.std.proofs.Common.{◌≡◌, ℕ, List, [], ◌∷◌, get_or, map, pred, refl, sym, ap, ◌∙◌}
+use Rattle.std.proofs.Common.{◌≡◌, ℕ, List, [], ◌∷◌, get_or, map, refl, sym, ap, ◌∙◌}
 use Rattle.std.specs.Cmp.{IsTotalOrder}
 use Rattle.std.specs.Cmp.Derive.{then_next}
 use Rattle.std.specs.List.{AllByRecursion, Contains, flat_map}
@@ -12,26 +12,16 @@ use Rattle.std.proofs.lemmas.List.Sorted.{Contains-permutation, IsPermutation-sy
 use Rattle.std.proofs.lemmas.Cmp.{nat_cmp_total, on_total, then_total}
 use Rattle.al_base.specs.Orders.{args_cmp}
 use Rattle.al_base.specs.Proofs.Orders.{args_total}
+use Rattle.al_base.specs.Codes.{call_codes, expression_codes, key_codes, rule_codes, yaml_codes}
 use Rattle.al_base.specs.FaultLists.{fault_cmp, fault_list, kind_place, place_in_kind}
 use Rattle.al_base.specs.declared.codes.Code.{Code}
 use Rattle.al_base.specs.declared.codes.Code.TheVariants as C
-use Rattle.al_base.specs.declared.codes.YamlCode.TheVariants.{NotUtf8, ControlCharacter, TabInIndentation, WrongIndentation, UnclosedQuote}
-use Rattle.al_base.specs.declared.codes.YamlCode.TheVariants.{UnclosedFlow, AnchorOrAlias, Tag, ExplicitKey, Directive, SecondDocument}
-use Rattle.al_base.specs.declared.codes.YamlCode.TheVariants.{WrongEscape, UnexpectedCharacter, NestingTooDeep, TooManyNodes}
-use Rattle.al_base.specs.declared.codes.YamlCode.TheVariants.{WrongBlockHeader, WrongKey, UnknownAlias}
-use Rattle.al_base.specs.declared.codes.KeyCode.TheVariants.{Unexpected, Missing, Repeated, WrongKind, WrongType, NotBeside, EmptyFile}
-use Rattle.al_base.specs.declared.codes.RuleCode.TheVariants.{UnknownEvent, UnknownActivity, WrongPattern, WrongSchedule, ScheduleTooOften}
-use Rattle.al_base.specs.declared.codes.RuleCode.TheVariants.{WrongId, RepeatedId, UndefinedJob, NeedsCycle, WrongMatrix, UnknownMatrixRow}
-use Rattle.al_base.specs.declared.codes.RuleCode.TheVariants.{UnknownShell, UnknownPermission, WrongPermission, WrongVariable}
-use Rattle.al_base.specs.declared.codes.RuleCode.TheVariants.{PasswordNotExpression, DeprecatedCommand, AlwaysTrue, UnknownInputType}
-use Rattle.al_base.specs.declared.codes.RuleCode.TheVariants.{UnknownUsing, MissingShell, MissingOutputValue}
-use Rattle.al_base.specs.declared.codes.CallCode.TheVariants.{NoWorkflow, UndefinedInput, MissingInput, WrongInput, UndefinedSecret, MissingSecret, WrongUses, NotCallable, CallCycle}
+use Rattle.al_base.specs.declared.codes.YamlCode.TheVariants.{NotUtf8}
+use Rattle.al_base.specs.declared.codes.KeyCode.TheVariants.{Unexpected, EmptyFile}
+use Rattle.al_base.specs.declared.codes.RuleCode.TheVariants.{UnknownEvent}
+use Rattle.al_base.specs.declared.codes.CallCode.TheVariants.{NoWorkflow}
 use Rattle.al_base.specs.declared.codes.Caller.TheVariants as caller
-use Rattle.al_base.specs.declared.codes.ExpressionCode.TheVariants.{BadCharacter, UnclosedText, UnexpectedToken, EndsEarly, TooLong}
-use Rattle.al_base.specs.declared.codes.ExpressionCode.TheVariants.{TooDeep, UndefinedContext, UnavailableContext, UndefinedFunction}
-use Rattle.al_base.specs.declared.codes.ExpressionCode.TheVariants.{UnavailableFunction, ArgumentCount, ArgumentType, UndefinedProperty}
-use Rattle.al_base.specs.declared.codes.ExpressionCode.TheVariants.{NotIndexable, NotComparable, WrongPlaceholder, UnusedArgument, NotText}
-use Rattle.al_base.specs.declared.codes.ExpressionCode.TheVariants.{Untrusted, UnclosedChunk}
+use Rattle.al_base.specs.declared.codes.ExpressionCode.TheVariants.{BadCharacter}
 use Rattle.al_base.specs.declared.faults.Fault.{Fault}
 use Rattle.al_base.specs.contracts.codes.CodeOrd.TheImpl as code
 use Rattle.al_base.specs.contracts.faults.FaultOrd.TheImpl as derived
@@ -95,22 +85,10 @@ fault_cmp_total =
     (then_total (on_total (λ (fault : Fault). place_in_kind fault.code) nat_cmp_total)
     (on_total (λ (fault : Fault). fault.args) args_total))))
 
--- The code at each position of a group. Positions begin at 1, in the group of calls at 2.
+-- the code at each position of a group
 code_at : ℕ → ℕ → Code
-code_at kind place = get_or (get_or (
-    (map C.Yaml (NotUtf8 ∷ ControlCharacter ∷ TabInIndentation ∷ WrongIndentation ∷ UnclosedQuote ∷ UnclosedFlow ∷ AnchorOrAlias ∷ Tag
-    ∷ ExplicitKey ∷ Directive ∷ SecondDocument ∷ WrongEscape ∷ UnexpectedCharacter ∷ NestingTooDeep ∷ TooManyNodes ∷ WrongBlockHeader
-    ∷ WrongKey ∷ UnknownAlias ∷ []))
-    ∷ (map C.Key (Unexpected ∷ Missing ∷ Repeated ∷ WrongKind ∷ WrongType ∷ NotBeside ∷ EmptyFile ∷ []))
-    ∷ (map C.Rule (UnknownEvent ∷ UnknownActivity ∷ WrongPattern ∷ WrongSchedule ∷ ScheduleTooOften ∷ WrongId ∷ RepeatedId ∷ UndefinedJob
-    ∷ NeedsCycle ∷ WrongMatrix ∷ UnknownMatrixRow ∷ UnknownShell ∷ UnknownPermission ∷ WrongPermission ∷ WrongVariable
-    ∷ PasswordNotExpression ∷ DeprecatedCommand ∷ AlwaysTrue ∷ UnknownInputType ∷ UnknownUsing ∷ MissingShell ∷ MissingOutputValue ∷ []))
-    ∷ (map C.Expression (BadCharacter ∷ UnclosedText ∷ UnexpectedToken ∷ EndsEarly ∷ TooLong ∷ TooDeep ∷ UndefinedContext
-    ∷ UnavailableContext ∷ UndefinedFunction ∷ UnavailableFunction ∷ ArgumentCount ∷ ArgumentType ∷ UndefinedProperty ∷ NotIndexable
-    ∷ NotComparable ∷ WrongPlaceholder ∷ UnusedArgument ∷ NotText ∷ Untrusted ∷ UnclosedChunk ∷ []))
-    ∷ (C.Key EmptyFile ∷ flat_map (λ a. C.Call a caller.Job ∷ C.Call a caller.Step ∷ []) (NoWorkflow ∷ UndefinedInput ∷ MissingInput
-    ∷ WrongInput ∷ UndefinedSecret ∷ MissingSecret ∷ WrongUses ∷ NotCallable ∷ CallCycle ∷ []))
-    ∷ []) kind []) (pred place) (C.Key EmptyFile)
+code_at kind place = get_or (get_or (map C.Yaml yaml_codes ∷ map C.Key key_codes ∷ map C.Rule rule_codes ∷ map C.Expression expression_codes
+    ∷ flat_map (λ a. C.Call a caller.Job ∷ C.Call a caller.Step ∷ []) call_codes ∷ []) kind []) place (C.Key EmptyFile)
 
 code_back : (a : Code) → code_at (kind_place a) (place_in_kind a) ≡ a
 unfolding code_at

@@ -1,17 +1,34 @@
 -- The faults of a file as a report lists them: in order, each once.
-use Rattle.std.specs.Prelude.{ℕ, List}
+use Rattle.std.specs.Prelude.{ℕ, ◌+◌, ◌*◌, List}
+use Rattle.std.specs.List.{position_or_len}
 use Rattle.std.specs.Ordering.{nat_cmp, on, then_cmp}
 use Rattle.std.specs.declared.cmp.Ordering.{Ordering}
 use Rattle.al_base.specs.Orders.{args_cmp}
-use Rattle.al_base.specs.Codes.{code_place}
+use Rattle.al_base.specs.Codes.{call_codes, expression_codes, key_codes, rule_codes, yaml_codes}
 use Rattle.al_base.specs.InOrder.{in_order}
+use Rattle.al_base.specs.contracts.codes.CallCodePartialEq.TheImpl as call
+use Rattle.al_base.specs.contracts.codes.ExpressionCodePartialEq.TheImpl as expression
+use Rattle.al_base.specs.contracts.codes.KeyCodePartialEq.TheImpl as key
+use Rattle.al_base.specs.contracts.codes.RuleCodePartialEq.TheImpl as rule
+use Rattle.al_base.specs.contracts.codes.YamlCodePartialEq.TheImpl as yaml
+use Rattle.al_base.specs.declared.codes.Caller.{Caller}
+use Rattle.al_base.specs.declared.codes.Caller.TheVariants as caller
 use Rattle.al_base.specs.declared.codes.Code.{Code}
 use Rattle.al_base.specs.declared.codes.Code.TheVariants as C
 use Rattle.al_base.specs.declared.faults.Fault.{Fault}
 
+-- of two faults of one call code, that of a job comes first
+abbrev pub turn : Caller → ℕ
+turn caller.Job = 0
+turn caller.Step = 1
+
 -- the position of a code among those of its kind
 abbrev pub place_in_kind : Code → ℕ
-place_in_kind code = code_place code
+place_in_kind (C.Yaml code) = position_or_len (λ c. yaml.ghosts.eq c code) yaml_codes
+place_in_kind (C.Key code) = position_or_len (λ c. key.ghosts.eq c code) key_codes
+place_in_kind (C.Rule code) = position_or_len (λ c. rule.ghosts.eq c code) rule_codes
+place_in_kind (C.Expression code) = position_or_len (λ c. expression.ghosts.eq c code) expression_codes
+place_in_kind (C.Call code by) = 2 * position_or_len (λ c. call.ghosts.eq c code) call_codes + turn by
 
 -- faults of YAML, then of keys, then of rules, of expressions, of calls
 abbrev pub kind_place : Code → ℕ

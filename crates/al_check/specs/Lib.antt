@@ -1,4 +1,3 @@
-pub mod RuleFaults
 pub mod FileFaults
 pub mod Sites
 pub mod Reading

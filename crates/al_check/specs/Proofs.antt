@@ -1,4 +1,3 @@
 -- Proofs of the laws that an implementation of a trait names: a file of `src/` takes names from
 -- `specs/` alone.
-pub mod RuleSets
 pub mod Laws

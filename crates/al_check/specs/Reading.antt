@@ -1,8 +1,7 @@
 -- The results of reading a file.
-use Rattle.std.specs.Prelude.{◌≡◌, ℕ, List, [], length, Result, Ok, Err}
+use Rattle.std.specs.Prelude.{◌≡◌, ℕ, List, [], Result, Ok, Err}
 use Rattle.al_scalar.specs.declared.faults.YamlFault.{YamlFault}
 use Rattle.al_base.specs.Growth.{SameSet}
-use Rattle.al_base.specs.Spans.{LiesIn}
 use Rattle.al_base.specs.declared.faults.Fault.{Fault}
 use Rattle.al_base.specs.Limits.{largest_file}
 use Rattle.al_tree.specs.declared.files.FileKind.{FileKind}
@@ -10,27 +9,24 @@ use Rattle.al_tree.specs.declared.files.Tree.{Tree}
 use Rattle.al_tree.specs.Files.{kind_in, root_of}
 use Rattle.al_yaml_tree.specs.ByteFaults.{fault_span}
 use Rattle.al_yaml_tree.specs.Document.{tree_of}
-use Rattle.al_yaml_tree.specs.Spans.{AreFrom, IsInside, IsLaid}
+use Rattle.al_yaml_tree.specs.Spans.{IsLaid}
 use Rattle.al_yaml_tree.specs.Texts.{HasTexts}
 use Rattle.al_check_interfaces.specs.FolderCalls.{AreCallsOf}
 use Rattle.al_check_interfaces.specs.declared.calls.FolderCall.{FolderCall}
 use Rattle.al_check.specs.FileFaults.{own_faults}
 use Rattle.al_check.specs.declared.files.ReadFile.{ReadFile}
 
--- the document of these bytes, as a file of this kind; it lies in them
+-- the document of these bytes, as a file of this kind
 pub record IsTree (file : FileKind) (bytes : List ℕ) (t : Tree) : Type 0 where
   pub kind_is : kind_in t ≡ file
   pub root_is : tree_of bytes ≡ Ok (root_of t)
-  pub inside : IsInside (length bytes) (root_of t)
   pub laid : IsLaid largest_file (root_of t)
   pub texts : HasTexts (root_of t)
-  pub from : AreFrom (length bytes) (root_of t)
 
--- the YAML fault of these bytes; it lies in them
+-- the YAML fault of these bytes
 pub record IsFault (bytes : List ℕ) (f : YamlFault) : Type 0 where
   pub fault_is : tree_of bytes ≡ Err (record { code = f.code; at = f.span.start })
   pub span_is : f.span ≡ fault_span bytes f.span.start
-  pub inside : LiesIn (length bytes) f.span
 
 abbrev pub IsGiven : FileKind → List ℕ → Result Tree YamlFault → Type 0
 IsGiven file bytes (Ok t) = IsTree file bytes t

@@ -1,5 +1,5 @@
 -- Each fault of a file's calls is within the file.
-use Rattle.std.specs.Prelude.{ℕ, Bool, List, [], ◌∷◌, codes, Option, Some, None, find}
+use Rattle.std.specs.Prelude.{ℕ, Bool, List, [], ◌∷◌, ◌++◌, codes, Option, Some, None, find}
 use Rattle.std.proofs.Common.{cond}
 use Rattle.std.specs.List.{AllByRecursion, flat_map}
 use Rattle.std.specs.Option.{option_map_or}
@@ -29,9 +29,9 @@ use Rattle.al_check_interfaces.proofs.Inside.{calls_lie, inside_kept}
 use Rattle.al_base.proofs.Elements.{each_both, each_either, each_of}
 use Rattle.al_check_calls.specs.Answers.{Answered, Typing, calls_with_answers, answered_faults, values_in}
 use Rattle.al_check_calls.specs.CallFaults.{Given, absent_faults, call_fault, call_faults}
-use Rattle.al_check_calls.specs.CallFaults.{given_by, is_callable, missing_name}
-use Rattle.al_check_calls.specs.CallFaults.{names_against, type_faults}
-use Rattle.al_check_calls.specs.CallFaults.{undefined_name, uses_faults, values_against, values_of, wrong_input}
+use Rattle.al_check_calls.specs.CallFaults.{given_by, is_callable, is_inherit, missing_name}
+use Rattle.al_check_calls.specs.CallFaults.{names_against, passed_faults, type_faults}
+use Rattle.al_check_calls.specs.CallFaults.{undefined_name, uses_faults, values_of, wrong_input}
 use Rattle.al_check_calls.specs.Laws.{CallFaultsLie}
 use Rattle.al_check_calls.proofs.Answering.{each_answered}
 
@@ -81,10 +81,6 @@ module _ (size : ℕ) where
       let undefined = each_of Pair Lies (undefined_name k c s) (undefined_lies k c s) (given_by k c.site.node) (given_lie k c.site.node p.1) in
       search (each_both Lies, undefined, same_for_all (missing_name k c s) (missing_lies k c s p.0))
 
-  kind_lies : (k : ParameterKind) (c : Call) (o : Option Signature) → CallLies c → AllLie (option_map_or (names_against k c) o [])
-  kind_lies k c None p = tt
-  kind_lies k c (Some s) p = names_lie k c s p
-
   type_lies : (c : Call) (e : Scalar × Node) (t : Type') (i : Parameter) → Pair e → AllLie (type_faults c e t i)
   type_lies c e t i p = unless (assignable_type t (input_type i.takes)) _ (node_lies e.1 p.1, tt)
 
@@ -95,10 +91,18 @@ module _ (size : ℕ) where
   wrong_lies : (c : Call) (inputs : List Parameter) (v : Given) → GivenLies v → AllLie (wrong_input c inputs v)
   wrong_lies c inputs v p = typed_lies c v (find (is_parameter (key_of v.0)) inputs) p
 
-  values_against_lie : (by : Caller) (c : Call) (values : List Given) (o : Option Signature) → AllByRecursion GivenLies values → AllLie (values_against by c values o)
-  values_against_lie caller.Step c values o v = tt
-  values_against_lie caller.Job c values None v = tt
-  values_against_lie caller.Job c values (Some s) v = each_of GivenLies Lies (wrong_input c s.inputs) (wrong_lies c s.inputs) values v
+  passed_lie : (by : Caller) (c : Call) (values : List Given) (s : Signature) → CallLies c → AllByRecursion GivenLies values → AllLie (passed_faults by c values s)
+  passed_lie caller.Step c values s p v = names_lie Input c s p
+  passed_lie caller.Job c values s p v =
+      let wrong = flat_map (wrong_input c s.inputs) values in
+      each_both Lies (wrong ++ names_against Input c s) (cond (is_inherit c.site.node) [] (names_against Secret c s))
+      (each_both Lies wrong (names_against Input c s) (each_of GivenLies Lies (wrong_input c s.inputs) (wrong_lies c s.inputs) values v) (names_lie Input c s p))
+      (unless (is_inherit c.site.node) (names_against Secret c s) (names_lie Secret c s p))
+
+  answer_lies : (by : Caller) (c : Call) (values : List Given) (o : Option Signature) → CallLies c → AllByRecursion GivenLies values →
+      AllLie (option_map_or (passed_faults by c values) o [])
+  answer_lies by c values None p v = tt
+  answer_lies by c values (Some s) p v = passed_lie by c values s p v
 
   absent_lies : (c : Call) (by : Caller) → LiesIn size c.at → AllLie (absent_faults c by)
   absent_lies c caller.Step i = tt
@@ -110,7 +114,7 @@ module _ (size : ℕ) where
   uses_lie c (Some (Readable s)) i = unless (is_callable (site_caller c.site) s.role) (that_uses code.NotCallable c ∷ []) (i, tt)
 
   call_lies : (c : Call) (values : List Given) (answer : Option Interface) → CallLies c → AllByRecursion GivenLies values → AllLie (call_faults c values answer)
-  call_lies c values answer p v = search (each_both Lies, uses_lie, values_against_lie, kind_lies) depth 7
+  call_lies c values answer p v = search (each_both Lies, uses_lie, answer_lies)
 
   values_lie : (typing : Scalar → Scalar → Type') (es : List (Scalar × Node)) → AllByRecursion Pair es → AllByRecursion GivenLies (values_of typing es)
   values_lie typing [] p = tt

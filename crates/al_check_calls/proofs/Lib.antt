@@ -2,6 +2,7 @@ pub mod Answering
 pub mod Inside
 pub mod Alike
 pub mod Parts
+pub mod CallParts
 pub mod UndefinedNames
 pub mod MissingNames
 pub mod Short

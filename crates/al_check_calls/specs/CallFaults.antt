@@ -104,23 +104,6 @@ names_against k c s =
 abbrev pub is_inherit : Node → Bool
 is_inherit job = option_map_or (λ s. bytes_eq (text_of s) (codes "inherit")) (text_at_key (codes "secrets") job) false
 
--- whether names of a kind are compared: not the secrets of a step, nor those that a job passes on
-abbrev pub is_compared : ParameterKind → Caller → Node → Bool
-is_compared kind.Input by n = true
-is_compared kind.Secret caller.Step n = false
-is_compared kind.Secret caller.Job n = not (is_inherit n)
-
-abbrev pub signature_for : ParameterKind → Call → Option Interface → Option Signature
-signature_for k c answer =
-    if is_compared k (site_caller c.site) c.site.node then callable_signature (site_caller c.site) answer else None
-
-abbrev pub names_of_kind : ParameterKind → Call → Option Interface → List Fault
-names_of_kind k c answer = option_map_or (names_against k c) (signature_for k c answer) []
-
--- the faults of names: C2 and C3 of inputs, C5 and C6 of secrets
-abbrev pub name_faults : Call → Option Interface → List Fault
-name_faults c answer = names_of_kind kind.Input c answer ++ names_of_kind kind.Secret c answer
-
 abbrev pub type_name : InputType → List ℕ
 type_name input.Boolean = codes "boolean"
 type_name input.Number = codes "number"
@@ -145,15 +128,17 @@ values_of type_of = map (λ e. (e, given_type type_of e))
 abbrev pub wrong_input : Call → List Parameter → Given → List Fault
 wrong_input c inputs v = option_map_or (type_faults c v.0 v.1) (find (is_parameter (key_of v.0)) inputs) []
 
--- the faults of the types of values; a step's aren't compared
-abbrev pub values_against : Caller → Call → List Given → Option Signature → List Fault
-values_against caller.Step c values o = []
-values_against caller.Job c values o = option_map_or (λ s. flat_map (wrong_input c s.inputs) values) o []
-
-abbrev pub value_faults : Call → List Given → Option Interface → List Fault
-value_faults c values answer = values_against (site_caller c.site) c values (callable_signature (site_caller c.site) answer)
+-- the faults of what a call passes to a file that it can call: C4 of the values of a job, C2 and C3 of
+-- inputs, C5 and C6 of the secrets of a job that doesn't pass all of its own on
+abbrev pub passed_faults : Caller → Call → List Given → Signature → List Fault
+passed_faults caller.Step c values s = names_against kind.Input c s
+passed_faults caller.Job c values s =
+    flat_map (wrong_input c s.inputs) values ++ names_against kind.Input c s
+    ++ (if is_inherit c.site.node then [] else names_against kind.Secret c s)
 
 -- The faults of a call of a file in the folder, given the values under `with` with their types, and
 -- its answer.
 abbrev pub call_faults : Call → List Given → Option Interface → List Fault
-call_faults c values answer = uses_faults c answer ++ value_faults c values answer ++ name_faults c answer
+call_faults c values answer =
+    let by = site_caller c.site in
+    uses_faults c answer ++ option_map_or (passed_faults by c values) (callable_signature by answer) []

@@ -49,7 +49,7 @@ fn is_inherit(job: &Node) -> bool
 /// Whether names of a kind are compared: not the secrets of a step, nor those that a job passes on.
 fn is_compared(kind: ParameterKind, call: Call<'_>) -> bool
     ensures { result
-        ≡ faults.is_compared kind (site_caller (call_of call.entry).site)
+        ≡ comparing.is_compared kind (site_caller (call_of call.entry).site)
         (call_of call.entry).site.node }
 {
     match (kind, caller_of(call.site)) {

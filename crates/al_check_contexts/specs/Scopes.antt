@@ -1,5 +1,5 @@
 -- What an expression can refer to at a place.
-use Rattle.std.specs.Prelude.{List, [], ◌∷◌, Bool, Option, if◌then◌else◌}
+use Rattle.std.specs.Prelude.{List, [], ◌∷◌, Bool, map, Option, if◌then◌else◌}
 use Rattle.std.specs.Option.{option_map_or}
 use Rattle.al_expr_names.specs.Names.{contexts}
 use Rattle.al_expr_names.specs.Scopes.{Available, Scope, available, special}
@@ -25,7 +25,7 @@ special_in_action is_condition = if is_condition then special else HashFiles ∷
 
 -- In a workflow the row of the place decides; without one, every context is available.
 abbrev pub available_at : FileKind → Option Row → Bool → Available
-available_at kind.Workflow row is_condition = option_map_or (λ r. available r.contexts r.special) row (available contexts [])
+available_at kind.Workflow row is_condition = option_map_or (λ r. available r.contexts r.special) row (available (map (λ c. c.1) contexts) [])
 available_at kind.Action row is_condition = available of_action (special_in_action is_condition)
 
 abbrev pub scope_at : FileKind → OutputNames → Node → Place → Scope

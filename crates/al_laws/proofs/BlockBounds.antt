@@ -3,7 +3,7 @@ use Rattle.std.proofs.Common.{◌≡◌, ℕ, zero, suc, ◌+◌, ◌<◌, ◌�
 use Rattle.std.proofs.Common.{if◌then◌else◌, Option, Some, None}
 use Rattle.al_base.specs.declared.codes.YamlCode.TheVariants as yaml
 use Rattle.al_base.specs.Ascii.{ascii}
-use Rattle.al_scalar.specs.Line.{Line, start, begins, blanks_dropped}
+use Rattle.al_scalar.specs.Line.{Line, start, begins, blanks_dropped, past}
 use Rattle.al_scalar.specs.Places.{first_text}
 use Rattle.al_scalar.specs.Plain.{block}
 use Rattle.al_scalar.specs.Scalar.{ScalarRead, scalar_at}
@@ -12,7 +12,7 @@ use Rattle.al_yaml_tree.specs.Blocks.{unless_tab, spot_after, is_deeper, node_fo
 use Rattle.al_yaml_tree.specs.Blocks.{entry_slot, sequence_entries, value_slot}
 use Rattle.al_yaml_tree.specs.Blocks.{mapping_entries, scalar_node_at, ending_line}
 use Rattle.al_yaml_tree.specs.Blocks.{block_sequence, block_mapping, block_content, block_property, block_node}
-use Rattle.al_yaml_tree.specs.Content.{Next, ended, at_line, is_skipped, content, line_ended, whole_lines, past, is_dash}
+use Rattle.al_yaml_tree.specs.Content.{Next, ended, at_line, is_skipped, content, line_ended, whole_lines, is_dash}
 use Rattle.al_yaml_tree.specs.Content.{block_fault, is_flow_start, is_property, is_simple_key, same_line, starts_quoted, characters}
 use Rattle.al_yaml_tree.specs.Content.{anchor_cells, anchor_name, after_name, has_no_name, is_short_key}
 use Rattle.al_yaml_tree.specs.Flow.{CollectionReader, flow_collection}

@@ -4,12 +4,12 @@ use Rattle.al_base.specs.declared.codes.YamlCode.TheVariants as yaml
 use Rattle.al_base.specs.declared.faults.Span.{Span}
 use Rattle.al_base.specs.Ascii.{ascii}
 use Rattle.al_base.specs.Spans.{span}
-use Rattle.al_scalar.specs.Line.{Line, start, begins}
+use Rattle.al_scalar.specs.Line.{Line, start, begins, past}
 use Rattle.al_scalar.specs.Places.{first_text}
 use Rattle.al_scalar.specs.Plain.{flow}
 use Rattle.al_scalar.specs.Scalar.{ScalarRead, scalar_at}
 use Rattle.al_scalar.proofs.OffsetLemmas.{choose}
-use Rattle.al_yaml_tree.specs.Content.{past, is_file_end, flow_fault, is_flow_start, starts_quoted, is_property, is_simple_key}
+use Rattle.al_yaml_tree.specs.Content.{is_file_end, flow_fault, is_flow_start, starts_quoted, is_property, is_simple_key}
 use Rattle.al_yaml_tree.specs.Content.{anchor_cells, anchor_name, after_name, has_no_name}
 use Rattle.al_yaml_tree.specs.Flow.{FlowSlot, FlowReader, CollectionReader, gap, empty_node}
 use Rattle.al_yaml_tree.specs.Flow.{rest_after, flow_items, is_key_colon, after_colon_in_flow, flow_value, FlowKey}

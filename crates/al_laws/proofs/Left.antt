@@ -3,14 +3,14 @@ use Rattle.std.proofs.Common.{◌≡◌, inl, inr, ℕ, ◌+◌, ◌<◌, List, 
 use Rattle.std.proofs.Common.{Result, Ok, Err}
 use Rattle.std.proofs.lemmas.Bool.{and_parts, or_cases}
 use Rattle.al_base.specs.Ascii.{ascii}
-use Rattle.al_scalar.specs.Line.{Cell, Line, after_blanks, begins, blanks_dropped, is_blank_or_end}
+use Rattle.al_scalar.specs.Line.{Cell, Line, after_blanks, begins, blanks_dropped, is_blank_or_end, past}
 use Rattle.al_scalar.specs.Places.{first_text}
 use Rattle.al_scalar.specs.Plain.{Context, block}
 use Rattle.al_scalar.specs.Scalar.{ScalarRead, scalar_at}
 use Rattle.al_scalar.specs.declared.faults.FaultAt.{FaultAt}
 use Rattle.al_scalar.proofs.OffsetLemmas.{climbing-drop}
 use Rattle.al_scalar.proofs.Standing.{stand-cut}
-use Rattle.al_yaml_tree.specs.Content.{is_dash, is_flow_start, past}
+use Rattle.al_yaml_tree.specs.Content.{is_dash, is_flow_start}
 use Rattle.al_yaml_tree.specs.Keys.{Key, has_colon, key_before_colon, key_here, key_scalar}
 use Rattle.al_yaml_tree.proofs.KeyReading.{OptionKeyIn, key_at-in}
 use Rattle.al_yaml_tree.proofs.LeftLines.{File, AreLeft, IsRead, left-lower, left-blanks, left-first, starts-after, scalar-read}

@@ -11,55 +11,53 @@ use Rattle.std.specs.Prelude.{◌↔◌, Contains}
 use Rattle.al_base.specs.declared.faults.Fault.{Fault}
 use Rattle.al_scalar.specs.Scalar.{Scalar}
 use Rattle.al_yaml_tree.specs.Node.{Node}
-use Rattle.al_graph.specs.Graphs.{Edge, StronglyConnected, Walk, edges_of, here, onward}
+use Rattle.al_graph.specs.Graphs.{Edge, StronglyConnected, edges_of, here, onward}
+use Rattle.al_graph.specs.Within.{leads}
+use Rattle.al_graph.proofs.BoundedWalks.{leads_of, walk_of}
 use Rattle.al_graph.proofs.FilterMaps.{put_after, put_first}
 use Rattle.al_graph.proofs.Labels.{labels_same}
 use Rattle.al_tree.proofs.Lists.{left_next}
 use Rattle.al_rules.specs.Private.Components.{has_label_of, labelled_fault, labelled_faults, named_by}
-use Rattle.al_rules.specs.Needs.{AddsAllNeeds, AddsNeeds, AreNeedsFaults, undefined_job, closes_cycle, closes_no_cycle, no_needs, and_need}
-use Rattle.al_rules.specs.Needs.{IsNeedFaults, NeedEntry, all_needs, cycle_fault, needs_in, needs_lists, needs_of}
+use Rattle.al_rules.specs.Needs.{NeedEntry, all_needs, cycle_fault, need_faults, needs_faults, needs_in, needs_lists, needs_of}
 use Rattle.al_base.specs.NamePlaces.{name_place}
 use Rattle.al_tree.specs.Keys.{keys_in}
 use Rattle.al_base.specs.Names.{same_name}
 use Rattle.al_base.proofs.NamePlaces.{first_within}
 use Rattle.al_rules_settings.specs.Words.{Named, of_scalar}
 
-module _ (position : List ℕ → Option ℕ) (Leads : ℕ → ℕ → Type 0) where
-  more : (ns ms : List NeedEntry) (fs gs : List Fault) → AreNeedsFaults position Leads ns fs → AreNeedsFaults position Leads ms gs → AreNeedsFaults position Leads (ns ++ ms) (fs ++ gs)
-  more _ ms _ gs no_needs b = b
-  more _ ms _ gs (and_need n ns first rest one are) b =
-      subst (AreNeedsFaults position Leads (n ∷ ns ++ ms)) (sym (append_assoc first rest gs)) (and_need n (ns ++ ms) first (rest ++ gs) one (more ns ms rest gs are b))
+same_tests : (a b : Bool) → (a ≡ true → b ≡ true) → (b ≡ true → a ≡ true) → a ≡ b
+same_tests true b f g = sym (f refl)
+same_tests false true f g = g refl
+same_tests false false f g = refl
 
 -- A need that an edge leads to is on a cycle if and only if it has the same label as the job that needs it.
 module _ (position : List ℕ → Option ℕ) (graph : List (List ℕ)) (labels : List (Option ℕ))
     (exact : (j k : ℕ) → j < length graph → k < length graph
     → (get_or labels j None ≡ get_or labels k None) ↔ StronglyConnected graph j k)
     (below : (j k : ℕ) → Edge graph j k → k < length graph) where
-  by_label : (n : NeedEntry) (j : ℕ) (b : Bool) → (b ≡ true → Walk graph j n.job) → (Walk graph j n.job → b ≡ true)
-      → IsNeedFaults (Walk graph) n (Some j) (cond b (cycle_fault n ∷ []) [])
-  by_label n j true f g = closes_cycle j (f refl)
-  by_label n j false f g = closes_no_cycle j (λ w. absurd (cc (g w)))
-
   entry_is : (n : NeedEntry) (o : Option ℕ) → n.job < length graph → ((j : ℕ) → o ≡ Some j → Edge graph n.job j)
-      → IsNeedFaults (Walk graph) n o (labelled_fault labels n o)
-  entry_is n None inside led = undefined_job
+      → labelled_fault labels n o ≡ need_faults graph n o
+  entry_is n None inside led = refl
   entry_is n (Some j) inside led =
       let edge : Edge graph n.job j = led j refl in
       let same = labels_same (get_or labels j None) (get_or labels n.job None) (has_label_of labels j n.job) refl in
       let connected = exact j n.job (below n.job j edge) inside in
-      by_label n j (has_label_of labels j n.job) (λ t. (connected.0 (same.0 t)).0)
-      (λ w. same.1 (connected.1 (w, onward n.job j here edge)))
+      ap (λ b. cond b (cycle_fault n ∷ []) [])
+      (same_tests (has_label_of labels j n.job) (leads graph j n.job) (λ t. leads_of graph n.job j (connected.0 (same.0 t)).0)
+      (λ t. same.1 (connected.1 (walk_of graph (suc (length graph)) j n.job t, onward n.job j here edge))))
+
+  abbrev tested : List NeedEntry → List Fault
+  tested ns = flat_map (λ n. need_faults graph n (position n.text.text)) ns
 
   entries_are : (i : ℕ) (key : Named) (ns : List Named) → i < length graph
       → AllByRecursion (λ (n : Named). (j : ℕ) → named_by position n ≡ Some j → Edge graph i j) ns
-      → AreNeedsFaults position (Walk graph) (map (λ n. record { job = i; key = key; text = n }) ns)
-      (labelled_faults position labels (map (λ n. record { job = i; key = key; text = n }) ns))
-  entries_are i key [] inside led = no_needs
+      → labelled_faults position labels (map (λ n. record { job = i; key = key; text = n }) ns)
+      ≡ tested (map (λ n. record { job = i; key = key; text = n }) ns)
+  entries_are i key [] inside led = refl
   entries_are i key (t ∷ ts) inside led =
       let n : NeedEntry = record { job = i; key = key; text = t } in
-      let ns : List NeedEntry = map (λ n. record { job = i; key = key; text = n }) ts in
-      and_need n ns (labelled_fault labels n (named_by position t)) (labelled_faults position labels ns)
-      (entry_is n (named_by position t) inside led.0) (entries_are i key ts inside led.1)
+      let first = entry_is n (named_by position t) inside led.0 in
+      let rest = entries_are i key ts inside led.1 in λ k. first k ++ rest k
 
   led_to : (P : ℕ → Type 0) (ns : List Named) → ((k : ℕ) → Contains (filter_map (named_by position) ns) k → P k)
       → AllByRecursion (λ (n : Named). (j : ℕ) → named_by position n ≡ Some j → P j) ns
@@ -70,7 +68,7 @@ module _ (position : List ℕ → Option ℕ) (graph : List (List ℕ)) (labels 
   )
 
   job_is : (i : ℕ) (job : Scalar × Node) → i < length graph → get_or graph i [] ≡ filter_map (named_by position) (needs_of job)
-      → AreNeedsFaults position (Walk graph) (needs_in (i, job)) (labelled_faults position labels (needs_in (i, job)))
+      → labelled_faults position labels (needs_in (i, job)) ≡ tested (needs_in (i, job))
   job_is i job inside row =
       entries_are i (of_scalar job.0) (needs_of job) inside
       (led_to (λ k. Edge graph i k) (needs_of job) (λ k c. subst (λ (ns : List ℕ). Contains ns k) (sym row) c))
@@ -78,9 +76,8 @@ module _ (position : List ℕ → Option ℕ) (graph : List (List ℕ)) (labels 
   -- the jobs from position `i` on, each of which has its row of the graph
   jobs_are : (i : ℕ) (jobs : List (Scalar × Node)) → ((k : ℕ) (x : Scalar × Node) → k < length jobs → x ≡ get_or jobs k x
       → (i + k < length graph) × (get_or graph (i + k) [] ≡ filter_map (named_by position) (needs_of x)))
-      → AreNeedsFaults position (Walk graph) (flat_map needs_in (enumerate_from i jobs))
-      (labelled_faults position labels (flat_map needs_in (enumerate_from i jobs)))
-  jobs_are i [] rows = no_needs
+      → labelled_faults position labels (flat_map needs_in (enumerate_from i jobs)) ≡ tested (flat_map needs_in (enumerate_from i jobs))
+  jobs_are i [] rows = refl
   jobs_are i (j ∷ js) rows =
       let first : i + 0 ≡ i = omega arith in
       let row = rows 0 j (omega arith) refl in
@@ -93,10 +90,8 @@ module _ (position : List ℕ → Option ℕ) (graph : List (List ℕ)) (labels 
         subst (λ n. n < length graph) next row.0,
         subst (λ n. get_or graph n [] ≡ filter_map (named_by position) (needs_of x)) next row.1,
       )) in
-      subst (AreNeedsFaults position (Walk graph) (needs_in (i, j) ++ others))
-      (sym (flat_map-append (λ n. labelled_fault labels n (named_by position n.text)) (needs_in (i, j)) others))
-      (more position (Walk graph) (needs_in (i, j)) others (labelled_faults position labels (needs_in (i, j)))
-      (labelled_faults position labels others) one rest)
+      flat_map-append (λ n. labelled_fault labels n (named_by position n.text)) (needs_in (i, j)) others ∙ (λ k. one k ++ rest k)
+      ∙ sym (flat_map-append (λ n. need_faults graph n (position n.text.text)) (needs_in (i, j)) others)
 
 -- ---- the faults of one job after another
 
@@ -162,7 +157,7 @@ pub adds_all : (jobs : List (Scalar × Node)) (position : List ℕ → Option �
     (old new : List Fault) → position ≡ name_place (keys_in jobs) → edges_of lists ≡ needs_lists position jobs
     → ((j k : ℕ) → j < length lists → k < length lists
     → (get_or labels j None ≡ get_or labels k None) ↔ StronglyConnected (edges_of lists) j k)
-    → new ≡ old ++ labelled_faults position labels (all_needs jobs) → AddsAllNeeds jobs old new
+    → new ≡ old ++ labelled_faults position labels (all_needs jobs) → new ≡ old ++ needs_faults jobs
 adds_all jobs position lists labels old new p l exact grows =
     let graph = edges_of lists in
     let size : length graph ≡ length lists = length-map lists _ in
@@ -179,11 +174,4 @@ adds_all jobs position lists labels old new p l exact grows =
           ∙ get_or-map (λ j. filter_map (named_by position) (needs_of j)) jobs k x [] lt
           ∙ ap (λ j. filter_map (named_by position) (needs_of j)) (sym is)),
     )) in
-    let adds : AddsNeeds position (Walk graph) (all_needs jobs) old new = record {
-      found = labelled_faults position labels (all_needs jobs);
-      are = are;
-      grows = grows;
-    } in
-    let P : List (List ℕ) → Type 0 = λ ls. AddsNeeds position (Walk ls) (all_needs jobs) old new in
-    let Q : (List ℕ → Option ℕ) → Type 0 = λ f. AddsNeeds f (Walk (needs_lists f jobs)) (all_needs jobs) old new in
-    subst Q p (subst P l adds)
+    grows ∙ ap (λ fs. old ++ fs) (are ∙ λ k. flat_map (λ n. need_faults (same k) n (p k n.text.text)) (all_needs jobs))

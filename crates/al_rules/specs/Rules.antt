@@ -1,6 +1,6 @@
 -- The faults of the rules, of a workflow and of an action.
-use Rattle.std.specs.Prelude.{◌≡◌, ◌↔◌, ◌⊎◌, List, [], ◌∷◌, ◌++◌, codes, map, Option, if◌then◌else◌}
-use Rattle.std.specs.Prelude.{is_some, Contains, option_map}
+use Rattle.std.specs.Prelude.{List, [], ◌∷◌, ◌++◌, codes, map, Option, if◌then◌else◌}
+use Rattle.std.specs.Prelude.{is_some, option_map}
 use Rattle.std.specs.Prelude.{option_and_then}
 use Rattle.std.specs.List.{flat_map, filter_map}
 use Rattle.std.specs.Option.{option_map_or}
@@ -13,16 +13,15 @@ use Rattle.al_yaml_tree.specs.Node.{Node}
 use Rattle.al_tree.specs.Faults.{runs_of}
 use Rattle.al_tree.specs.Values.{entries_at, items_at, key_at, text_at_key, text_below, value_at}
 use Rattle.al_tree.specs.Values.{value_below}
-use Rattle.al_tree.specs.Files.{jobs_of, kind_in, root_of}
+use Rattle.al_tree.specs.Files.{jobs_of}
 use Rattle.al_tree.specs.declared.table.Shape.{Shape}
 use Rattle.al_tree.specs.declared.table.Shape.TheVariants.{CompositeRuns, DockerRuns, NodeRuns}
 use Rattle.al_tree.specs.declared.files.FileKind.{FileKind}
 use Rattle.al_tree.specs.declared.files.FileKind.TheVariants as kind
-use Rattle.al_tree.specs.declared.files.Tree.{Tree}
 use Rattle.al_rules.specs.Events.{on_faults}
 use Rattle.al_rules_settings.specs.Ids.{ids_faults}
 use Rattle.al_rules_settings.specs.Matrix.{matrix_faults}
-use Rattle.al_rules.specs.Needs.{IsNeedsFaults, job_keys}
+use Rattle.al_rules.specs.Needs.{job_keys, needs_faults}
 use Rattle.al_rules_settings.specs.Settings.{condition_faults, credentials_faults, env_faults}
 use Rattle.al_rules_settings.specs.Settings.{permissions_faults, script_faults, shell_faults}
 use Rattle.al_rules_settings.specs.Words.{Named, about, of_scalar, rule_fault}
@@ -60,11 +59,11 @@ abbrev pub job_faults : Scalar × Node → List Fault
 job_faults j = settings_faults j.1 ++ containers_faults j.1
     ++ steps_faults (items_at (codes "steps") j.1)
 
--- the faults of a workflow, given those of its `needs`
-abbrev pub workflow_faults : List Fault → Node → List Fault
-workflow_faults needs root =
+-- the faults of a workflow
+abbrev pub workflow_faults : Node → List Fault
+workflow_faults root =
     option_map_or on_faults (value_at (codes "on") root) [] ++ section_faults root
-    ++ ids_faults (job_keys (jobs_of root)) ++ needs
+    ++ ids_faults (job_keys (jobs_of root)) ++ needs_faults (jobs_of root)
     ++ flat_map job_faults (jobs_of root)
 
 -- a step of a composite action that runs a script and names no shell
@@ -106,28 +105,7 @@ runs_faults root runs =
 abbrev pub action_faults : Node → List Fault
 action_faults root = option_map_or (runs_faults root) (value_at (codes "runs") root) []
 
--- the faults of the rules in a workflow
-pub record IsWorkflowFaults (root : Node) (found : List Fault) : Type 0 where
-  pub needs : List Fault
-  pub of_needs : IsNeedsFaults (jobs_of root) needs
-  pub is : found ≡ workflow_faults needs root
-
--- what is added for a workflow
-pub record AddsWorkflow (root : Node) (old new : List Fault) : Type 0 where
-  pub found : List Fault
-  pub are : IsWorkflowFaults root found
-  pub grows : new ≡ old ++ found
-
 -- the faults of the rules in a file of this kind with this root
-abbrev pub AreRuleFaults : FileKind → Node → List Fault → Type 0
-AreRuleFaults kind.Workflow root found = IsWorkflowFaults root found
-AreRuleFaults kind.Action root found = found ≡ action_faults root
-
-abbrev pub IsRuleFaults : Tree → List Fault → Type 0
-IsRuleFaults file found = AreRuleFaults (kind_in file) (root_of file) found
-
--- The faults of the rules are added to the list.
-pub record AddsRules (file : Tree) (old new : List Fault) : Type 0 where
-  pub found : List Fault
-  pub rules : IsRuleFaults file found
-  pub all : (fault : Fault) → Contains new fault ↔ (Contains old fault ⊎ Contains found fault)
+abbrev pub rule_faults : FileKind → Node → List Fault
+rule_faults kind.Workflow root = workflow_faults root
+rule_faults kind.Action root = action_faults root

@@ -1,8 +1,9 @@
 //! The rules of a single file.
 
-ghost use Rattle.al_rules.specs.Rules.{AddsRules};
-ghost use Rattle.al_base.specs.Growth.{BeginsWith};
-ghost use Rattle.std.specs.Prelude.{OnOk};
+ghost use Rattle.al_base.specs.Growth.{BeginsWith, SameSet};
+ghost use Rattle.al_rules.specs.Rules.{rule_faults};
+ghost use Rattle.al_tree.specs.Files.{kind_in, root_of};
+ghost use Rattle.std.specs.Prelude.{◌++◌, OnOk};
 
 use crate::actions::check_action;
 use crate::workflows::check_workflow;
@@ -23,7 +24,8 @@ use std::alloc::{AllocError, Global};
 /// `AllocError` if memory runs out. The list then still begins with what it held before.
 #[tactic(auto, using(al_base::proofs::Growing::growth))]
 pub fn rules(alloc: Global, tree: &Tree, out: &mut Vec<Fault>) -> Result<(), AllocError>
-    ensures rules { OnOk result (AddsRules tree.now out.old.items out.new.items) }
+    ensures rules { OnOk result (SameSet out.new.items
+        (out.old.items ++ rule_faults (kind_in tree.now) (root_of tree.now))) }
     ensures begins { BeginsWith out.new.items out.old.items }
 {
     let mut faults = FaultSink::new(alloc);

@@ -2,7 +2,7 @@
 
 ghost use Rattle.al_base.specs.NamePlaces.{name_position};
 ghost use Rattle.al_graph.specs.Graphs.{edges_of};
-ghost use Rattle.al_rules.specs.Needs.{AddsAllNeeds, needs_in, needs_lists};
+ghost use Rattle.al_rules.specs.Needs.{needs_faults, needs_in, needs_lists};
 ghost use Rattle.al_rules.specs.Private.Components as components;
 ghost use Rattle.al_rules.specs.Private.Components.{labelled_faults};
 ghost use Rattle.al_tree.specs.Values.{member_of};
@@ -78,7 +78,7 @@ fn check_job(
 /// An entry is on a cycle if its job and the job it names are in one strongly connected component.
 /// So the time is linear in jobs and entries, apart from looking up each name.
 pub(crate) fn check_needs(jobs: &[Member<'_>], faults: &mut FaultSink) -> Result<(), AllocError>
-    ensures { OnOk result (AddsAllNeeds (map member_of jobs.now) faults.old faults.new) }
+    ensures { OnOk result (faults.new ≡ faults.old ++ needs_faults (map member_of jobs.now)) }
 {
     let positions = member_positions(faults.alloc(), jobs)?;
     let needs = lists_for(faults.alloc(), &positions, jobs)?;

@@ -1,8 +1,8 @@
 //! Workflows.
 
-ghost use Rattle.al_rules.specs.Rules.{AddsWorkflow};
+ghost use Rattle.al_rules.specs.Rules.{workflow_faults};
 ghost use Rattle.al_yaml_tree.specs.View.{view};
-ghost use Rattle.std.specs.Prelude.{OnOk};
+ghost use Rattle.std.specs.Prelude.{◌≡◌, ◌++◌, OnOk};
 
 use crate::check_on;
 use crate::needs::check_needs;
@@ -15,7 +15,7 @@ use std::alloc::AllocError;
 
 /// Adds the faults of a workflow.
 pub(crate) fn check_workflow(root: &Node, faults: &mut FaultSink) -> Result<(), AllocError>
-    ensures { OnOk result (AddsWorkflow (view root.now) faults.old faults.new) }
+    ensures { OnOk result (faults.new ≡ faults.old ++ workflow_faults (view root.now)) }
 {
     if let Some(on) = value(root, "on") {
         check_on(on, faults)?;

@@ -36,8 +36,8 @@ begins-cell bytes i here = (cell_at bytes i here.inside here.not_feed here.not_r
 pub indent-run : (run rest : List Cell) → AreSpaces run → indent (run ++ rest) ≡ length run + indent rest
 indent-run [] rest h = let e : indent rest ≡ 0 + indent rest = omega arith in e
 indent-run (c ∷ cs) rest h =
-    let e : (length cs + indent rest) + 1 ≡ suc (length cs) + indent rest = omega arith in
-    ap (λ b. cond b (indent (cs ++ rest) + 1) 0) (eq-eqb c.0 32 h.0) ∙ ap (λ n. n + 1) (indent-run cs rest h.1) ∙ e
+    let e : 1 + (length cs + indent rest) ≡ suc (length cs) + indent rest = omega arith in
+    ap (λ b. cond b (1 + indent (cs ++ rest)) 0) (eq-eqb c.0 32 h.0) ∙ ap (λ n. 1 + n) (indent-run cs rest h.1) ∙ e
 
 pub drop-run : (run rest : List Cell) → drop (length run) (run ++ rest) ≡ rest
 drop-run [] rest = refl

@@ -8,6 +8,7 @@ use Rattle.std.specs.Prelude.{IsUtf8}
 use Rattle.al_scalar.specs.Line.{Cell, Line, cut, place, is_blank, after_blanks}
 use Rattle.al_scalar.specs.Offsets.{AreClimbing, AreRising}
 use Rattle.al_scalar.specs.Quoted.{character_cells}
+use Rattle.al_scalar.proofs.CellRuns.{drop-front}
 use Rattle.al_scalar.proofs.OffsetLemmas.{choose, climbing-after, climbing-lower}
 use Rattle.al_scalar.proofs.TakenLemmas.{IsFrom, IsRest, AreLeft, from-cell, from-join, from-none, from-wider, left-cut, left-first}
 use Rattle.al_scalar.proofs.Utf8Lemmas.{bytes_of, split-before, split-after}
@@ -86,7 +87,8 @@ module _ {text rest : List Cell} where
   reads-blanks [] h = h
   reads-blanks (c ∷ cs) h =
       choose (λ (t : List Cell). Reads t text rest → Reads (c ∷ cs) text rest) (is_blank c)
-      (λ e k. reads-left_out c cs (grind (arith, nat_tests)) (reads-blanks cs k)) (λ _ k. k) h
+      (λ e k. reads-left_out c cs (grind (arith, nat_tests)) (reads-blanks cs k)) (λ _ k. k)
+      (subst (λ (t : List Cell). Reads t text rest) (drop-front is_blank c cs) h)
 
   -- the text is from the remaining part of a line, and so is the rest
   module _ {U : Type 0} where

@@ -2,12 +2,13 @@
 use Rattle.std.proofs.Common.{◌≡◌, ℕ, ◌<◌, List, [], ◌∷◌, ◌++◌, length, refl, sym, ap, ◌∙◌, append_assoc}
 use Rattle.std.proofs.Common.{Bool, true, false, cond, Option, Some, None, Result, Ok, Err}
 use Rattle.al_base.specs.declared.codes.YamlCode.TheVariants.{UnclosedQuote, WrongEscape}
-use Rattle.al_scalar.specs.Line.{Cell, Line, with_return, after_blanks}
+use Rattle.al_scalar.specs.Line.{Cell, Line, with_return, after_blanks, is_blank}
 use Rattle.al_scalar.specs.Taken.{Taken, before, fault}
 use Rattle.al_scalar.specs.declared.faults.FaultAt.{FaultAt}
 use Rattle.al_scalar.specs.Quoted.{QuotedLine, QuotedEnd, closed, broken, escaped, cut_short, line_given}
 use Rattle.al_scalar.specs.Places.{first_end, lines_at}
 use Rattle.al_scalar.specs.LineEnds.{AreBlank, IsBlankByte, IsLineEnd, first_last}
+use Rattle.al_scalar.proofs.CellRuns.{drop-front}
 use Rattle.al_scalar.proofs.LineCells.{broken-at, has_line, is_blank-yes, is_blank-no}
 
 pub before-two : (a b : List Cell) (r : Result Taken FaultAt) → before a (before b r) ≡ before (a ++ b) r
@@ -20,7 +21,7 @@ before-none (Err e) = refl
 
 pub after_blanks-run : (run rest : List Cell) → AreBlank run → after_blanks (run ++ rest) ≡ after_blanks rest
 after_blanks-run [] rest h = refl
-after_blanks-run (c ∷ cs) rest h = ap (λ b. cond b (after_blanks (cs ++ rest)) (c ∷ (cs ++ rest))) (is_blank-yes c h.0) ∙ after_blanks-run cs rest h.1
+after_blanks-run (c ∷ cs) rest h = drop-front is_blank c (cs ++ rest) ∙ ap (λ b. cond b (after_blanks (cs ++ rest)) (c ∷ (cs ++ rest))) (is_blank-yes c h.0) ∙ after_blanks-run cs rest h.1
 
 before-cond : (space : List Cell) (b : Bool) (x y : Result Taken FaultAt) → before space (cond b x y) ≡ cond b (before space x) (before space y)
 before-cond space true x y = refl
@@ -52,7 +53,7 @@ given-line escaped q space t x l ls below = refl
 
 -- the first cell is no blank
 pub after_blanks-solid : (c : Cell) (cs : List Cell) → (IsBlankByte c.0 → ⊥) → after_blanks (c ∷ cs) ≡ c ∷ cs
-after_blanks-solid c cs h = ap (λ b. cond b (after_blanks cs) (c ∷ cs)) (is_blank-no c h)
+after_blanks-solid c cs h = drop-front is_blank c cs ∙ ap (λ b. cond b (after_blanks cs) (c ∷ cs)) (is_blank-no c h)
 
 -- At a break the line ends, and isn't the last one.
 pub end-with_return : (at : ℕ) (ls : List Line) → has_line ls ≡ true → first_end (with_return at ls) ≡ at

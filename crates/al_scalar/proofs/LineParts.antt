@@ -1,9 +1,10 @@
 -- Case analysis of the byte at an offset, and the lines after blanks, after spaces and at the end of a line.
-use Rattle.std.proofs.Common.{◌≡◌, ◌≢◌, ℕ, ◌<◌, ◌≤◌, List, [], ◌∷◌, ◌++◌, length, slice_index, refl, sym, ap, ◌∙◌, inl, inr, ◌⊎◌, eq-or-lt_of_le, false, cond, eq-eqb}
+use Rattle.std.proofs.Common.{◌≡◌, ◌≢◌, ℕ, ◌<◌, ◌≤◌, List, [], ◌∷◌, ◌++◌, length, slice_index, refl, sym, ap, ◌∙◌, inl, inr, ◌⊎◌, eq-or-lt_of_le, Bool, false, cond, eq-eqb, ◌==◌}
 use Rattle.std.proofs.lemmas.Bool.{ne_eqb}
-use Rattle.al_scalar.specs.Line.{Cell, Line, start, place, cut, after_blanks, after_spaces, begins, begins_blank, blanks_dropped, spaces_dropped}
+use Rattle.al_scalar.specs.Line.{Cell, Line, start, place, cut, is_blank, after_blanks, after_spaces, begins, begins_blank, blanks_dropped, spaces_dropped}
 use Rattle.al_scalar.specs.Places.{first_text, first_end, lines_at, text_at}
 use Rattle.al_scalar.specs.LineEnds.{cells_between, with_cells_before, AreBlank, AreSpaces, IsBlankByte, IsBreakByte, IsLineEnd, SameLine}
+use Rattle.al_scalar.proofs.CellRuns.{drop-front}
 use Rattle.al_scalar.proofs.LineCells.{text-line_end, is_blank-no, byte_kind}
 use Rattle.al_scalar.proofs.FoldLemmas.{after_blanks-run}
 use Rattle.al_scalar.proofs.RestLemmas.{text_kind, start-at}
@@ -33,7 +34,7 @@ blanks_dropped-run run (l ∷ ls) h = ap (λ t. cut t l ls) (after_blanks-run ru
 
 after_blanks-stays : (t : List Cell) → begins_blank t ≡ false → after_blanks t ≡ t
 after_blanks-stays [] h = refl
-after_blanks-stays (c ∷ cs) h = ap (λ b. cond b (after_blanks cs) (c ∷ cs)) h
+after_blanks-stays (c ∷ cs) h = drop-front is_blank c cs ∙ ap (λ b. cond b (after_blanks cs) (c ∷ cs)) h
 
 pub blanks_dropped-stays : (ls : List Line) → begins_blank (first_text ls) ≡ false → blanks_dropped ls ≡ ls
 blanks_dropped-stays [] h = refl
@@ -44,9 +45,14 @@ begins_blank-no bytes i h n = elim (text_kind bytes i h) [ inl e ↦ ap begins_b
 
 -- ---- spaces
 
+abbrev is_space : Cell → Bool
+is_space c = c.0 == 32
+
 after_spaces-run : (run rest : List Cell) → AreSpaces run → after_spaces (run ++ rest) ≡ after_spaces rest
 after_spaces-run [] rest h = refl
-after_spaces-run (c ∷ cs) rest h = ap (λ b. cond b (after_spaces (cs ++ rest)) (c ∷ (cs ++ rest))) (eq-eqb c.0 32 h.0) ∙ after_spaces-run cs rest h.1
+after_spaces-run (c ∷ cs) rest h =
+    drop-front is_space c (cs ++ rest) ∙ ap (λ b. cond b (after_spaces (cs ++ rest)) (c ∷ (cs ++ rest))) (eq-eqb c.0 32 h.0)
+    ∙ after_spaces-run cs rest h.1
 
 spaces_dropped-run : (run : List Cell) (ls : List Line) → AreSpaces run → spaces_dropped (with_cells_before run ls) ≡ spaces_dropped ls
 spaces_dropped-run run [] h = refl
@@ -54,7 +60,7 @@ spaces_dropped-run run (l ∷ ls) h = ap (λ t. cut t l ls) (after_spaces-run ru
 
 after_spaces-stays : (t : List Cell) → begins 32 t ≡ false → after_spaces t ≡ t
 after_spaces-stays [] h = refl
-after_spaces-stays (c ∷ cs) h = ap (λ b. cond b (after_spaces cs) (c ∷ cs)) h
+after_spaces-stays (c ∷ cs) h = drop-front is_space c cs ∙ ap (λ b. cond b (after_spaces cs) (c ∷ cs)) h
 
 spaces_dropped-stays : (ls : List Line) → begins 32 (first_text ls) ≡ false → spaces_dropped ls ≡ ls
 spaces_dropped-stays [] h = refl

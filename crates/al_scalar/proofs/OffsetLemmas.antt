@@ -3,6 +3,7 @@ use Rattle.std.proofs.Common.{◌≡◌, ℕ, zero, suc, ◌+◌, ◌≤◌, Lis
 use Rattle.std.proofs.Common.{◌∙◌, arith, Bool, true, false, ◌==◌, if◌then◌else◌, Option, Some, None}
 use Rattle.al_scalar.specs.Line.{Cell, Line, lines, place, start, is_blank, after_blanks, is_break, with_cell, with_return}
 use Rattle.std.proofs.lemmas.Bool.Decides.{nat_tests}
+use Rattle.std.specs.List.{prefix_len}
 use Rattle.al_base.specs.FirstBytes.{begins_with}
 use Rattle.al_scalar.specs.Places.{first_text}
 use Rattle.al_scalar.specs.Offsets.{AreRising, AreClimbing, IsTail, AreLines}
@@ -54,15 +55,13 @@ pub choose-option : {A : Type 0} (P : A → Type 0) (o : Option ℕ) {x : A} {f 
 choose-option P None h k = h
 choose-option P (Some n) h k = k n refl
 
-pub climbing-blanks : (low end : ℕ) (cs : List Cell) → AreClimbing low end cs → AreClimbing low end (after_blanks cs)
-climbing-blanks low end [] h = h
-climbing-blanks low end (c ∷ cs) h =
-    choose (AreClimbing low end) (is_blank c) (λ _. climbing-blanks low end cs (climbing-after low end c cs h)) (λ _. h)
-
 pub climbing-drop : (n low end : ℕ) (cs : List Cell) → AreClimbing low end cs → AreClimbing low end (drop n cs)
 climbing-drop zero low end cs h = h
 climbing-drop (suc n) low end [] h = h
 climbing-drop (suc n) low end (c ∷ cs) h = climbing-drop n low end cs (climbing-after low end c cs h)
+
+pub climbing-blanks : (low end : ℕ) (cs : List Cell) → AreClimbing low end cs → AreClimbing low end (after_blanks cs)
+climbing-blanks low end cs h = climbing-drop (prefix_len is_blank cs) low end cs h
 
 -- ---- lines
 

@@ -6,6 +6,7 @@ use Rattle.std.proofs.Math.Seq.{drop-append_seam, get_or-append_seam, take-appen
 use Rattle.std.specs.Prelude.{IsUtf8}
 use Rattle.std.proofs.lemmas.Str.{IsUtf8-append, IsUtf8-take, IsUtf8-drop, IsCharBoundary-before_ascii, IsCharBoundary-after_ascii}
 use Rattle.al_scalar.specs.Line.{Cell, Line, lines, is_break, with_cell, with_return, is_blank, after_blanks}
+use Rattle.al_scalar.proofs.CellRuns.{drop-front}
 use Rattle.al_scalar.proofs.OffsetLemmas.{choose}
 
 -- ---- splitting a text at an ASCII byte
@@ -29,11 +30,12 @@ bytes_of cs = map (λ (c : Cell). c.0) cs
 pub keeps-blanks : (cs : List Cell) (p : List ℕ) → IsUtf8 (p ++ bytes_of cs) → IsUtf8 (p ++ bytes_of (after_blanks cs))
 keeps-blanks [] p u = u
 keeps-blanks (c ∷ cs) p u =
-    choose (λ (t : List Cell). IsUtf8 (p ++ bytes_of t)) (is_blank c)
+    subst (λ (t : List Cell). IsUtf8 (p ++ bytes_of t)) (sym (drop-front is_blank c cs))
+    (choose (λ (t : List Cell). IsUtf8 (p ++ bytes_of t)) (is_blank c)
     (λ e. let ascii : c.0 < 128 = grind (arith, nat_tests) in
     let s = split-before p c.0 (bytes_of cs) ascii u in
     IsUtf8-append p (bytes_of (after_blanks cs)) s.0 (keeps-blanks cs [] (split-after c.0 (bytes_of cs) ascii s.1)))
-    (λ _. u)
+    (λ _. u))
 
 -- ---- lines
 

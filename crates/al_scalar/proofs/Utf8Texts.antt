@@ -4,8 +4,7 @@ use Rattle.std.specs.Prelude.{IsUtf8}
 use Rattle.std.proofs.lemmas.Bool.Decides.{nat_tests}
 use Rattle.std.proofs.lemmas.List.{map-append}
 use Rattle.std.proofs.lemmas.Str.{IsUtf8-append, IsUtf8-from_ascii}
-use Rattle.al_scalar.specs.Line.{Cell, Line, begins}
-use Rattle.al_scalar.specs.Scalar.{after_first}
+use Rattle.al_scalar.specs.Line.{Cell, Line, begins, past}
 use Rattle.al_scalar.proofs.Utf8Lemmas.{AreUtf8, bytes_of, split-after}
 
 abbrev pub IsText : List Cell → Type 0
@@ -26,5 +25,5 @@ first-text : (q : ℕ) (cs : List Cell) → q < 128 → begins q cs ≡ true →
 first-text q [] l h u = cc
 first-text q (c ∷ cs) l h u = split-after c.0 (bytes_of cs) (grind (arith, nat_tests)) u
 
-pub after-text : (q : ℕ) (l : Line) (ls : List Line) → q < 128 → begins q l.text ≡ true → AreUtf8 (l ∷ ls) → AreUtf8 (after_first (l ∷ ls))
+pub after-text : (q : ℕ) (l : Line) (ls : List Line) → q < 128 → begins q l.text ≡ true → AreUtf8 (l ∷ ls) → AreUtf8 (past 1 (l ∷ ls))
 after-text q l ls a h u = (first-text q l.text a h u.0, u.1)

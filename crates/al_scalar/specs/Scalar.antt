@@ -1,10 +1,10 @@
 -- One scalar: its style, its class and its decoded bytes with their offsets (7.3, 8.1, 7.2 for the
 -- empty node).
-use Rattle.std.specs.Prelude.{ℕ, List, [], ◌∷◌, map, drop, true, false, if◌then◌else◌, Result, Ok}
+use Rattle.std.specs.Prelude.{ℕ, List, [], ◌∷◌, map, true, false, if◌then◌else◌, Result, Ok}
 use Rattle.std.specs.Prelude.{slice_index_or}
 use Rattle.al_base.specs.Ascii.{ascii}
 use Rattle.al_base.specs.declared.codes.YamlCode.TheVariants as yaml
-use Rattle.al_scalar.specs.Line.{Cell, Line, start, begins, cut}
+use Rattle.al_scalar.specs.Line.{Cell, Line, start, begins, past}
 use Rattle.al_scalar.specs.Taken.{Taken, ◌>>=◌, fault}
 use Rattle.al_scalar.specs.declared.faults.FaultAt.{FaultAt}
 use Rattle.al_scalar.specs.Plain.{Context, flow, block, is_flow, plain}
@@ -55,15 +55,10 @@ abbrev pub within_of : Context → ℕ
 within_of flow = 0
 within_of (block within) = within
 
--- the lines after their first character
-abbrev pub after_first : List Line → List Line
-after_first [] = []
-after_first (l ∷ ls) = cut (drop 1 l.text) l ls
-
 -- what a scalar of a style takes from the lines, which begin with its first character
 abbrev pub taken_as : Context → Style → List Line → Result Taken FaultAt
-taken_as p style.SingleQuoted ls = single_quoted (start ls) (after_first ls)
-taken_as p style.DoubleQuoted ls = double_quoted (start ls) (after_first ls)
+taken_as p style.SingleQuoted ls = single_quoted (start ls) (past 1 ls)
+taken_as p style.DoubleQuoted ls = double_quoted (start ls) (past 1 ls)
 taken_as p style.Literal ls = block_scalar true (within_of p) ls
 taken_as p style.Folded ls = block_scalar false (within_of p) ls
 taken_as p style.Plain ls = plain p ls

@@ -1,5 +1,6 @@
 //! Reading flow collections from front to back: the loop over the open ones.
 
+ghost use Rattle.al_base.specs.Limits.{deepest_collection};
 ghost use Rattle.al_scalar.specs.Places.{text_at};
 ghost use Rattle.al_yaml_tree.specs.Content as content;
 ghost use Rattle.al_yaml_parts.specs.Files.{left_at, size};
@@ -114,7 +115,7 @@ fn read_on(
     requires at { at ≤ size file.now }
     requires opening { collection.opening < size file.now }
     requires outer { AreOpen (size file.now) progress.old.stack.flows }
-    requires depth { depth ≤ 65 }
+    requires depth { depth ≤ deepest_collection + 1 }
     requires room { length progress.old.stack.flows + length progress.old.stack.blocks < depth }
     ensures fault { IfErr result (IsStopInside (size file.now)) }
     ensures is { (first : ℕ) (whole : NodeAnswer)
@@ -156,7 +157,7 @@ pub fn read_flow_collection(
 ) -> Result<Part, ReadError>
     requires inside { at < size file.now }
     requires bracket { content.is_flow_start (text_at file.now.bytes.now at) ≡ true }
-    requires depth { depth ≤ 65 }
+    requires depth { depth ≤ deepest_collection + 1 }
     requires outside { progress.old.stack.flows ≡ [] }
     requires room { length progress.old.stack.blocks ≤ depth }
     ensures fault { IfErr result (IsStopInside (size file.now)) }

@@ -1,9 +1,8 @@
 -- The markers round a document against offsets.
 use Rattle.std.proofs.Common.{◌≡◌, ℕ, ◌+◌, ◌<◌, ◌≤◌, List, [], ◌∷◌, length, drop, slice_index, refl, sym, ap, ◌∙◌, arith, true, false}
-use Rattle.al_scalar.specs.Line.{Cell, Line, cut, is_empty, is_marker}
+use Rattle.al_scalar.specs.Line.{Cell, Line, cut, is_empty, is_marker, past}
 use Rattle.al_scalar.specs.Places.{lines_at, text_at}
 use Rattle.al_scalar.specs.LineEnds.{IsLineEnd}
-use Rattle.al_yaml_tree.specs.Content.{past}
 use Rattle.al_yaml_parts.proofs.LineLemmas.{past-one}
 use Rattle.al_scalar.proofs.LineCells.{text-line_end, never, IsInside, is_inside}
 use Rattle.al_scalar.proofs.PlainLemmas.{text_at-cell}

@@ -1,11 +1,11 @@
 -- Keys against offsets: their lines, their characters, and the colons after them.
 use Rattle.std.specs.Bool.{then_some}
-use Rattle.std.proofs.Common.{◌≡◌, ◌≢◌, ℕ, suc, ◌+◌, ◌-◌, ◌<◌, ◌≤◌, List, [], ◌∷◌, drop, length, slice_index, refl, sym, ap, subst, ◌∙◌, arith, Bool, true, false, ◌&&◌, ◌||◌, ◌==◌, cond, Some, None}
-use Rattle.std.specs.Prelude.{nat_le, nat_lt}
+use Rattle.std.proofs.Common.{◌≡◌, ◌≢◌, ℕ, suc, ◌+◌, ◌-◌, ◌<◌, ◌≤◌, List, [], ◌∷◌, drop, length, slice_index, refl, sym, ap, subst, ◌∙◌, arith, Bool, true, false, ◌||◌, ◌==◌, cond, Some, None}
+use Rattle.std.specs.Prelude.{nat_le}
 use Rattle.std.proofs.lemmas.Grind.{common_steps}
 use Rattle.al_scalar.proofs.FoldLemmas.{end-with_return}
 use Rattle.al_base.specs.Positions.{begins_char}
-use Rattle.al_scalar.specs.Line.{Cell, Line, lines, is_break, with_cell, with_return, begins, begins_blank, after_blanks, is_blank_or_end, blanks_dropped}
+use Rattle.al_scalar.specs.Line.{Cell, Line, lines, is_break, with_cell, with_return, begins, begins_blank, after_blanks, is_blank_or_end, blanks_dropped, past}
 use Rattle.al_scalar.specs.Places.{first_text, first_end, lines_at, text_at}
 use Rattle.al_scalar.specs.LineEnds.{IsBreakByte, IsLineEnd}
 use Rattle.std.proofs.Common.{zero}
@@ -13,7 +13,7 @@ use Rattle.std.proofs.Math.Bool.{or-false}
 use Rattle.std.proofs.lemmas.Bool.{and_parts, eq-eqb, eqb-true, ne_eqb, or_right}
 use Rattle.al_scalar.specs.Plain.{Context, flow, block, is_value_colon, ends_key, begins_flow_indicator}
 use Rattle.al_scalar.proofs.MarkerLemmas.{begins-inside, colon-ends}
-use Rattle.al_yaml_tree.specs.Content.{same_line, characters, past}
+use Rattle.al_yaml_tree.specs.Content.{same_line, characters}
 use Rattle.al_yaml_tree.specs.Flow as items
 use Rattle.al_yaml_parts.specs.BlockReads as block_reads
 use Rattle.al_yaml_parts.specs.Places.{IsColon}
@@ -104,17 +104,17 @@ same_line-before bytes from mid to a b c h =
     eq-eqb (first_end (lines_at bytes from)) (first_end (lines_at bytes mid)) (omega (arith, e, one, two))
 
 abbrev pub counted_byte : Bool → ℕ → ℕ
-counted_byte continues more = cond continues more (more + 1)
+counted_byte begins more = cond begins (more + 1) more
 
-characters-cell : (to : ℕ) (c : Cell) (cs : List Cell) (b : Bool) → c.1 < to → b ≡ (nat_le 128 c.0 && nat_lt c.0 192) → characters to (c ∷ cs) ≡ counted_byte b (characters to cs)
+characters-cell : (to : ℕ) (c : Cell) (cs : List Cell) (b : Bool) → c.1 < to → b ≡ begins_char c.0 → characters to (c ∷ cs) ≡ counted_byte b (characters to cs)
 characters-cell to c cs b h k =
     let less : nat_le to c.1 ≡ false = grind (arith, common_steps, h) in
-    ap (λ x. cond x 0 (counted_byte (nat_le 128 c.0 && nat_lt c.0 192) (characters to cs))) less ∙ ap (λ x. counted_byte x (characters to cs)) (sym k)
+    ap (λ x. cond x 0 (counted_byte (begins_char c.0) (characters to cs))) less ∙ ap (λ x. counted_byte x (characters to cs)) (sym k)
 
 characters-none : (to : ℕ) (c : Cell) (cs : List Cell) → to ≤ c.1 → characters to (c ∷ cs) ≡ 0
 characters-none to c cs h =
     let more : nat_le to c.1 ≡ true = grind (arith, common_steps, h) in
-    ap (λ x. cond x 0 (counted_byte (nat_le 128 c.0 && nat_lt c.0 192) (characters to cs))) more
+    ap (λ x. cond x 0 (counted_byte (begins_char c.0) (characters to cs))) more
 
 characters-kind : (bytes : List ℕ) (i : ℕ) → Kind bytes i → characters i (text_at bytes i) ≡ 0
 characters-kind bytes i (at_file_end e) = ap (λ ls. characters i (first_text ls)) (lines-at_end bytes i e)
@@ -130,7 +130,7 @@ few-kind : (bytes : List ℕ) (i to k : ℕ) → i + suc k ≡ to → Kind bytes
 few-kind bytes i to k e (at_file_end d) h = let none = ap (λ ls. characters to (first_text ls)) (lines-at_end bytes i d) in omega (arith, none)
 few-kind bytes i to k e (at_break l d) h = let none = ap (characters to) (text-line_end bytes i (omega arith) (λ _. d)) in omega (arith, none)
 few-kind bytes i to k e (at_byte l d) h =
-    let b = nat_le 128 (slice_index bytes i) && nat_lt (slice_index bytes i) 192 in
+    let b = begins_char (slice_index bytes i) in
     let one = ap (characters to) (text_at-cell bytes i (omega arith) d) ∙ characters-cell to (slice_index bytes i, i) (text_at bytes (i + 1)) b (omega (arith, e)) refl in
     subst (λ n. n ≤ suc k) (sym one) (counted-few b (characters to (text_at bytes (i + 1))) k h)
 
@@ -146,12 +146,6 @@ short-few bytes at end a b h =
     let few = characters-few bytes (end - at) at end b (omega (arith, a)) in
     grind (arith, common_steps, few, h)
 
-begun : (b : ℕ) → true ≡ begins_char b → false ≡ (nat_le 128 b && nat_lt b 192)
-begun b h = grind (arith, common_steps, h)
-
-continued : (b : ℕ) → false ≡ begins_char b → true ≡ (nat_le 128 b && nat_lt b 192)
-continued b h = grind (arith, common_steps, h)
-
 module _ (bytes : List ℕ) (from i to : ℕ) (inside : to ≤ length bytes) where
   pub characters-done : i ≡ to → (n : ℕ) → characters to (text_at bytes from) ≡ n + characters to (text_at bytes i) → n ≡ characters to (text_at bytes from)
   characters-done e n h =
@@ -164,18 +158,18 @@ module _ (bytes : List ℕ) (from i to : ℕ) (inside : to ≤ length bytes) whe
         let here = is_inside bytes i (omega arith) (line_end-before bytes from i to order inside same line) in
         end-more bytes from i here.inside here.not_feed here.not_return line
 
-    step-by : (b : Bool) → b ≡ (nat_le 128 (slice_index bytes i) && nat_lt (slice_index bytes i) 192) → characters to (text_at bytes i) ≡ counted_byte b (characters to (text_at bytes (i + 1)))
+    step-by : (b : Bool) → b ≡ begins_char (slice_index bytes i) → characters to (text_at bytes i) ≡ counted_byte b (characters to (text_at bytes (i + 1)))
     step-by b k =
         ap (characters to) (text_at-cell bytes i (omega arith) (line_end-before bytes from i to order inside same line))
         ∙ characters-cell to (slice_index bytes i, i) (text_at bytes (i + 1)) b order k
 
     pub characters-own : (n : ℕ) → true ≡ begins_char (slice_index bytes i) → characters to (text_at bytes from) ≡ n + characters to (text_at bytes i)
         → characters to (text_at bytes from) ≡ n + 1 + characters to (text_at bytes (i + 1))
-    characters-own n k h = let e = step-by false (begun (slice_index bytes i) k) in omega (arith, h, e)
+    characters-own n k h = let e = step-by true k in omega (arith, h, e)
 
     pub characters-same : (n : ℕ) → false ≡ begins_char (slice_index bytes i) → characters to (text_at bytes from) ≡ n + characters to (text_at bytes i)
         → characters to (text_at bytes from) ≡ n + characters to (text_at bytes (i + 1))
-    characters-same n k h = let e = step-by true (continued (slice_index bytes i) k) in omega (arith, h, e)
+    characters-same n k h = let e = step-by false k in omega (arith, h, e)
 
 -- ---- colons
 

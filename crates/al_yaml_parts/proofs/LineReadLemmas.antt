@@ -4,7 +4,7 @@ use Rattle.std.proofs.Common.{Bool, true, false, cond, if◌then◌else◌, Opti
 use Rattle.std.specs.Prelude.{option_map}
 use Rattle.std.proofs.lemmas.List.{get_or-take, length-take}
 use Rattle.al_scalar.specs.ReadScalar.{read_of}
-use Rattle.al_scalar.specs.Line.{Cell, Line, blanks_dropped, with_cell}
+use Rattle.al_scalar.specs.Line.{Cell, Line, blanks_dropped, with_cell, past}
 use Rattle.al_scalar.specs.Places.{first_text, first_end, lines_at, text_at}
 use Rattle.al_scalar.specs.LineEnds.{IsLineEnd}
 use Rattle.al_scalar.specs.Plain.{block}
@@ -15,7 +15,7 @@ use Rattle.al_scalar.specs.declared.scalars.ScalarRead.{ScalarRead}
 use Rattle.al_yaml_tree.specs.Node as tree
 use Rattle.al_yaml_tree.specs.Reading.{Reading, Part, part, gives, of_result, start_of, ◌>>=◌}
 use Rattle.al_yaml_tree.specs.Limits.{broken_limit}
-use Rattle.al_yaml_tree.specs.Content.{past, line_ended}
+use Rattle.al_yaml_tree.specs.Content.{line_ended}
 use Rattle.al_yaml_tree.specs.Blocks.{ending_line, scalar_node_at}
 use Rattle.al_yaml_tree.specs.Keys.{Key, is_block_start, one_line, with_lines, plain_on_line, has_colon, key_before_colon}
 use Rattle.al_yaml_parts.specs.BlockReads.{after_colon_in_block, option_key}

@@ -1,20 +1,24 @@
 -- Names of anchors against offsets.
-use Rattle.std.proofs.Common.{◌≡◌, ℕ, zero, suc, ◌+◌, ◌-◌, ◌<◌, ◌≤◌, List, [], ◌∷◌, ◌++◌, length, map, take, drop, slice_index, refl, sym, ap, ◌∙◌, arith, Bool, true, false, ◌||◌, ◌==◌, cond}
+use Rattle.std.proofs.Common.{◌≡◌, ℕ, zero, suc, ◌+◌, ◌-◌, ◌<◌, ◌≤◌, List, [], ◌∷◌, ◌++◌, length, map, take, drop, slice_index, refl, sym, ap, ◌∙◌, arith, Bool, true, false, ◌||◌, ◌==◌, cond, not}
 use Rattle.std.proofs.lemmas.List.{append_assoc}
 use Rattle.std.proofs.lemmas.Grind.{common_steps}
 use Rattle.std.proofs.Math.Seq.{drop-cons}
-use Rattle.al_scalar.specs.Line.{Cell, Line, cut, is_empty, is_blank, with_cell}
+use Rattle.al_scalar.specs.Line.{Cell, Line, cut, is_empty, is_blank, with_cell, past}
 use Rattle.al_scalar.specs.Places.{first_end, lines_at, text_at}
 use Rattle.al_scalar.specs.LineEnds.{cells_at, cells_between, with_cells_before, IsLineEnd}
 use Rattle.al_scalar.specs.Plain.{is_flow_indicator}
+use Rattle.al_scalar.proofs.CellRuns.{take-front}
 use Rattle.al_scalar.proofs.LineLemmas.{cells_between-more, with_cells_before-more}
 use Rattle.al_scalar.proofs.PlainLemmas.{text_at-cell}
 use Rattle.al_scalar.proofs.LineCells.{is_inside, never, text-line_end}
-use Rattle.al_yaml_tree.specs.Content.{anchor_cells, anchor_name, past, after_name, ends_name, has_no_name, is_property, same_line}
+use Rattle.al_yaml_tree.specs.Content.{anchor_cells, anchor_name, after_name, ends_name, has_no_name, is_property, same_line}
 use Rattle.al_yaml_parts.proofs.LineLemmas.{first_cell, solid-lines}
 
+abbrev is_name : Cell → Bool
+is_name c = not (is_blank c || is_flow_indicator c.0)
+
 name-cell : (c : Cell) (cs : List Cell) → false ≡ ends_name (c ∷ cs) → anchor_cells (c ∷ cs) ≡ c ∷ anchor_cells cs
-name-cell c cs h = rw (← h) refl
+name-cell c cs h = take-front is_name c cs ∙ ap (λ b. cond (not b) (c ∷ anchor_cells cs) []) (sym h)
 
 not-empty : (cs : List Cell) → false ≡ ends_name cs → false ≡ is_empty cs
 not-empty [] h = absurd (never h)
@@ -117,9 +121,9 @@ module _ (bytes : List ℕ) (at end : ℕ) (inside : at ≤ length bytes) (solid
 
 no-cells : (cs : List Cell) → ends_name cs ≡ is_empty (anchor_cells cs)
 no-cells [] = refl
-no-cells (c ∷ cs) = by-end (is_blank c || is_flow_indicator c.0)
+no-cells (c ∷ cs) = by-end (is_blank c || is_flow_indicator c.0) ∙ ap is_empty (sym (take-front is_name c cs))
   where
-    by-end : (b : Bool) → b ≡ is_empty (cond b [] (c ∷ anchor_cells cs))
+    by-end : (b : Bool) → b ≡ is_empty (cond (not b) (c ∷ anchor_cells cs) [])
     by-end true = refl
     by-end false = refl
 

@@ -2,7 +2,7 @@
 use Rattle.std.specs.Prelude.{ℕ, ◌<◌, ◌≤◌, List, length, ◌==◌, nat_lt, if◌then◌else◌, Option, Some}
 use Rattle.std.specs.Prelude.{None, IfSome, Result, Ok}
 use Rattle.al_base.specs.declared.codes.YamlCode.TheVariants as yaml
-use Rattle.al_scalar.specs.Line.{Line, start, blanks_dropped}
+use Rattle.al_scalar.specs.Line.{Line, start, blanks_dropped, past}
 use Rattle.al_scalar.specs.ReadScalar.{read_of}
 use Rattle.al_scalar.specs.Places.{lines_at}
 use Rattle.al_scalar.specs.Taken.{fault}
@@ -35,7 +35,7 @@ IsOptionKey bytes at (Some key) = IsKeyAfter bytes at key
 -- the lines after the colon that follows a scalar
 abbrev pub after_colon_in_block : List Line → Option (List Line)
 after_colon_in_block ls = if keys.has_colon ls
-    then Some (content.past 1 (blanks_dropped ls)) else None
+    then Some (past 1 (blanks_dropped ls)) else None
 
 -- the next entry of a collection in a column, on the next content line, if there is one
 abbrev pub next_found : ℕ → content.Next → Result (Option (List Line)) FaultAt

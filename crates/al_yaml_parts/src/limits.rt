@@ -1,5 +1,6 @@
 //! The limits on nodes, on text behind aliases and on nesting.
 
+ghost use Rattle.al_base.specs.Limits.{deepest_collection};
 ghost use Rattle.al_yaml_tree.specs.Limits.{broken_limit};
 ghost use Rattle.al_yaml_parts.specs.Reads.{with_nodes, state_of};
 ghost use Rattle.al_yaml_tree.specs.Reading.{start_of};
@@ -29,7 +30,7 @@ impl State {
             (λ _. broken_limit self.old.nodes self.old.text (start_of at more depth ∷ []) ≡ None)
             (λ f. broken_limit self.old.nodes self.old.text (start_of at more depth ∷ [])
             ≡ Some f) }
-        ensures depth { IfOk result (λ _. depth ≤ 64) }
+        ensures depth { IfOk result (λ _. depth ≤ deepest_collection) }
         ensures state { IfOk result (λ _. state_of self.new ≡ with_nodes more (state_of self.old)) }
     {
         let nodes = self.nodes.saturating_add(more);

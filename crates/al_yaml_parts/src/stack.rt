@@ -1,5 +1,6 @@
 //! The stack of open collections.
 
+ghost use Rattle.al_base.specs.Limits.{deepest_collection};
 ghost use Rattle.al_yaml_parts.specs.Stacks.{OpenCollections, depth_in};
 ghost use Rattle.std.specs.Prelude.{◌≡◌, ◌+◌, ◌<◌, ◌≤◌, ◌∷◌, [], IfOk, IfSome, MatchOption, OnErr};
 ghost use Rattle.std.specs.Prelude.{length};
@@ -20,6 +21,7 @@ impl Model for Stack {
     ghost use Rattle.std.specs.Prelude.{List, length, refl, reverse, ◌+◌, ◌≤◌};
     ghost use Rattle.al_yaml_parts.specs.declared.frames.BlockFrame.{BlockFrame};
     ghost use Rattle.al_yaml_parts.specs.declared.frames.FlowFrame.{FlowFrame};
+    ghost use Rattle.al_base.specs.Limits.{deepest_collection};
     ghost use Rattle.al_yaml_parts.specs.Stacks.{OpenCollections};
     ghost use Rattle.std.specs.Coded.{codes, code_by};
     ghost use Rattle.al_yaml_parts.specs.contracts.frames.BlockFrame as block;
@@ -32,7 +34,7 @@ impl Model for Stack {
 
     ghost view = { λ s. record { flows = reverse s.flows.items; blocks = reverse s.blocks.items } };
 
-    ghost invariant = { λ s. length s.flows.items + length s.blocks.items ≤ 64 };
+    ghost invariant = { λ s. length s.flows.items + length s.blocks.items ≤ deepest_collection };
 }
 
 impl Stack {
@@ -49,7 +51,7 @@ impl Stack {
     /// The number of open collections.
     pub fn len(&self) -> usize
         ensures value { result ≡ length self.now.flows + length self.now.blocks }
-        ensures most { result ≤ 64 }
+        ensures most { result ≤ deepest_collection }
     {
         self.flows.len() + self.blocks.len()
     }
@@ -59,7 +61,7 @@ impl Stack {
     pub fn depth(&self) -> u32
         requires { self.now.flows ≡ [] }
         ensures value { result ≡ depth_in self.now }
-        ensures most { result ≤ 65 }
+        ensures most { result ≤ deepest_collection + 1 }
     {
         self.len() as u32 + 1
     }
@@ -67,7 +69,7 @@ impl Stack {
     /// Opens one more block collection. Fails with `AllocError` when out of memory; the stack is
     /// then unchanged.
     pub fn push_block(&mut self, frame: BlockFrame) -> Result<(), AllocError>
-        requires room { length self.old.blocks < 64 }
+        requires room { length self.old.blocks < deepest_collection }
         requires outside { self.old.flows ≡ [] }
         ensures flows { self.new.flows ≡ self.old.flows }
         ensures blocks { IfOk result (λ _. self.new.blocks ≡ frame ∷ self.old.blocks) }
@@ -82,7 +84,7 @@ impl Stack {
         ensures flows { self.new.flows ≡ self.old.flows }
         ensures blocks { MatchOption result ((self.old.blocks ≡ []) × (self.new.blocks ≡ []))
             (λ frame. self.old.blocks ≡ frame ∷ self.new.blocks) }
-        ensures room { IfSome result (λ _. length self.new.blocks < 64) }
+        ensures room { IfSome result (λ _. length self.new.blocks < deepest_collection) }
     {
         self.blocks.pop()
     }
@@ -90,7 +92,7 @@ impl Stack {
     /// Opens one more flow collection. Fails with `AllocError` when out of memory; the stack is
     /// then unchanged.
     pub fn push_flow(&mut self, frame: FlowFrame) -> Result<(), AllocError>
-        requires { length self.old.flows + length self.old.blocks < 64 }
+        requires { length self.old.flows + length self.old.blocks < deepest_collection }
         ensures flows { IfOk result (λ _. self.new.flows ≡ frame ∷ self.old.flows) }
         ensures failed { OnErr result (self.new.flows ≡ self.old.flows) }
         ensures blocks { self.new.blocks ≡ self.old.blocks }

@@ -1,21 +1,22 @@
 -- Reading block nodes keeps the invariants of `NodeReading`.
 use Rattle.std.proofs.Common.{◌≡◌, ℕ, zero, suc, ◌+◌, ◌≤◌, List, [], ◌∷◌, refl, arith, Bool, true, false, not, ◌&&◌, ◌||◌, ◌==◌, nat_lt}
 use Rattle.std.proofs.Common.{if◌then◌else◌, Option, Some, None}
+use Rattle.std.specs.Bool.{then_some}
 use Rattle.al_base.specs.declared.codes.YamlCode.TheVariants as yaml
 use Rattle.al_base.specs.Ascii.{ascii}
 use Rattle.al_base.specs.declared.faults.Span.{Span}
-use Rattle.al_scalar.specs.Line.{Cell, Line, start, begins, is_blank, blanks_dropped}
+use Rattle.al_scalar.specs.Line.{Cell, Line, start, place, begins, indent, after_spaces, blanks_dropped, past}
 use Rattle.al_scalar.specs.Offsets.{AreClimbing}
 use Rattle.al_scalar.specs.Places.{first_text}
 use Rattle.al_scalar.specs.Plain.{block}
 use Rattle.al_scalar.specs.Scalar.{scalar_at}
-use Rattle.al_scalar.proofs.OffsetLemmas.{choose, climbing-order}
+use Rattle.al_scalar.proofs.OffsetLemmas.{choose, climbing-drop, climbing-order}
 use Rattle.al_yaml_tree.specs.Blocks.{Spot, own_line, compact, after_key, Slot, BlockReader, is_after_key, tab_before}
 use Rattle.al_yaml_tree.specs.Blocks.{unless_tab, spot_after, is_deeper, node_found, rest_node, rest_found, rest_below}
 use Rattle.al_yaml_tree.specs.Blocks.{entry_slot, sequence_entries, value_slot}
 use Rattle.al_yaml_tree.specs.Blocks.{mapping_entries, scalar_node_at, ending_line}
 use Rattle.al_yaml_tree.specs.Blocks.{block_sequence, block_mapping, block_content, block_property, block_node}
-use Rattle.al_yaml_tree.specs.Content.{Next, ended, at_line, is_skipped, content, line_ended, whole_lines, past, is_dash}
+use Rattle.al_yaml_tree.specs.Content.{Next, ended, at_line, is_skipped, content, line_ended, whole_lines, is_dash}
 use Rattle.al_yaml_tree.specs.Content.{tab_among, block_fault, is_flow_start, is_property, same_line, characters, is_short_key}
 use Rattle.al_yaml_tree.specs.Content.{anchor_name, after_name, has_no_name}
 use Rattle.al_yaml_tree.specs.Flow.{CollectionReader, flow_collection}
@@ -55,12 +56,16 @@ BlockIn f node = (back : ℕ → ℕ) (slot : Slot) (depth column low : ℕ) (ls
 module _ (f : File) where
   -- ---- after an indicator
 
+  tab-in : (low end : ℕ) (cs : List Cell) → end ≤ f.size → AreClimbing low end cs → IsIn f (then_some (begins (ascii "\t") cs) (place cs 0))
+  tab-in low end [] a h = tt
+  tab-in low end (c ∷ cs) a h = by (c.0 == ascii "\t")
+    where
+      by : (b : Bool) → IsIn f (then_some b c.1)
+      by true = let b = climbing-order (c.1 + 1) end cs h.1 in omega (arith, a, b)
+      by false = tt
+
   tab_among-in : (low end : ℕ) (cs : List Cell) → end ≤ f.size → AreClimbing low end cs → IsIn f (tab_among cs)
-  tab_among-in low end [] a h = tt
-  tab_among-in low end (c ∷ cs) a h =
-      let b = climbing-order (c.1 + 1) end cs h.1 in
-      choose (IsIn f) (c.0 == ascii "\t") (λ _. omega (arith, a, b))
-      (λ _. choose (IsIn f) (is_blank c) (λ _. tab_among-in (c.1 + 1) end cs a h.1) (λ _. tt))
+  tab_among-in low end cs a h = tab-in low end (after_spaces cs) a (climbing-drop (indent cs) low end cs h)
 
   spot_after-in : (text : List Cell) (spot : Spot) → IsIn f (tab_among text) → TabIn f spot → TabIn f (spot_after text spot)
   spot_after-in text own_line t h = t

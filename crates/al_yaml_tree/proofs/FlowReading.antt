@@ -4,13 +4,13 @@ use Rattle.std.proofs.Common.{Option, Some, None}
 use Rattle.al_base.specs.declared.codes.YamlCode.TheVariants as yaml
 use Rattle.al_base.specs.declared.faults.Span.{Span}
 use Rattle.al_base.specs.Ascii.{ascii}
-use Rattle.al_scalar.specs.Line.{Line, start, after_blanks, begins}
+use Rattle.al_scalar.specs.Line.{Line, start, after_blanks, begins, past}
 use Rattle.al_scalar.specs.Places.{first_text}
 use Rattle.al_scalar.specs.Plain.{flow, is_value_colon}
 use Rattle.al_scalar.specs.Scalar.{ScalarRead, scalar_at}
 use Rattle.al_scalar.proofs.OffsetLemmas.{choose}
 use Rattle.std.proofs.lemmas.Bool.{and_parts, or_cases}
-use Rattle.al_yaml_tree.specs.Content.{past, is_file_end, flow_fault, is_flow_start, starts_quoted, is_property, is_simple_key, anchor_name, after_name, has_no_name}
+use Rattle.al_yaml_tree.specs.Content.{is_file_end, flow_fault, is_flow_start, starts_quoted, is_property, is_simple_key, anchor_name, after_name, has_no_name}
 use Rattle.al_yaml_tree.specs.Flow.{FlowSlot, FlowReader, CollectionReader, gap, empty_node}
 use Rattle.al_yaml_tree.specs.Flow.{rest_after, flow_items, is_key_colon, after_colon_in_flow, flow_value, FlowKey}
 use Rattle.al_yaml_tree.specs.Flow.{is_late_colon, unless_late, key_colon, flow_key, flow_entry_value}

@@ -8,7 +8,7 @@ use Rattle.al_scalar.proofs.Origins.{from-placed}
 use Rattle.al_scalar.proofs.PlacedLemmas.{placed-wider}
 use Rattle.al_yaml_tree.specs.Node.{Node, Nodes, Entries, scalar, sequence, mapping, no_nodes, item, no_entries, entry, span_of, with_item, with_entry}
 use Rattle.al_yaml_tree.specs.Node.{Each, EachItem, EachEntry}
-use Rattle.al_yaml_tree.specs.Spans.{IsInside, AreFrom, IsLaidIn, IsLaid, LiesAround}
+use Rattle.al_yaml_tree.specs.Spans.{IsInside, AreFrom, IsLaidIn, LiesAround}
 
 -- ---- appending an item or an entry
 
@@ -67,6 +67,3 @@ lies-wider size size' at a h = let b = h.inside in record { ordered = h.ordered;
 pub laid-wider : (most size most' size' : ℕ) (a : most ≤ most') (b : size ≤ size') (n : Node) → IsLaidIn most size n → IsLaidIn most' size' n
 laid-wider most size most' size' a b = each-follows (Laid most size) (Laid most' size') (LiesAround size) (LiesAround size')
     (λ s h. (lies-wider size size' s.span b h.0, placed-wider most most' s a h.1)) (λ A B at f h. (lies-wider size size' at b h.0, f h.1))
-
-pub laid-higher : (size size' : ℕ) (n : Node) → size ≤ size' → IsLaid size n → IsLaid size' n
-laid-higher size size' n a h = laid-wider 1048576 size 1048576 size' (omega arith) a n h

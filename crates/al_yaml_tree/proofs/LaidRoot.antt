@@ -8,7 +8,6 @@ use Rattle.std.proofs.lemmas.Result.{IfOk-weaker}
 use Rattle.std.proofs.lemmas.Str.{is_utf8-from_IsUtf8, IsUtf8-from_is_utf8, IsUtf8-nil}
 use Rattle.std.specs.Str.{is_utf8}
 use Rattle.std.specs.Str.Lossy.{valid_len_up_to, utf8_valid_len}
-use Rattle.al_base.specs.Limits.{largest_file}
 use Rattle.al_base.specs.Spans.{LiesIn}
 use Rattle.al_base.specs.declared.codes.YamlCode.TheVariants as yaml
 use Rattle.al_scalar.specs.declared.faults.FaultAt.{FaultAt}
@@ -27,7 +26,6 @@ use Rattle.al_yaml_tree.proofs.CharacterLemmas.{character-inside}
 use Rattle.al_yaml_tree.proofs.DocumentReading.{file_of, document-lies}
 use Rattle.al_yaml_tree.proofs.NodeReading.{Lies}
 use Rattle.al_yaml_tree.proofs.ScalarSpans.{Answers}
-use Rattle.al_yaml_tree.proofs.SpanLemmas.{placed-more}
 
 -- ---- faults of the bytes
 
@@ -128,14 +126,8 @@ module _ (bytes : List ℕ) where
 
   -- Without aliases, each node is within the one around it, and after those before it.
 
-  pub root-within : length bytes ≤ 1048576 → (root : Node) → LiesIf (Unit {0}) root → IsPlacedIn largest_file 0 (length bytes) root
-  root-within a root h = placed-more (length bytes) 1048576 a 0 (length bytes) 0 (length bytes) root (omega arith) (omega arith) (h.placed tt)
-
   pub tree-nested : HasNoAlias bytes → IfOk (tree_of bytes) (IsPlacedIn (length bytes) 0 (length bytes))
   tree-nested u = IfOk-weaker (tree_of bytes) (LiesIf (Unit {0})) _ (λ root h. h.placed tt) (tree-lies (Unit {0}) (λ _. u))
-
-  pub tree-within : length bytes ≤ 1048576 → HasNoAlias bytes → IfOk (tree_of bytes) (IsPlacedIn largest_file 0 (length bytes))
-  tree-within a u = IfOk-weaker (tree_of bytes) (LiesIf (Unit {0})) _ (root-within a) (tree-lies (Unit {0}) (λ _. u))
 
   -- The texts are UTF-8.
   pub tree-text : IfOk (tree_of bytes) HasTexts

@@ -5,7 +5,7 @@ use Rattle.std.proofs.lemmas.Str.{IsUtf8-nil}
 use Rattle.std.specs.Prelude.{IsUtf8}
 use Rattle.al_base.specs.Ascii.{ascii}
 use Rattle.al_scalar.specs.Block.{at_end}
-use Rattle.al_scalar.specs.Line.{Cell, Line, start, cut, after_blanks, after_spaces, begins, is_marker, is_document_marker, blanks_dropped, spaces_dropped}
+use Rattle.al_scalar.specs.Line.{Cell, Line, start, cut, after_blanks, after_spaces, begins, is_marker, is_document_marker, blanks_dropped, spaces_dropped, past}
 use Rattle.al_scalar.specs.Offsets.{AreClimbing}
 use Rattle.al_scalar.specs.Places.{first_text}
 use Rattle.al_scalar.specs.Plain.{Context}
@@ -17,7 +17,7 @@ use Rattle.al_scalar.proofs.Standing.{Stand, stand-lower, stand-start, start-aft
 use Rattle.al_scalar.proofs.PlacedLemmas.{ReadsText, scalar-text}
 use Rattle.al_scalar.proofs.Utf8Lemmas.{AreUtf8, keeps-blanks}
 use Rattle.al_scalar.proofs.Utf8Texts.{IsText, after-text}
-use Rattle.al_yaml_tree.specs.Content.{Next, ended, at_line, is_skipped, text_line, is_file_end, content_line, content, ends_line, line_ended, whole_lines, past}
+use Rattle.al_yaml_tree.specs.Content.{Next, ended, at_line, is_skipped, text_line, is_file_end, content_line, content, ends_line, line_ended, whole_lines}
 use Rattle.al_yaml_tree.specs.Content.{is_dash, is_flow_start, is_property, anchor_cells, after_name}
 use Rattle.al_yaml_tree.specs.Document.{first_line, document_start, ended_after, last_line, document_end}
 use Rattle.al_yaml_tree.specs.Flow.{is_gap_line, gap}

@@ -3,7 +3,7 @@ use Rattle.std.specs.Prelude.{ℕ, zero, suc, ◌+◌, List, Bool, true, false, 
 use Rattle.std.specs.Prelude.{nat_le}
 use Rattle.std.specs.Prelude.{nat_lt, if◌then◌else◌, Option, Some, None}
 use Rattle.al_base.specs.declared.codes.YamlCode.TheVariants as yaml
-use Rattle.al_scalar.specs.Line.{Cell, Line, start, blanks_dropped}
+use Rattle.al_scalar.specs.Line.{Cell, Line, start, blanks_dropped, past}
 use Rattle.al_scalar.specs.Places.{first_text}
 use Rattle.al_scalar.specs.Plain.{block}
 use Rattle.al_scalar.specs.Scalar.{scalar_at}
@@ -13,7 +13,7 @@ use Rattle.al_yaml_tree.specs.Reading.{Reading, Part, gives, fails, of_result, p
 use Rattle.al_yaml_tree.specs.Reading.{starting_scalar, with_span, with_start}
 use Rattle.al_yaml_tree.specs.Reading.{◌>>=◌}
 use Rattle.al_yaml_tree.specs.Content.{Next, ended, at_line, is_skipped, content, line_ended}
-use Rattle.al_yaml_tree.specs.Content.{whole_lines, past, is_dash, tab_among}
+use Rattle.al_yaml_tree.specs.Content.{whole_lines, is_dash, tab_among}
 use Rattle.al_yaml_tree.specs.Content.{block_fault, unless_code, is_flow_start, is_property}
 use Rattle.al_yaml_tree.specs.Content.{same_line, characters, is_short_key}
 use Rattle.al_yaml_tree.specs.Flow.{CollectionReader, empty_node, property, flow_collection}

@@ -1,14 +1,17 @@
 -- Content lines, comments and document markers (YAML 1.2.2, 6.6, 6.7, 9.1), anchor names (6.9.2),
 -- and what a node's first character forbids (5.3).
-use Rattle.std.specs.Prelude.{ℕ, ◌+◌, List, [], ◌∷◌, length, map, drop, Bool, true, false, ◌&&◌}
-use Rattle.std.specs.Prelude.{◌||◌, ◌==◌, nat_le, nat_lt}
+use Rattle.std.specs.Bool.{then_some}
+use Rattle.std.specs.List.{prefix_len}
+use Rattle.std.specs.Prelude.{ℕ, ◌+◌, List, [], ◌∷◌, length, map, drop, take, Bool, true, false, ◌&&◌, not}
+use Rattle.std.specs.Prelude.{◌||◌, ◌==◌, nat_le}
 use Rattle.std.specs.Prelude.{if◌then◌else◌, Option, Some, None, Result, Ok}
 use Rattle.std.specs.Option.{option_or}
 use Rattle.al_base.specs.declared.codes.YamlCode.{YamlCode}
 use Rattle.al_base.specs.declared.codes.YamlCode.TheVariants as yaml
 use Rattle.al_base.specs.Ascii.{ascii}
 use Rattle.al_base.specs.Limits.{longest_key}
-use Rattle.al_scalar.specs.Line.{Cell, Line, start, cut, is_blank, indent, is_empty, is_all_blank}
+use Rattle.al_base.specs.Positions.{begins_char}
+use Rattle.al_scalar.specs.Line.{Cell, Line, start, place, past, is_blank, after_spaces, indent, is_empty, is_all_blank}
 use Rattle.al_scalar.specs.Line.{begins, begins_blank}
 use Rattle.al_scalar.specs.Line.{is_blank_or_end, is_comment, is_document_marker, blanks_dropped}
 use Rattle.al_scalar.specs.Line.{spaces_dropped}
@@ -25,11 +28,6 @@ use Rattle.al_yaml_tree.specs.Reading.{Reading, fails}
 abbrev pub whole_lines : List Line → List Line
 whole_lines [] = []
 whole_lines (l ∷ ls) = if l.last then at_end l else ls
-
--- the lines after k cells of the first
-abbrev pub past : ℕ → List Line → List Line
-past k [] = []
-past k (l ∷ ls) = cut (drop k l.text) l ls
 
 -- The next content line of the document: its indent, and the lines from its first character on.
 pub data Next : Type 0 where
@@ -79,10 +77,7 @@ is_dash (c ∷ cs) = (c.0 == ascii "-") && is_blank_or_end cs
 
 -- the first tab among the leading blanks
 abbrev pub tab_among : List Cell → Option ℕ
-tab_among [] = None
-tab_among (c ∷ cs) =
-    let more = tab_among cs in
-    if c.0 == ascii "\t" then Some c.1 else (if is_blank c then more else None)
+tab_among cs = let rest = after_spaces cs in then_some (begins (ascii "\t") rest) (place rest 0)
 
 -- What a node's first character forbids, in both contexts: tags, explicit keys, and what begins no
 -- node.
@@ -133,10 +128,7 @@ is_property cs = begins (ascii "&") cs || begins (ascii "*") cs
 -- the name after the indicator (6.9.2, ns-anchor-name), up to a blank, the line's end or a flow
 -- indicator
 abbrev pub anchor_cells : List Cell → List Cell
-anchor_cells [] = []
-anchor_cells (c ∷ cs) =
-    let more = anchor_cells cs in
-    if is_blank c || is_flow_indicator c.0 then [] else c ∷ more
+anchor_cells cs = take (prefix_len (λ (c : Cell). not (is_blank c || is_flow_indicator c.0)) cs) cs
 
 -- where a name ends
 abbrev pub ends_name : List Cell → Bool
@@ -161,7 +153,7 @@ abbrev pub characters : ℕ → List Cell → ℕ
 characters end [] = 0
 characters end (c ∷ cs) =
     let more = characters end cs in
-    if nat_le end c.1 then 0 else (if nat_le 128 c.0 && nat_lt c.0 192 then more else more + 1)
+    if nat_le end c.1 then 0 else (if begins_char c.0 then more + 1 else more)
 
 -- A key has at most 1,024 characters (7.4, implicit keys).
 abbrev pub is_short_key : List Line → ScalarRead → Bool

@@ -2,7 +2,7 @@
 use Rattle.std.specs.Prelude.{ℕ, suc, List, length, false, if◌then◌else◌, Result, Ok}
 use Rattle.al_base.specs.declared.codes.YamlCode.TheVariants as yaml
 use Rattle.al_base.specs.Ascii.{ascii}
-use Rattle.al_scalar.specs.Line.{Line, start, begins, is_marker, blanks_dropped, spaces_dropped}
+use Rattle.al_scalar.specs.Line.{Line, start, begins, is_marker, blanks_dropped, spaces_dropped, past}
 use Rattle.al_scalar.specs.Places.{first_text}
 use Rattle.al_scalar.specs.Taken.{fault}
 use Rattle.al_scalar.specs.declared.faults.FaultAt.{FaultAt}
@@ -11,7 +11,7 @@ use Rattle.al_yaml_tree.specs.Limits.{unless_fault, within_limits}
 use Rattle.al_yaml_tree.specs.Bytes.{byte_fault, file_lines}
 use Rattle.al_yaml_tree.specs.Reading.{Start, HaveNoAlias, Reading, no_anchors, gives, of_result}
 use Rattle.al_yaml_tree.specs.Reading.{Part, ◌>>=◌}
-use Rattle.al_yaml_tree.specs.Content.{text_line, is_file_end, line_ended, past}
+use Rattle.al_yaml_tree.specs.Content.{text_line, is_file_end, line_ended}
 use Rattle.al_yaml_tree.specs.Blocks.{Slot, own_line, node_below, block_node}
 
 -- The whole lines from the first content line on, or after it if it is the marker `---`. A

@@ -3,7 +3,7 @@ use Rattle.std.specs.Prelude.{ℕ, zero, suc, ◌+◌, List, [], ◌∷◌, Bool
 use Rattle.std.specs.Prelude.{◌||◌, if◌then◌else◌, Option, Some, None, Result, Ok}
 use Rattle.al_base.specs.declared.codes.YamlCode.TheVariants as yaml
 use Rattle.al_base.specs.Ascii.{ascii}
-use Rattle.al_scalar.specs.Line.{Cell, Line, start, cut, after_blanks, is_empty, begins}
+use Rattle.al_scalar.specs.Line.{Cell, Line, start, cut, after_blanks, is_empty, begins, past}
 use Rattle.al_scalar.specs.Line.{begins_blank, blanks_dropped}
 use Rattle.al_scalar.specs.Places.{first_text}
 use Rattle.al_scalar.specs.Taken.{fault}
@@ -16,7 +16,7 @@ use Rattle.al_yaml_tree.specs.Node.{no_nodes, with_item, no_entries, with_entry,
 use Rattle.al_yaml_tree.specs.Reading.{Reading, gives, fails, of_result, starting_scalar, start_of}
 use Rattle.al_yaml_tree.specs.Reading.{with_start}
 use Rattle.al_yaml_tree.specs.Reading.{gives_with_anchor, alias, Part, part, with_span, ◌>>=◌}
-use Rattle.al_yaml_tree.specs.Content.{past, is_file_end, flow_fault, unless_code, is_flow_start}
+use Rattle.al_yaml_tree.specs.Content.{is_file_end, flow_fault, unless_code, is_flow_start}
 use Rattle.al_yaml_tree.specs.Content.{starts_quoted, is_property}
 use Rattle.al_yaml_tree.specs.Content.{anchor_name, after_name, has_no_name, same_line}
 use Rattle.al_yaml_tree.specs.Content.{is_simple_key}

@@ -4,13 +4,13 @@ use Rattle.std.specs.Prelude.{Option, Some, None, is_some, Result, Ok, Err}
 use Rattle.al_base.specs.declared.codes.YamlCode.{YamlCode}
 use Rattle.al_base.specs.declared.codes.YamlCode.TheVariants as yaml
 use Rattle.al_base.specs.Ascii.{ascii}
-use Rattle.al_scalar.specs.Line.{Cell, Line, start, cut, after_blanks, begins, blanks_dropped}
+use Rattle.al_scalar.specs.Line.{Cell, Line, start, cut, after_blanks, begins, blanks_dropped, past}
 use Rattle.al_scalar.specs.Places.{first_text}
 use Rattle.al_scalar.specs.Plain.{block, is_value_colon}
 use Rattle.al_scalar.specs.Scalar.{ScalarRead, scalar_at}
 use Rattle.al_scalar.specs.declared.faults.FaultAt.{FaultAt}
 use Rattle.al_yaml_tree.specs.Reading.{Reading, gives, fails, of_result, starting_scalar, ◌>>=◌}
-use Rattle.al_yaml_tree.specs.Content.{is_skipped, past, is_dash, block_fault, unless_code}
+use Rattle.al_yaml_tree.specs.Content.{is_skipped, is_dash, block_fault, unless_code}
 use Rattle.al_yaml_tree.specs.Content.{is_flow_start, starts_quoted}
 use Rattle.al_yaml_tree.specs.Content.{is_property, after_name, has_no_name, same_line}
 use Rattle.al_yaml_tree.specs.Content.{is_simple_key}

@@ -36,8 +36,7 @@ use Rattle.al_expr_typing.proofs.Inside.{both_lie}
 use Rattle.al_rules.proofs.Lying.{rules_lie}
 use Rattle.al_tree.specs.Faults.{root_faults}
 use Rattle.al_check.specs.FileFaults.{document_faults, file_faults, own_faults, printed_fault}
-use Rattle.al_check.specs.RuleFaults.{rule_faults}
-use Rattle.al_check.specs.Proofs.RuleSets.{rules_hold}
+use Rattle.al_rules.specs.Rules.{rule_faults}
 use Rattle.al_check_interfaces.specs.Uses.{wrong_uses}
 use Rattle.al_base.specs.declared.codes.Code.TheVariants as code
 use Rattle.al_yaml_tree.specs.ByteFaults.{fault_span}
@@ -75,7 +74,7 @@ module _ (size : ℕ) (kind : FileKind) (root : Node) (i : IsInside size root) (
       (both_lie size (root_faults (shape_of kind) root) (rule_faults kind root)
       (recursion_from_All (λ (x : Fault). LiesIn size x.span) (root_faults (shape_of kind) root)
       (root_lies size (shape_of kind) root i))
-      (rules_lie size kind root (rule_faults kind root) w (rules_hold kind root)))
+      (rules_lie size kind root w))
       (wrong_uses_lie size (calls_in kind root) (calls_lie size kind root i)))
       with_answers_lie
 

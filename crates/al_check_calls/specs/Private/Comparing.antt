@@ -1,11 +1,13 @@
 -- The faults of a call by itself, and the faults of names for all calls of a file together.
-use Rattle.std.specs.Prelude.{◌≡◌, ◌⊎◌, List, [], ◌∷◌, ◌++◌, Bool, ◌&&◌, Contains, map, Option, option_map, if◌then◌else◌}
-use Rattle.std.specs.Prelude.{ℕ}
+use Rattle.std.specs.Prelude.{◌≡◌, ◌⊎◌, List, [], ◌∷◌, ◌++◌, Bool, true, false, ◌&&◌, not, Contains, map}
+use Rattle.std.specs.Prelude.{ℕ, Option, None, option_map, if◌then◌else◌}
 use Rattle.std.specs.List.{AllByRecursion, cons_option, flat_map}
+use Rattle.std.specs.Option.{option_map_or}
 use Rattle.std.specs.Str.{bytes_eq}
 use Rattle.al_base.specs.contracts.codes.CallerPartialEq.TheImpl as caller
 use Rattle.al_base.specs.contracts.faults.SpanPartialEq.TheImpl as span
 use Rattle.al_base.specs.declared.codes.Caller.{Caller}
+use Rattle.al_base.specs.declared.codes.Caller.TheVariants.{Job, Step}
 use Rattle.al_base.specs.declared.faults.Fault.{Fault}
 use Rattle.al_scalar.specs.Scalar.{Scalar}
 use Rattle.al_yaml_tree.specs.Node.{Node}
@@ -21,8 +23,31 @@ use Rattle.al_check_interfaces.specs.declared.interfaces.ParameterKind.TheVarian
 use Rattle.al_check_interfaces.specs.declared.interfaces.Signature.{Signature}
 use Rattle.al_check_interfaces.specs.Uses.{Call, site_caller}
 use Rattle.al_check_calls.specs.Answers.{Answered, Typing, values_in}
-use Rattle.al_check_calls.specs.CallFaults.{call_fault, called_name, given_by, given_type, missing_code, missing_name, name_faults}
-use Rattle.al_check_calls.specs.CallFaults.{names_against, signature_for, undefined_name, uses_faults, value_faults, wrong_input}
+use Rattle.al_check_calls.specs.CallFaults.{Given, call_fault, callable_signature, called_name, given_by, given_type, is_inherit, missing_code}
+use Rattle.al_check_calls.specs.CallFaults.{missing_name, names_against, undefined_name, uses_faults, wrong_input}
+
+-- ---- the faults of a call, by what they are about
+
+-- whether names of a kind are compared: not the secrets of a step, nor those that a job passes on
+abbrev pub is_compared : ParameterKind → Caller → Node → Bool
+is_compared Input by n = true
+is_compared Secret Step n = false
+is_compared Secret Job n = not (is_inherit n)
+
+abbrev pub signature_for : ParameterKind → Call → Option Interface → Option Signature
+signature_for k c answer =
+    if is_compared k (site_caller c.site) c.site.node then callable_signature (site_caller c.site) answer else None
+
+abbrev pub names_of_kind : ParameterKind → Call → Option Interface → List Fault
+names_of_kind k c answer = option_map_or (names_against k c) (signature_for k c answer) []
+
+-- the faults of the types of values; a step's aren't compared
+abbrev pub values_against : Caller → Call → List Given → Option Signature → List Fault
+values_against Step c values o = []
+values_against Job c values o = option_map_or (λ s. flat_map (wrong_input c s.inputs) values) o []
+
+abbrev pub value_faults : Call → List Given → Option Interface → List Fault
+value_faults c values answer = values_against (site_caller c.site) c values (callable_signature (site_caller c.site) answer)
 
 -- all faults except those of names
 abbrev pub faults_but_names : Typing → Answered → List Fault
@@ -32,8 +57,9 @@ faults_but_names typing a = uses_faults a.call a.answer ++ value_faults a.call (
 abbrev pub wrong_value : Typing → Call → List Parameter → Scalar × Node → List Fault
 wrong_value typing c inputs e = wrong_input c inputs (e, given_type (typing c.site) e)
 
+-- the faults of names: C2 and C3 of inputs, C5 and C6 of secrets
 abbrev pub faults_of_names : Answered → List Fault
-faults_of_names a = name_faults a.call a.answer
+faults_of_names a = names_of_kind Input a.call a.answer ++ names_of_kind Secret a.call a.answer
 
 -- ---- calls whose names are compared
 

@@ -1,10 +1,11 @@
 -- The faults of `needs`, where jobs have the same label if and only if each leads to the other.
-use Rattle.std.specs.Prelude.{ℕ, List, Bool, Option, None, nat_eq, slice_index_or}
+use Rattle.std.specs.Prelude.{ℕ, List, [], ◌∷◌, Bool, Option, Some, None, nat_eq, slice_index_or, if◌then◌else◌}
 use Rattle.std.specs.List.{flat_map}
 use Rattle.std.specs.Option.{option_eq}
 use Rattle.al_base.specs.declared.faults.Fault.{Fault}
-use Rattle.al_rules.specs.Needs.{NeedEntry, tested_faults}
-use Rattle.al_rules_settings.specs.Words.{Named}
+use Rattle.al_base.specs.declared.codes.RuleCode.TheVariants.{UndefinedJob}
+use Rattle.al_rules.specs.Needs.{NeedEntry, cycle_fault}
+use Rattle.al_rules_settings.specs.Words.{Named, about}
 
 -- whether two jobs have the same label
 abbrev pub has_label_of : List (Option ℕ) → ℕ → ℕ → Bool
@@ -13,7 +14,8 @@ has_label_of labels j k =
 
 -- the faults of an entry, given the position of the job that it names, if there is one
 abbrev pub labelled_fault : List (Option ℕ) → NeedEntry → Option ℕ → List Fault
-labelled_fault labels n named = tested_faults (λ j. has_label_of labels j n.job) n named
+labelled_fault labels n None = about UndefinedJob n.text
+labelled_fault labels n (Some j) = if has_label_of labels j n.job then cycle_fault n ∷ [] else []
 
 -- the position of the job that a text names
 abbrev pub named_by : (List ℕ → Option ℕ) → Named → Option ℕ

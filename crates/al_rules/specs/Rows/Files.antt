@@ -5,15 +5,9 @@ use Rattle.al_scalar.specs.Line.{Cell}
 use Rattle.al_scalar.specs.Scalar.{Scalar}
 use Rattle.al_scalar.specs.declared.styles.Class.TheVariants.{Str}
 use Rattle.al_scalar.specs.declared.styles.Style.TheVariants.{Plain, SingleQuoted}
-use Rattle.al_base.specs.declared.faults.Fault.{Fault}
 use Rattle.al_base.specs.declared.faults.Span.{Span}
 use Rattle.al_yaml_tree.specs.Node.{Node, scalar, sequence, mapping, no_nodes, item, no_entries}
 use Rattle.al_yaml_tree.specs.Node.{entry}
-use Rattle.al_graph.specs.Within.{leads_within}
-use Rattle.al_rules.specs.Needs.{needs_faults, needs_lists}
-use Rattle.al_base.specs.NamePlaces.{name_place}
-use Rattle.al_tree.specs.Keys.{keys_in}
-use Rattle.al_tree.specs.Files.{jobs_of}
 
 abbrev pub at : ℕ → ℕ → Span
 at i j = record { start = i; end = j }
@@ -33,11 +27,6 @@ word text i = scalar (key text i)
 abbrev pub quoted : List ℕ → ℕ → Node
 quoted text i =
     scalar (record { style = SingleQuoted; class = Str; cells = cells_from (i + 1) text; span = at i (i + length text + 2) })
-
--- the faults of needs, by walks of at most as many steps as there are jobs
-abbrev pub needs_by_steps : Node → List Fault
-needs_by_steps root =
-    let jobs = jobs_of root in needs_faults (leads_within (length jobs) (needs_lists (name_place (keys_in jobs)) jobs)) jobs
 
 -- on: pus
 -- jobs: {}

@@ -1,6 +1,7 @@
 -- What a stack of open block collections stands for, and how contracts speak of it.
 use Rattle.std.specs.Prelude.{◌≡◌, ℕ, suc, ◌+◌, ◌<◌, ◌≤◌, List, length, map, Bool, true}
 use Rattle.std.specs.Prelude.{if◌then◌else◌, Option, Some, None, Result, Ok, Err}
+use Rattle.al_base.specs.Limits.{deepest_collection}
 use Rattle.al_scalar.specs.Line.{Line}
 use Rattle.al_scalar.specs.Places.{first_text, lines_at, text_at}
 use Rattle.al_scalar.specs.Scalar.{ScalarRead}
@@ -175,7 +176,7 @@ IsOpenAt bytes column at (open_code.Entries v key) = IsKeyAfter bytes at key × 
 abbrev pub IsBegun : List ℕ → ℕ → ℕ → task_type.BlockTask → Type 0
 IsBegun bytes from depth (task.Read p) = IsPartAfter bytes from p
 IsBegun bytes from depth (task.Inside x) =
-    (x.begun.start.at ≡ from) × (x.at ≡ from) × (depth ≤ 64)
+    (x.begun.start.at ≡ from) × (x.at ≡ from) × (depth ≤ deepest_collection)
     × IsOpenAt bytes x.begun.start.column x.at x.has
 IsBegun bytes from depth (task.Node x) = IsNodeAt bytes x.slot x.start × (from < x.start.at)
 IsBegun bytes from depth (task.Found r) =

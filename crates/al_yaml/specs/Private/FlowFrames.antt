@@ -3,6 +3,7 @@ use Rattle.std.specs.Prelude.{◌≡◌, ℕ, suc, ◌+◌, ◌<◌, ◌≤◌, 
 use Rattle.std.specs.Prelude.{None, Result, Ok, Err}
 use Rattle.al_scalar.specs.ReadScalar.{read_of}
 use Rattle.al_scalar.specs.Places.{lines_at}
+use Rattle.al_base.specs.Limits.{deepest_collection}
 use Rattle.al_base.specs.Spans.{span}
 use Rattle.al_scalar.specs.declared.scalars.ScalarRead.{ScalarRead}
 use Rattle.al_yaml_tree.specs.Node as tree
@@ -131,7 +132,7 @@ AreOpen size (f ∷ fs) = (f.opening < size) × (f.inner.at < size) × AreOpen s
 pub record IsFurther (size at depth : ℕ) (old new : OpenCollections) (now : OpenFlow) : Type 0 where
   pub blocks : new.blocks ≡ old.blocks
   pub outer : AreOpen size new.flows
-  pub room : length new.flows + depth ≤ length old.flows + 65
+  pub room : length new.flows + depth ≤ length old.flows + (deepest_collection + 1)
   pub more : length new.flows ≤ length old.flows + 1
   pub opening : now.opening < size
   pub next : IsPut size at now.next

@@ -3,12 +3,12 @@
 use Rattle.std.specs.Prelude.{ℕ, ◌+◌, List, false, if◌then◌else◌, Option, Result, Ok}
 use Rattle.al_base.specs.declared.codes.YamlCode.TheVariants as yaml
 use Rattle.al_base.specs.Ascii.{ascii}
-use Rattle.al_scalar.specs.Line.{Line, start, begins}
+use Rattle.al_scalar.specs.Line.{Line, start, begins, past}
 use Rattle.al_scalar.specs.Places.{first_text}
 use Rattle.al_scalar.specs.Scalar.{ScalarRead}
 use Rattle.al_scalar.specs.Taken.{fault}
 use Rattle.al_scalar.specs.declared.faults.FaultAt.{FaultAt}
-use Rattle.al_yaml_tree.specs.Content.{past, is_file_end}
+use Rattle.al_yaml_tree.specs.Content.{is_file_end}
 use Rattle.al_yaml_tree.specs.Node.{Node, Nodes, Entries, sequence, mapping, with_item, with_entry}
 use Rattle.al_yaml_tree.specs.Reading.{Reading, fails, Part, with_span}
 use Rattle.al_yaml_tree.specs.Flow.{CollectionReader, gap, flow_items, flow_entries, flow_node_over}

@@ -1,4 +1,4 @@
-use Rattle.std.proofs.Common.{arith, map, refl}
+use Rattle.std.proofs.Common.{arith, map}
 use Rattle.std.proofs.lemmas.List.{take_all}
 use Rattle.std.proofs.lemmas.Result.{on_ok_weaker}
 use Rattle.al_base.proofs.Growing.{same_set}
@@ -7,6 +7,7 @@ use Rattle.al_check_calls.specs.Answers.{answered_faults}
 use Rattle.al_check_calls.specs.Private.AnswerViews.{answered_of, compared_of, typing_in}
 use Rattle.al_check_calls.specs.Private.Comparing.{faults_but_names, faults_of_names}
 use Rattle.al_check_calls.proofs.Alike.{tell_signatures}
+use Rattle.al_check_calls.proofs.CallParts.{call_parts}
 use Rattle.al_check_calls.proofs.MissingNames.{all_names_found}
 use Rattle.al_check_calls.proofs.Parts.{in_parts}
 use Rattle.al_check_contexts.specs.Environments.{file_of}
@@ -37,7 +38,7 @@ returns c =
     let calls = map answered_of c.args.answered.now in
     let whole = take_all c.loop-one.one-index c.args.answered.now (omega (arith, c.loop-one-test.false)) in
     on_ok_weaker c.check_missing.result
-    (λ found. in_parts (answered_faults types) (faults_but_names types) faults_of_names (λ a. refl) calls c.args.faults.now c.loop-one.faults
+    (λ found. in_parts (answered_faults types) (faults_but_names types) faults_of_names (call_parts types) calls c.args.faults.now c.loop-one.faults
     c.check_missing.new.faults (same_set _ _ (rw whole at c.loop-one.invariant.faults))
     (all_names_found calls (map compared_of c.in_ok-comparisons.comparisons.items) c.loop-one.faults c.check_undefined.new.faults
     c.check_missing.new.faults c.in_ok-comparisons.ensures (rw c.as_slice.ensures.value at c.in_ok-check_undefined.ensures) found)) c.check_missing.ensures
