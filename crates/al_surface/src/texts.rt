@@ -3,8 +3,9 @@
 ghost use Rattle.std.specs.Prelude.{◌≡◌, IfOk};
 
 use al_text::{
-    Args, CallCode, Caller, Code, ExpressionCode, Fault, Input, KeyCode, Lines, Output, Path,
-    PathFault, RuleCode, Span, Stop, WriteFault, YamlCode, kind, path_fault, position, write_fault,
+    Args, CallCode, Caller, Code, ExpressionCode, Fault, Format, Input, KeyCode, Lines, Output,
+    Path, PathFault, RuleCode, Span, Stop, WriteFault, YamlCode, kind, path_fault, position,
+    write_fault,
 };
 use std::alloc::{AllocError, Global};
 
@@ -154,7 +155,13 @@ fn is_printed(alloc: Global, bytes: &[u8], wanted: &[u8]) -> Result<bool, Stop> 
     }
     let fault = fault(alloc)?;
     let mut output = Vec::new(alloc);
-    write_fault(&mut Output::new(&mut output), PATH, bytes, &fault, false)?;
+    write_fault(
+        &mut Output::new(&mut output),
+        PATH,
+        bytes,
+        &fault,
+        Format::Snippet,
+    )?;
     Ok(position(bytes, 87) == (6, 30) && output.as_slice() == wanted)
 }
 
@@ -165,7 +172,13 @@ fn is_printed_by_lines(alloc: Global, bytes: &[u8], wanted: &[u8]) -> Result<boo
     let fault = fault(alloc)?;
     let lines = Lines::of(alloc, bytes)?;
     let mut output = Vec::new(alloc);
-    lines.write_fault(&mut Output::new(&mut output), PATH, bytes, &fault, false)?;
+    lines.write_fault(
+        &mut Output::new(&mut output),
+        PATH,
+        bytes,
+        &fault,
+        Format::Snippet,
+    )?;
     Ok(lines.position(bytes, 87) == (6, 30) && output.as_slice() == wanted)
 }
 
