@@ -1,5 +1,5 @@
 -- How a run ends, by what its steps leave.
-use Rattle.std.proofs.Common.{◌≡◌, ◌≢◌, ℕ, Bool, List, [], ◌∷◌, map, Option, None, Some, Result, Ok, Err, OnOk, OnErr, sym, subst, ◌∙◌, refl}
+use Rattle.std.proofs.Common.{◌≡◌, ◌≢◌, ℕ, List, [], ◌∷◌, map, Option, None, Some, Result, Ok, Err, OnOk, OnErr, sym, subst, ◌∙◌, refl}
 use Rattle.std.specs.Prelude.{IsErrAnd, IsOkUnless}
 use Rattle.std.specs.Borrow.{Bor}
 use Rattle.std.specs.Cmp.Lexicographic.{slice_cmp}
@@ -14,6 +14,7 @@ use Rattle.al_base.specs.declared.stops.Stop.TheVariants.{WriteFault}
 use Rattle.al_base.specs.declared.streams.Input.{Input}
 use Rattle.al_base.specs.declared.streams.Output.{Output}
 use Rattle.al_base.proofs.Bytes.{AppendsPrefix-all}
+use Rattle.al_text.specs.declared.printing.Format.{Format}
 use Rattle.al_session.specs.Folder.{Folder}
 use Rattle.al_cli_scripts.specs.Replies.{session}
 use Rattle.al_cli_scripts.specs.Runs.{IsCutShort, Runs, RunsToEnd, Steps}
@@ -21,7 +22,7 @@ use Rattle.al_cli_scripts.proofs.Outputs.{Prefix-all}
 use Rattle.al_cli_words.specs.declared.words.Words.{Words}
 use Rattle.al_cli.specs.Disk.{Holding}
 use Rattle.al_cli.specs.Private.Endings.{FlushEnds, ReportEnds}
-use Rattle.al_cli.specs.Program.{FolderEnds, IsAskedFolder, ScriptEnds}
+use Rattle.al_cli.specs.Program.{FolderEnds, IsAskedFolder, ScriptEnds, format_of}
 use Rattle.al_cli.specs.Taken.{AreAsked, AreListedFiles, each_once, path_named}
 use Rattle.al_cli.specs.declared.ending.Ending.{Ending}
 use Rattle.al_cli.specs.declared.ending.Ending.TheVariants as ending
@@ -115,24 +116,24 @@ module _ {F : Type 0} (steps : Steps F) (start : F) where
       asks = λ other. runs.asks (λ memory. absurd cc);
     }
 
-pub script_flushed : {R W : Type 0} (oneline : Bool) (remaining : R → Option (List ℕ)) (contents : W → Option (List ℕ)) (unread left : Input R)
-    (wrote mid now : Output W) (status : ℕ) (end : Ending) → Runs (session oneline) [] remaining contents unread left wrote mid (Ok status)
-    → FlushEnds contents mid now status end → ScriptEnds oneline remaining contents unread left wrote now end
-script_flushed oneline remaining contents unread left wrote mid now status (ending.Answered said) runs flush =
-    subst (λ (n : ℕ). Runs (session oneline) [] remaining contents unread left wrote now (Ok n)) (sym flush.0)
-    (runs_flushed (session oneline) [] remaining contents unread left wrote mid now status runs flush.1 flush.2)
-script_flushed oneline remaining contents unread left wrote mid now status (ending.Stopped stop) runs flush =
-    subst (λ (s : Stop). Runs (session oneline) [] remaining contents unread left wrote now (Err s)) (sym flush.0)
-    (runs_unflushed (session oneline) [] remaining contents unread left wrote mid now status runs flush.1 flush.2)
-script_flushed oneline remaining contents unread left wrote mid now status (ending.Reported said) runs flush = absurd flush
-script_flushed oneline remaining contents unread left wrote mid now status (ending.Unread why) runs flush = absurd flush
-script_flushed oneline remaining contents unread left wrote mid now status (ending.NoRun said) runs flush = absurd flush
-script_flushed oneline remaining contents unread left wrote mid now status ending.NotText runs flush = absurd flush
+pub script_flushed : {R W : Type 0} (format : Format) (remaining : R → Option (List ℕ)) (contents : W → Option (List ℕ)) (unread left : Input R)
+    (wrote mid now : Output W) (status : ℕ) (end : Ending) → Runs (session format) [] remaining contents unread left wrote mid (Ok status)
+    → FlushEnds contents mid now status end → ScriptEnds format remaining contents unread left wrote now end
+script_flushed format remaining contents unread left wrote mid now status (ending.Answered said) runs flush =
+    subst (λ (n : ℕ). Runs (session format) [] remaining contents unread left wrote now (Ok n)) (sym flush.0)
+    (runs_flushed (session format) [] remaining contents unread left wrote mid now status runs flush.1 flush.2)
+script_flushed format remaining contents unread left wrote mid now status (ending.Stopped stop) runs flush =
+    subst (λ (s : Stop). Runs (session format) [] remaining contents unread left wrote now (Err s)) (sym flush.0)
+    (runs_unflushed (session format) [] remaining contents unread left wrote mid now status runs flush.1 flush.2)
+script_flushed format remaining contents unread left wrote mid now status (ending.Reported said) runs flush = absurd flush
+script_flushed format remaining contents unread left wrote mid now status (ending.Unread why) runs flush = absurd flush
+script_flushed format remaining contents unread left wrote mid now status (ending.NoRun said) runs flush = absurd flush
+script_flushed format remaining contents unread left wrote mid now status ending.NotText runs flush = absurd flush
 
 -- ---- Reports.
 
 pub folder_reported : (words : Words) (holds : List ℕ → Option Holding) (folder : Folder) (wrote now : Option (List ℕ)) (end : Ending) → IsAskedFolder words holds folder
-    → ReportEnds words.oneline folder wrote now end → FolderEnds words holds wrote now end
+    → ReportEnds (format_of words) folder wrote now end → FolderEnds words holds wrote now end
 folder_reported words holds folder wrote now (ending.Reported status) loaded ends = (folder, loaded, ends.0, ends.1)
 folder_reported words holds folder wrote now (ending.Stopped stop) loaded ends = (folder, loaded, ends)
 folder_reported words holds folder wrote now (ending.Answered status) loaded ends = absurd ends

@@ -8,7 +8,8 @@ ghost use Rattle.al_cli_scripts.specs.Replies as replies;
 ghost use Rattle.al_cli_scripts.specs.Runs.{Runs};
 ghost use Rattle.al_cli.specs.Linted.{ReportStops};
 ghost use Rattle.al_cli.specs.Private.Endings.{FlushEnds, ReportEnds};
-ghost use Rattle.al_cli.specs.Program.{FolderEnds, RunEnds, ScriptEnds, UsageEnds, WordsEnd, help_of};
+ghost use Rattle.al_cli.specs.Program.{FolderEnds, RunEnds, ScriptEnds, UsageEnds, WordsEnd};
+ghost use Rattle.al_cli.specs.Program.{format_of, help_of};
 
 use crate::disk::Disk;
 use crate::ending::Ending;
@@ -19,6 +20,7 @@ use al_check::Actions;
 use al_cli_scripts::run_commands;
 use al_cli_words::{Usage, Words, parse_words};
 use al_session::{Seed, Session};
+use al_text::Format;
 use std::alloc::Global;
 use std::convert::AsStr;
 use std::io::{Read, Write};
@@ -60,9 +62,19 @@ fn run_words<D: Disk, R: Read, W: Write, E: Write>(
         reader.old reader.new writer.old writer.new result }
 {
     if words.session {
-        return answer_script(alloc, disk.seed(), reader, writer, words.oneline);
+        return answer_script(alloc, disk.seed(), reader, writer, format_in(words));
     }
     lint_folder(alloc, words, disk, writer, errors)
+}
+
+// The format that words ask for.
+fn format_in(words: &Words<'_>) -> Format
+    ensures { result ≡ format_of words.now }
+{
+    if words.oneline {
+        return Format::Oneline;
+    }
+    Format::Snippet
 }
 
 // Prints help. Other usages are for standard error.
@@ -100,12 +112,12 @@ fn answer_script<R: Read, W: Write>(
     seed: Seed,
     reader: &mut Input<R>,
     writer: &mut Output<W>,
-    oneline: bool,
+    format: Format,
 ) -> Ending
-    ensures { ScriptEnds oneline R.remaining W.contents
+    ensures { ScriptEnds format R.remaining W.contents
         reader.old reader.new writer.old writer.new result }
 {
-    match run_script(alloc, seed, reader, writer, oneline) {
+    match run_script(alloc, seed, reader, writer, format) {
         Ok(status) => end_script(writer, status),
         Err(stop) => Ending::Stopped(stop),
     }
@@ -117,13 +129,13 @@ fn run_script<R: Read, W: Write>(
     seed: Seed,
     reader: &mut Input<R>,
     writer: &mut Output<W>,
-    oneline: bool,
+    format: Format,
 ) -> Result<u8, Stop>
-    ensures { Runs (replies.session oneline) [] R.remaining W.contents reader.old reader.new
+    ensures { Runs (replies.session format) [] R.remaining W.contents reader.old reader.new
         writer.old writer.new result }
 {
     let mut session = Session::open_seeded(alloc, Actions::new(), seed);
-    let answer = run_commands(alloc, &mut session, reader, writer, oneline);
+    let answer = run_commands(alloc, &mut session, reader, writer, format);
     // The program ends, and the system frees all of its memory at once.
     mem::forget(session);
     answer
@@ -150,7 +162,7 @@ fn lint_folder<D: Disk, W: Write, E: Write>(
         (bytes_written W.contents writer.new) result }
 {
     match load(alloc, disk, words) {
-        Ok(gathered) => report_gathered(gathered, writer, errors, words.oneline),
+        Ok(gathered) => report_gathered(gathered, writer, errors, format_in(words)),
         Err(unread) => Ending::Unread(unread),
     }
 }
@@ -159,14 +171,14 @@ fn report_gathered<W: Write, E: Write>(
     gathered: Gathered,
     writer: &mut Output<W>,
     errors: &mut E,
-    oneline: bool,
+    format: Format,
 ) -> Ending
-    ensures { ReportEnds oneline gathered.files.folder (bytes_written W.contents writer.old)
+    ensures { ReportEnds format gathered.files.folder (bytes_written W.contents writer.old)
         (bytes_written W.contents writer.new) result }
 {
     // If standard error fails, nothing is left to do.
     let _ = say_skipped(errors, &gathered.outside);
-    match report(gathered.files, writer, oneline) {
+    match report(gathered.files, writer, format) {
         Ok(status) => Ending::Reported(status),
         Err(stop) => Ending::Stopped(stop),
     }
@@ -183,15 +195,15 @@ fn say_skipped<E: Write>(errors: &mut E, paths: &[String]) -> io::Result<()> {
 }
 
 // Checks the files, and writes their report.
-fn report<W: Write>(files: Loaded, writer: &mut Output<W>, oneline: bool) -> Result<u8, Stop>
+fn report<W: Write>(files: Loaded, writer: &mut Output<W>, format: Format) -> Result<u8, Stop>
     ensures status { IfOk result (λ status. status ≡ status_of linting files.folder) }
     ensures report { OnOk result
-        (Writes W.contents writer.old writer.new (report_of oneline linting files.folder)) }
-    ensures stopped { IfErr result (ReportStops oneline files.folder
+        (Writes W.contents writer.old writer.new (report_of format linting files.folder)) }
+    ensures stopped { IfErr result (ReportStops format files.folder
         (bytes_written W.contents writer.old) (bytes_written W.contents writer.new)) }
 {
     let mut session = files.build()?;
-    let answer = write_report(&mut session, writer, oneline);
+    let answer = write_report(&mut session, writer, format);
     // The program ends, and the system frees all of its memory at once.
     mem::forget(session);
     answer

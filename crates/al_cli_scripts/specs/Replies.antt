@@ -1,10 +1,11 @@
 -- What a script's session does at a command: the folder, the reply and the status.
-use Rattle.std.specs.Prelude.{◌≡◌, ◌≢◌, ◌⊎◌, ℕ, Bool, List, ◌++◌, length, codes, decimal, Option}
+use Rattle.std.specs.Prelude.{◌≡◌, ◌≢◌, ◌⊎◌, ℕ, List, ◌++◌, length, codes, decimal, Option}
 use Rattle.std.specs.Prelude.{None, Some, Result, Ok, Err}
 use Rattle.std.specs.Io.KnownBytes.{Keeps}
 use Rattle.al_base.specs.Counted.{AppendsPrefix}
 use Rattle.al_base.specs.declared.stops.Stop.{Stop}
 use Rattle.al_base.specs.declared.stops.Stop.TheVariants as stops
+use Rattle.al_text.specs.declared.printing.Format.{Format}
 use Rattle.al_session.specs.declared.session.Edit.{Edit}
 use Rattle.al_session.specs.Affected.{affected_paths}
 use Rattle.al_session.specs.Folder.{Folder, put_refusal, delete_refusal, with_file, without_file}
@@ -50,14 +51,14 @@ after_command folder (Delete path) =
     edit_result (delete_refusal linting folder path) folder (without_file folder path)
 after_command folder Report = folder
 
--- the reply to a command; a report has snippets, or only lines
-abbrev pub reply_to : Bool → Folder → Command → List ℕ
-reply_to oneline folder (Put path bytes) =
+-- the reply to a command, with faults in this format
+abbrev pub reply_to : Format → Folder → Command → List ℕ
+reply_to format folder (Put path bytes) =
     edit_reply (put_refusal linting folder path bytes) folder (with_file folder path bytes)
-reply_to oneline folder (Delete path) =
+reply_to format folder (Delete path) =
     edit_reply (delete_refusal linting folder path) folder (without_file folder path)
-reply_to oneline folder Report =
-    report_of oneline linting folder
+reply_to format folder Report =
+    report_of format linting folder
     ++ (codes "status " ++ decimal (status_of linting folder) ++ codes "\n")
 
 -- why a command is refused, unless it is because memory ran out
@@ -67,9 +68,9 @@ refusal_of folder (Delete path) = delete_refusal linting folder path
 refusal_of folder Report = None
 
 -- the session of a script, over its folders
-abbrev pub session : Bool → Steps Folder
-session oneline =
-    record { reply = reply_to oneline; after = after_command; status = status_of linting }
+abbrev pub session : Format → Steps Folder
+session format =
+    record { reply = reply_to format; after = after_command; status = status_of linting }
 
 -- ---- what a reply to an edit writes
 

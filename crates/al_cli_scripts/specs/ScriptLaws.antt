@@ -1,5 +1,6 @@
 -- Laws of the definitions in `Script` and `Runs`.
-use Rattle.std.specs.Prelude.{◌≡◌, ℕ, Bool, List, [], ◌++◌}
+use Rattle.std.specs.Prelude.{◌≡◌, ℕ, List, [], ◌++◌}
+use Rattle.al_text.specs.declared.printing.Format.{Format}
 use Rattle.al_cli_scripts.specs.Script.{Command, command_bytes, IsCommand, IsWrong}
 use Rattle.al_cli_scripts.specs.Script.{BeginsWithCommand}
 use Rattle.al_cli_scripts.specs.Runs.{Puts}
@@ -18,11 +19,11 @@ StaysWrong = (bytes more : List ℕ) → IsWrong bytes
 
 -- a script has at most one output and result
 abbrev pub PutsInOneWay : Type 0
-PutsInOneWay = (oneline : Bool) (script out out' : List ℕ) (answer answer' : ℕ)
-    → Puts (session oneline) [] script out answer → Puts (session oneline) [] script out' answer'
+PutsInOneWay = (format : Format) (script out out' : List ℕ) (answer answer' : ℕ)
+    → Puts (session format) [] script out answer → Puts (session format) [] script out' answer'
     → (out ≡ out') × (answer ≡ answer')
 
 -- a script has an output and a result
 abbrev pub PutsSomething : Type 0
-PutsSomething = (oneline : Bool) (script : List ℕ)
-    → (out : List ℕ) × (answer : ℕ) × Puts (session oneline) [] script out answer
+PutsSomething = (format : Format) (script : List ℕ)
+    → (out : List ℕ) × (answer : ℕ) × Puts (session format) [] script out answer

@@ -21,6 +21,7 @@ use al_base::limits::{LARGEST_READ, MOST_READS};
 use al_base::{Input, Output, Stop};
 use al_check::Actions;
 use al_session::{Edit, Refused, Session};
+use al_text::Format;
 use itoa::Buffer;
 use std::alloc::{AllocError, Global};
 use std::io::{Read, Write};
@@ -44,18 +45,18 @@ pub fn run_session<R: Read, W: Write>(
     alloc: Global,
     reader: &mut Input<R>,
     writer: &mut Output<W>,
-    oneline: bool,
+    format: Format,
 ) -> Result<u8, Stop>
-    ensures runs { Runs (replies.session oneline) [] R.remaining W.contents reader.old reader.new
+    ensures runs { Runs (replies.session format) [] R.remaining W.contents reader.old reader.new
         writer.old writer.new result }
 {
     let mut session = Session::open(alloc, Actions::new());
-    run_commands(alloc, &mut session, reader, writer, oneline)
+    run_commands(alloc, &mut session, reader, writer, format)
 }
 
 /// Runs the script that the reader gives over a session, which then has the folder that its
-/// commands leave. Reports have only the lines of faults if `oneline` is set. Returns the session's
-/// status if the input ends with no command begun, and otherwise 2, for a bad command.
+/// commands leave, with faults in this format. Returns the session's status if the input ends with no
+/// command begun, and otherwise 2, for a bad command.
 ///
 /// Each read is for 65,536 bytes. None follows the one at which the input ends or a command turns
 /// out to be bad.
@@ -75,14 +76,14 @@ pub fn run_commands<R: Read, W: Write>(
     session: &mut Session<Actions>,
     reader: &mut Input<R>,
     writer: &mut Output<W>,
-    oneline: bool,
+    format: Format,
 ) -> Result<u8, Stop>
-    ensures runs { Runs (replies.session oneline) session.old.folder R.remaining W.contents
+    ensures runs { Runs (replies.session format) session.old.folder R.remaining W.contents
         reader.old reader.new writer.old writer.new result }
-    ensures folder { OnOk result (LeavesFolder (replies.session oneline) session.old.folder []
+    ensures folder { OnOk result (LeavesFolder (replies.session format) session.old.folder []
         (bytes_left R.remaining reader.old) session.new.folder) }
 {
-    let mut run = Run::new(alloc, oneline)?;
+    let mut run = Run::new(alloc, format)?;
     for _turn in 0..MOST_READS {
         match run.take_turn(session, reader, writer)? {
             Some(answer) => return Ok(answer),
@@ -95,7 +96,7 @@ pub fn run_commands<R: Read, W: Write>(
 // A run of a script.
 #[derive(Drop)]
 struct Run {
-    oneline: bool,
+    format: Format,
     // The bytes after the last whole command.
     waiting: Vec<u8>,
     // Room for one read.
@@ -105,13 +106,13 @@ struct Run {
 impl Run {
     // A run that hasn't read anything. The clauses leave the zeros out: a tactic that sees
     // `replicate 65536 0` computes it.
-    fn new(alloc: Global, oneline: bool) -> Result<Run, AllocError>
-        ensures oneline { IfOk result (λ run. run.oneline ≡ oneline) }
+    fn new(alloc: Global, format: Format) -> Result<Run, AllocError>
+        ensures format { IfOk result (λ run. run.format ≡ format) }
         ensures waiting { IfOk result (λ run. run.waiting.items ≡ []) }
         ensures room { IfOk result (λ run. length run.piece.items ≡ largest_read) }
     {
         Ok(Run {
-            oneline,
+            format,
             waiting: Vec::new(alloc),
             piece: vec![in alloc; 0u8; LARGEST_READ]?,
         })
@@ -126,13 +127,13 @@ impl Run {
     ) -> Result<Option<u8>, Stop>
         requires room { length self.old.piece.items ≡ largest_read }
         requires pending { IsPending self.old.waiting.items }
-        ensures turn { Turns (replies.session self.old.oneline)
+        ensures turn { Turns (replies.session self.old.format)
             (run_state session.old.folder self.old.waiting.items
             (bytes_left R.remaining reader.old) (bytes_written W.contents writer.old))
             (run_state session.new.folder self.new.waiting.items
             (bytes_left R.remaining reader.new) (bytes_written W.contents writer.new))
             result }
-        ensures oneline { self.new.oneline ≡ self.old.oneline }
+        ensures format { self.new.format ≡ self.old.format }
         ensures room { length self.new.piece.items ≡ largest_read }
         ensures turns { turns_of reader.new ≡ count_after (turns_of reader.old) 1 }
         ensures asked { largest_ask reader.new ≡ max (largest_ask reader.old) largest_read }
@@ -150,7 +151,7 @@ impl Run {
             return Ok(Some(2));
         }
         self.waiting.extend_from_slice(&self.piece[..count])?;
-        match answer_all(session, &self.waiting, writer, self.oneline)? {
+        match answer_all(session, &self.waiting, writer, self.format)? {
             Progress::Bad => Ok(Some(2)),
             Progress::Waits(done) => {
                 self.waiting.drain(..done);
@@ -166,13 +167,13 @@ fn answer_all<W: Write>(
     session: &mut Session<Actions>,
     waiting: &[u8],
     writer: &mut Output<W>,
-    oneline: bool,
+    format: Format,
 ) -> Result<Progress, Stop>
     ensures ok { IfOk result
         (λ progress. Progresses
-        (replies.session oneline) session.old.folder session.new.folder waiting.now progress
+        (replies.session format) session.old.folder session.new.folder waiting.now progress
         (bytes_written W.contents writer.old) (bytes_written W.contents writer.new)) }
-    ensures err { OnErr result (IsStuck (replies.session oneline) session.old.folder waiting.now
+    ensures err { OnErr result (IsStuck (replies.session format) session.old.folder waiting.now
         (bytes_written W.contents writer.old) (bytes_written W.contents writer.new)) }
     ensures failures { CountsFailures result Stop.WriteFault
         (write_failures writer.old) (write_failures writer.new) }
@@ -182,7 +183,7 @@ fn answer_all<W: Write>(
     while done < waiting.len() {
         match next_command(&waiting[done..]) {
             NextCommand::Whole(command, count) => {
-                answer(session, command, writer, oneline)?;
+                answer(session, command, writer, format)?;
                 done += count;
             }
             NextCommand::Pending => return Ok(Progress::Waits(done)),
@@ -200,16 +201,16 @@ fn answer<W: Write>(
     session: &mut Session<Actions>,
     command: Command<'_>,
     writer: &mut Output<W>,
-    oneline: bool,
+    format: Format,
 ) -> Result<(), Stop>
     ensures after { OnOk result
         (session.new.folder ≡ replies.after_command session.old.folder (meaning command.entry)) }
     ensures ok { OnOk result
         (Writes W.contents writer.old writer.new
-        (replies.reply_to oneline session.old.folder (meaning command.entry))) }
+        (replies.reply_to format session.old.folder (meaning command.entry))) }
     ensures err { OnErr result
         (WritesPrefix W.contents writer.old writer.new
-        (replies.reply_to oneline session.old.folder (meaning command.entry))) }
+        (replies.reply_to format session.old.folder (meaning command.entry))) }
     ensures failures { CountsFailures result Stop.WriteFault
         (write_failures writer.old) (write_failures writer.new) }
     ensures only { IfErr result (λ e. (e ≡ WriteFault) ⊎ (e ≡ Memory)) }
@@ -220,7 +221,7 @@ fn answer<W: Write>(
         Command::Put(path, bytes) => reply_to_edit(writer, session.put(path, bytes)),
         Command::Delete(path) => reply_to_edit(writer, session.delete(path)),
         Command::Report => {
-            session.report(writer, oneline)?;
+            session.report(writer, format)?;
             let status = session.status()?;
             write_number(writer, b"status ", u64::from(status))
         }

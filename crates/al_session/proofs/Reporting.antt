@@ -6,6 +6,7 @@ use Rattle.std.specs.Global.{Global}
 use Rattle.std.specs.List.{enumerate_from, flat_map, list_any}
 use Rattle.std.proofs.lemmas.Bool.Decides.{nat_tests}
 use Rattle.al_text.specs.Snippets.{fault_text}
+use Rattle.al_text.specs.declared.printing.Format.{Format}
 use Rattle.al_lint.specs.Meaning.{Meaning}
 use Rattle.al_session_folder.specs.Folder.{Folder, faults_in}
 use Rattle.al_session_folder.specs.Kept.{Files, folder_of}
@@ -18,16 +19,16 @@ use Rattle.al_session.specs.Private.Printing.{numbered_lines}
 
 -- ---- the report
 
-lines_from : {U I : Type 0} (m : Meaning I) (f : Folder) (oneline : Bool) (n : ℕ) (es : Files U I) →
-    flat_map (numbered_lines oneline m f) (enumerate_from n es)
-    ≡ flat_map (λ x. flat_map (fault_text oneline x.1.0 x.1.1) (report_faults m f x.0 x.1.0 x.1.1)) (enumerate_from n (folder_of es))
-lines_from m f oneline n [] = refl
-lines_from m f oneline n (e ∷ es) = rw (lines_from m f oneline (n + 1) es)
+lines_from : {U I : Type 0} (m : Meaning I) (f : Folder) (format : Format) (n : ℕ) (es : Files U I) →
+    flat_map (numbered_lines format m f) (enumerate_from n es)
+    ≡ flat_map (λ x. flat_map (fault_text format x.1.0 x.1.1) (report_faults m f x.0 x.1.0 x.1.1)) (enumerate_from n (folder_of es))
+lines_from m f format n [] = refl
+lines_from m f format n (e ∷ es) = rw (lines_from m f format (n + 1) es)
 
-pub report_is : {U I : Type 0} (m : Meaning I) (files : Files U I) (oneline : Bool) →
-    flat_map (numbered_lines oneline m (folder_of files)) (enumerate_from 0 files) ≡ report_of oneline m (folder_of files)
+pub report_is : {U I : Type 0} (m : Meaning I) (files : Files U I) (format : Format) →
+    flat_map (numbered_lines format m (folder_of files)) (enumerate_from 0 files) ≡ report_of format m (folder_of files)
 unfolding report_of
-report_is m files oneline = lines_from m (folder_of files) oneline 0 files
+report_is m files format = lines_from m (folder_of files) format 0 files
 
 -- ---- the status
 

@@ -10,7 +10,7 @@ ghost use Rattle.al_session.specs.Private.Printing.{lines_of, numbered_lines};
 use al_base::{Fault, Location, Output, Stop};
 use al_lint::Lint;
 use al_session_folder::{Files, KeptFile, file_number};
-use al_text::{write_fault_at, write_faults};
+use al_text::{Format, write_fault_at, write_faults};
 use std::io::Write;
 
 /// Whether any file has a fault of its own, not of a call cycle. Doesn't allocate.
@@ -20,9 +20,8 @@ pub fn has_faults<U, I>(files: &Files<U, I>) -> bool
     files.iter().any(|(_, file)| !file.faults.is_empty())
 }
 
-/// Writes the faults that a report lists, file by file in order of path: each as its line, followed
-/// by its snippet unless `oneline` is set. The lists are those of
-/// [`join_files`](al_session_folder::join_files). Doesn't allocate.
+/// Writes the faults that a report lists, file by file in order of path, each in this format. The
+/// lists are those of [`join_files`](al_session_folder::join_files). Doesn't allocate.
 ///
 /// # Errors
 ///
@@ -32,12 +31,12 @@ pub fn write_files<L: Lint, W: Write>(
     writer: &mut Output<W>,
     files: &Files<L::Unit, L::Iface>,
     joined: &[Vec<&Fault>],
-    oneline: bool,
+    format: Format,
 ) -> Result<(), Stop>
     requires listed { AreListed L.meaning files.now.entries joined.now }
     requires printable { ArePrintable L.meaning files.now.entries }
     ensures { WritesOrFails W.contents writer.old writer.new result
-        (flat_map (numbered_lines oneline L.meaning (folder_of files.now.entries))
+        (flat_map (numbered_lines format L.meaning (folder_of files.now.entries))
         (enumerate_from 0 files.now.entries)) }
 {
     for index in 0..files.len() {
@@ -45,20 +44,19 @@ pub fn write_files<L: Lint, W: Write>(
         let listing = Listing {
             path: path.as_str(),
             file,
-            oneline,
+            format,
         };
         write_file(writer, &listing, &joined[index])?;
     }
     Ok(())
 }
 
-// A file whose faults are listed, each as its line, followed by its snippet unless `oneline` is
-// set.
+// A file whose faults are listed, and the format of each.
 #[derive(Drop)]
 struct Listing<'a, U, I> {
     path: &'a str,
     file: &'a KeptFile<U, I>,
-    oneline: bool,
+    format: Format,
 }
 
 // Writes the listed faults of one file: the joined ones, or its own if there are none.
@@ -69,7 +67,7 @@ fn write_file<U, I, W: Write>(
 ) -> Result<(), Stop>
     requires { IsPrintable listing.now.file.now (joined_or_own listing.now.file.now joined.now) }
     ensures { WritesOrFails W.contents writer.old writer.new result
-        (lines_of listing.now.oneline listing.now.path.now listing.now.file.now
+        (lines_of listing.now.format listing.now.path.now listing.now.file.now
         (joined_or_own listing.now.file.now joined.now)) }
 {
     if !joined.is_empty() {
@@ -82,7 +80,7 @@ fn write_file<U, I, W: Write>(
         listing.path,
         &file.bytes,
         &file.faults,
-        listing.oneline,
+        listing.format,
     )
 }
 
@@ -94,7 +92,7 @@ fn write_referred<U, I, W: Write>(
 ) -> Result<(), Stop>
     requires { IsPrintable listing.now.file.now (referents faults.now) }
     ensures { WritesOrFails W.contents writer.old writer.new result
-        (lines_of listing.now.oneline listing.now.path.now listing.now.file.now
+        (lines_of listing.now.format listing.now.path.now listing.now.file.now
         (referents faults.now)) }
 {
     let bytes = listing.file.bytes.as_slice();
@@ -116,7 +114,7 @@ fn write_referred<U, I, W: Write>(
             bytes,
             *fault,
             location,
-            listing.oneline,
+            listing.format,
         )?;
     }
     Ok(())

@@ -33,6 +33,7 @@ use al_session_folder::{
     CallGraph, Lint, Paths, Refused, Seed, find_call_cycle_faults, has_call_cycles, join_files,
     missing_paths,
 };
+use al_text::Format;
 use std::alloc::{AllocError, Global};
 use std::io::Write;
 use std::marker::Model;
@@ -248,23 +249,22 @@ impl<L: Lint> Session<L> {
     }
 
     /// Writes the faults of all files, including those of calls on a call cycle, file by file in
-    /// order of path. Each fault is written as a line, followed by the source line at which it
-    /// starts, with marks under its span, unless `oneline` is set. The graph of calls is computed
-    /// if it isn't known, and kept for the next report. The folder and both counts are unchanged.
+    /// order of path, each in this format. The graph of calls is computed if it isn't known, and
+    /// kept for the next report. The folder and both counts are unchanged.
     ///
     /// # Errors
     ///
     /// [`Stop::WriteFault`] if the writer fails; it then holds a prefix of the report.
     /// [`Stop::Memory`] if memory runs out, which happens only before the first byte. No other stop
     /// is returned.
-    pub fn report<W: Write>(&mut self, writer: &mut Output<W>, oneline: bool) -> Result<(), Stop>
+    pub fn report<W: Write>(&mut self, writer: &mut Output<W>, format: Format) -> Result<(), Stop>
         ensures all { OnOk result
             (Appends (bytes_written W.contents writer.old) (bytes_written W.contents writer.new)
-            (report_of oneline L.meaning self.old.folder)) }
+            (report_of format L.meaning self.old.folder)) }
         ensures prefix { OnErr result
             (AppendsPrefix (bytes_written W.contents writer.old)
             (bytes_written W.contents writer.new)
-            (report_of oneline L.meaning self.old.folder)) }
+            (report_of format L.meaning self.old.folder)) }
         ensures memory { result ≡ Err Stop.Memory
             → Keeps (bytes_written W.contents writer.old) (bytes_written W.contents writer.new) }
         ensures failures { result ≢ Err Stop.WriteFault
@@ -278,7 +278,7 @@ impl<L: Lint> Session<L> {
         let linked = linked_files::<L>(&self.kept.files, &self.calls);
         let call_cycle_faults = find_call_cycle_faults(&self.lint, &linked)?;
         let joined = join_files::<L>(&self.kept.files, &call_cycle_faults)?;
-        write_files::<L, W>(writer, &self.kept.files, &joined, oneline)
+        write_files::<L, W>(writer, &self.kept.files, &joined, format)
     }
 
     /// The path of the file with this number, from 0, in order of path; `None` if there are fewer

@@ -4,7 +4,7 @@ use crate::files::{ACTION, CALLER, action, caller, missing_input};
 use al_check::Actions;
 use al_cli::write_report;
 use al_session::{Change, Seed, Session, SessionBuilder, Target, apply_change, apply_changes};
-use al_text::{Output, Stop};
+use al_text::{Format, Output, Stop};
 use std::alloc::{AllocError, Global};
 
 fn put(
@@ -23,7 +23,7 @@ fn put_both(alloc: Global, builder: &mut SessionBuilder<Actions>) -> Result<bool
 
 fn reports(alloc: Global, session: &mut Session<Actions>, wanted: &[u8]) -> Result<bool, Stop> {
     let mut output = Vec::new(alloc);
-    let status = write_report(session, &mut Output::new(&mut output), true)?;
+    let status = write_report(session, &mut Output::new(&mut output), Format::Oneline)?;
     Ok(status == 1 && output.as_slice() == wanted)
 }
 

@@ -2,7 +2,7 @@
 
 use al_check::Actions;
 use al_session::{Refused, Session};
-use al_text::{Output, Stop};
+use al_text::{Format, Output, Stop};
 use std::alloc::Global;
 
 /// Puts a file into a folder, and gives the report on the folder, or why the file was refused.
@@ -16,7 +16,7 @@ fn report_with(
         return Ok(Err(refused));
     }
     let mut text = Vec::new(alloc);
-    session.report(&mut Output::new(&mut text), true)?;
+    session.report(&mut Output::new(&mut text), Format::Oneline)?;
     Ok(Ok(text))
 }
 

@@ -1,7 +1,7 @@
 //! The example of `al_cli`: a script over a session.
 
 use al_cli::run_session;
-use al_text::{Input, Output, Stop};
+use al_text::{Format, Input, Output, Stop};
 use std::alloc::Global;
 
 /// The replies to a script that is in memory, such as `report` after a `put`.
@@ -11,7 +11,7 @@ fn replies(alloc: Global, script: &[u8]) -> Result<Vec<u8>, Stop> {
         alloc,
         &mut Input::new(script),
         &mut Output::new(&mut text),
-        true,
+        Format::Oneline,
     )?;
     Ok(text)
 }

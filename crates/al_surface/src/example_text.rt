@@ -1,22 +1,22 @@
-//! The example of `al_text`: printing a fault in each form.
+//! The example of `al_text`: printing a fault in each format.
 
 use al_text::limits::LARGEST_FILE;
-use al_text::{Fault, Output, Stop, write_fault};
+use al_text::{Fault, Format, Output, Stop, write_fault};
 use std::alloc::Global;
 
-/// A fault as a report prints it, with its line or without; `None` if it isn't in the file.
+/// A fault as a report prints it in this format; `None` if it isn't in the file.
 fn printed(
     alloc: Global,
     file: &[u8],
     fault: &Fault,
-    oneline: bool,
+    format: Format,
 ) -> Result<Option<Vec<u8>>, Stop> {
     let span = fault.span;
     if file.len() > LARGEST_FILE || span.start > span.end || span.end as usize > file.len() {
         return Ok(None);
     }
     let mut text = Vec::new(alloc);
-    write_fault(&mut Output::new(&mut text), "a.yml", file, fault, oneline)?;
+    write_fault(&mut Output::new(&mut text), "a.yml", file, fault, format)?;
     Ok(Some(text))
 }
 
@@ -33,9 +33,9 @@ fn unexpected(alloc: Global) -> Result<Fault, AllocError> {
     })
 }
 
-fn prints(alloc: Global, file: &[u8], oneline: bool, wanted: &[u8]) -> Result<bool, Stop> {
+fn prints(alloc: Global, file: &[u8], format: Format, wanted: &[u8]) -> Result<bool, Stop> {
     let fault = unexpected(alloc)?;
-    Ok(match printed(alloc, file, &fault, oneline)? {
+    Ok(match printed(alloc, file, &fault, format)? {
         Some(text) => text.as_slice() == wanted,
         None => false,
     })
@@ -43,19 +43,19 @@ fn prints(alloc: Global, file: &[u8], oneline: bool, wanted: &[u8]) -> Result<bo
 
 fn is_none(alloc: Global, file: &[u8]) -> Result<bool, Stop> {
     let fault = unexpected(alloc)?;
-    Ok(printed(alloc, file, &fault, true)?.is_none())
+    Ok(printed(alloc, file, &fault, Format::Oneline)?.is_none())
 }
 
 #[test]
 fn a_fault_in_one_line(rt: HostRuntime) {
     let wanted = b"a.yml:2:1: unexpected key \"jops\" [syntax-check]\n";
-    assert!(rt; prints(rt.alloc(), b"on: a\njops:\n", true, wanted) == Ok(true));
+    assert!(rt; prints(rt.alloc(), b"on: a\njops:\n", Format::Oneline, wanted) == Ok(true));
 }
 
 #[test]
 fn a_fault_with_its_line(rt: HostRuntime) {
     let wanted = b"a.yml:2:1: unexpected key \"jops\" [syntax-check]\n  |\n2 | jops:\n  | ^~~~\n";
-    assert!(rt; prints(rt.alloc(), b"on: a\njops:\n", false, wanted) == Ok(true));
+    assert!(rt; prints(rt.alloc(), b"on: a\njops:\n", Format::Snippet, wanted) == Ok(true));
 }
 
 #[test]

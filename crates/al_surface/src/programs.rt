@@ -7,7 +7,7 @@ use al_cli::{
     Words, gather, lint_all, load, number_of, parse_words, run, run_commands, run_session, say_why,
 };
 use al_session::{Refused, Session};
-use al_text::{Input, Output, Path, Stop, path_fault};
+use al_text::{Format, Input, Output, Path, Stop, path_fault};
 use al_tree::is_action;
 use std::alloc::Global;
 use std::fs;
@@ -63,7 +63,7 @@ fn answers(alloc: Global, script: &[u8], wanted: &[u8]) -> Result<bool, Stop> {
         alloc,
         &mut Input::new(script),
         &mut Output::new(&mut output),
-        true,
+        Format::Oneline,
     )?;
     Ok(status == 1 && output.as_slice() == wanted)
 }
@@ -84,7 +84,7 @@ fn run_over(
         session,
         &mut Input::new(script),
         &mut Output::new(output),
-        true,
+        Format::Oneline,
     )
 }
 
@@ -117,7 +117,7 @@ fn refused() -> &'static [(&'static str, &'static [u8])] {
 
 fn is_refused(alloc: Global, files: &[(&str, &[u8])]) -> bool {
     let mut output = Vec::new(alloc);
-    let answer = lint_all(alloc, files, &mut Output::new(&mut output), true);
+    let answer = lint_all(alloc, files, &mut Output::new(&mut output), Format::Oneline);
     answer == Err(Fatal::Refused(1, Refused::NotAccepted)) && output.is_empty()
 }
 
@@ -146,7 +146,12 @@ fn report(alloc: Global, files: &[(Path, Vec<u8>)]) -> Result<(u8, Vec<u8>), Fat
         }
     }
     let mut output = Vec::new(alloc);
-    let status = lint_all(alloc, &listed, &mut Output::new(&mut output), true)?;
+    let status = lint_all(
+        alloc,
+        &listed,
+        &mut Output::new(&mut output),
+        Format::Oneline,
+    )?;
     Ok((status, output))
 }
 

@@ -3,7 +3,7 @@
 use crate::files::{ACTION, CALLER, LOOP, action, caller, calls_itself, missing_input};
 use al_check::Actions;
 use al_session::{Edit, Paths, Refused, Session};
-use al_text::{CallCode, Caller, Code, Fault, Output, Path, Stop};
+use al_text::{CallCode, Caller, Code, Fault, Format, Output, Path, Stop};
 use std::alloc::{AllocError, Global};
 
 fn are_paths(paths: &[Path], wanted: &[&str]) -> bool {
@@ -37,7 +37,7 @@ fn misses(session: &Session<Actions>, wanted: &[&str]) -> Result<bool, AllocErro
 
 fn reports(alloc: Global, session: &mut Session<Actions>, wanted: &[u8]) -> Result<bool, Stop> {
     let mut bytes = Vec::new(alloc);
-    session.report(&mut Output::new(&mut bytes), true)?;
+    session.report(&mut Output::new(&mut bytes), Format::Oneline)?;
     let status: u8 = session.status()?;
     Ok(bytes.as_slice() == wanted && (status == 1) == !wanted.is_empty())
 }

@@ -4,7 +4,7 @@ ghost use Rattle.std.specs.Prelude.{◌≡◌, ◌≤◌, length, true};
 
 use al_text::limits::LARGEST_FILE;
 use al_text::{
-    Args, CallCode, Caller, Code, ExpressionCode, Fault, Input, KeyCode, Lines, Output, Path,
+    Args, CallCode, Caller, Code, ExpressionCode, Fault, Format, Input, KeyCode, Lines, Output, Path,
     PathFault, RuleCode, Span, Stop, WriteFault, YamlCode, kind, location_of, path_fault, position,
     write_fault_at, write_faults,
 };
@@ -157,7 +157,7 @@ fn is_printed(alloc: Global, bytes: &[u8], fault: &Fault, wanted: &[u8]) -> bool
     let start = location_of(bytes, fault.span.start);
     let mut text = Vec::new(alloc);
     let writer = &mut Output::new(&mut text);
-    let result = write_fault_at(writer, PATH, bytes, fault, start, false);
+    let result = write_fault_at(writer, PATH, bytes, fault, start, Format::Snippet);
     result.is_ok() && text.as_slice() == wanted
 }
 
@@ -174,7 +174,7 @@ fn is_printed_by_lines(
     let lines = Lines::of(alloc, bytes)?;
     let mut text = Vec::new(alloc);
     let writer = &mut Output::new(&mut text);
-    let result = lines.write_fault(writer, PATH, bytes, fault, false);
+    let result = lines.write_fault(writer, PATH, bytes, fault, Format::Snippet);
     Ok(result.is_ok() && text.as_slice() == wanted)
 }
 
@@ -202,7 +202,7 @@ fn are_printed(
     let lines = Lines::of(alloc, bytes)?;
     let mut text = Vec::new(alloc);
     let writer = &mut Output::new(&mut text);
-    let result = write_faults(writer, &lines, PATH, bytes, &[fault], false);
+    let result = write_faults(writer, &lines, PATH, bytes, &[fault], Format::Snippet);
     Ok(result.is_ok() && text.as_slice() == wanted)
 }
 

@@ -3,6 +3,7 @@
 use crate::fakes::{FailsOnce, Pieces};
 use al_base::{Input, Output, Stop};
 use al_cli_scripts::run_session;
+use al_text::Format;
 use std::alloc::Global;
 use std::io::{Read, Write};
 
@@ -21,7 +22,7 @@ fn run<R: Read, W: Write>(
     reader: &mut Input<R>,
     writer: &mut Output<W>,
 ) -> Result<u8, Stop> {
-    run_session(alloc, reader, writer, true)
+    run_session(alloc, reader, writer, Format::Oneline)
 }
 
 fn is_front(output: &[u8]) -> bool {

@@ -2,6 +2,7 @@
 
 use al_base::Output;
 use al_cli::lint_all;
+use al_text::Format;
 use std::alloc::Global;
 
 /// The path and the bytes of a file.
@@ -214,7 +215,12 @@ fn rows() -> &'static [Row] {
 // empty.
 fn is_reported(alloc: Global, files: &[File], report: &[u8]) -> bool {
     let mut written = Vec::new(alloc);
-    let status = lint_all(alloc, files, &mut Output::new(&mut written), true);
+    let status = lint_all(
+        alloc,
+        files,
+        &mut Output::new(&mut written),
+        Format::Oneline,
+    );
     let wanted = if report.is_empty() { 0 } else { 1 };
     matches!(status, Ok(given) if given == wanted) && written.as_slice() == report
 }

@@ -4,6 +4,7 @@ use al_base::{Output, Stop};
 use al_check::Actions;
 use al_cli::{Fatal, lint_all};
 use al_session::{Change, Refused, Session, apply_change};
+use al_text::Format;
 use std::alloc::{AllocError, Global};
 
 // In order of path.
@@ -81,7 +82,7 @@ fn is_made(
 
 fn report(alloc: Global, session: &mut Session<Actions>) -> Result<(u8, Vec<u8>), Stop> {
     let mut bytes = Vec::new(alloc);
-    session.report(&mut Output::new(&mut bytes), false)?;
+    session.report(&mut Output::new(&mut bytes), Format::Snippet)?;
     Ok((session.status()?, bytes))
 }
 
@@ -101,7 +102,7 @@ fn listed(
 
 fn from_nothing(alloc: Global, files: &[(&str, &[u8])]) -> Result<(u8, Vec<u8>), Fatal> {
     let mut bytes = Vec::new(alloc);
-    let status = lint_all(alloc, files, &mut Output::new(&mut bytes), false)?;
+    let status = lint_all(alloc, files, &mut Output::new(&mut bytes), Format::Snippet)?;
     Ok((status, bytes))
 }
 

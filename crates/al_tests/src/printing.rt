@@ -1,7 +1,7 @@
 //! A printed fault whose arguments have control bytes.
 
 use al_base::{Args, Code, Fault, KeyCode, Output, Span, Stop};
-use al_text::write_fault;
+use al_text::{Format, write_fault};
 use std::alloc::{AllocError, Global};
 
 fn args_of(alloc: Global, text: &str) -> Result<Args, AllocError> {
@@ -20,7 +20,7 @@ fn printed(alloc: Global, args: Args) -> Result<Vec<u8>, Stop> {
         "x.yml",
         b"a\r\nb",
         &fault,
-        true,
+        Format::Oneline,
     )?;
     Ok(output)
 }

@@ -1,8 +1,9 @@
 //! Worked snippets, computed by the definitions.
-ghost use Rattle.std.specs.Prelude.{◌≡◌, ◌+◌, ◌++◌, ℕ, List, [], ◌∷◌, false, true, length, codes};
+ghost use Rattle.std.specs.Prelude.{◌≡◌, ◌+◌, ◌++◌, ℕ, List, [], ◌∷◌, length, codes};
 ghost use Rattle.al_base.specs.Rows.Words.{at, span_of};
 ghost use Rattle.al_base.specs.Positions.{line_at, column_at};
 ghost use Rattle.al_text.specs.Snippets.{snippet, fault_text, chars_before};
+ghost use Rattle.al_text.specs.declared.printing.Format.TheVariants.{Oneline, Snippet};
 ghost use Rattle.al_base.specs.declared.codes.Code.TheVariants as code;
 ghost use Rattle.al_base.specs.declared.codes.KeyCode.TheVariants.{EmptyFile};
 ghost use Rattle.al_base.specs.declared.codes.ExpressionCode.TheVariants.{UndefinedProperty};
@@ -11,12 +12,12 @@ ghost use Rattle.al_base.specs.declared.codes.ExpressionCode.TheVariants.{Undefi
 /// prints. Does nothing at run time.
 pub fn snippet_rows()
     // an empty file: its line is empty
-    ensures empty { fault_text false (codes "a.yml") [] (at 0 0 (code.Key EmptyFile) [])
+    ensures empty { fault_text Snippet (codes "a.yml") [] (at 0 0 (code.Key EmptyFile) [])
         ≡ codes "a.yml:1:1: file is empty [syntax-check]\n  |\n1 | \n  | ^\n" }
-    ensures oneline { fault_text true (codes "a.yml") [] (at 0 0 (code.Key EmptyFile) [])
+    ensures oneline { fault_text Oneline (codes "a.yml") [] (at 0 0 (code.Key EmptyFile) [])
         ≡ codes "a.yml:1:1: file is empty [syntax-check]\n" }
     // a span of four characters on the last line
-    ensures property { fault_text false (codes "a.yml")
+    ensures property { fault_text Snippet (codes "a.yml")
         (codes "on: push\njobs:\n  a:\n    runs-on: ubuntu-latest\n    steps:\n      - run: echo ${{ github.reff }}\n")
         (at 87 91 (code.Expression UndefinedProperty) (codes "reff" ∷ []))
         ≡ codes "a.yml:6:30: property \"reff\" is not defined [expression]\n  |\n"

@@ -10,26 +10,26 @@
 //!
 //! # Examples
 //!
-//! Printing a fault in each form:
+//! Printing a fault in each format:
 //!
 //! ```rust
 //! use al_text::limits::LARGEST_FILE;
-//! use al_text::{Fault, Output, Stop, write_fault};
+//! use al_text::{Fault, Format, Output, Stop, write_fault};
 //! use std::alloc::Global;
 //!
-//! /// A fault as a report prints it, with its line or without; `None` if it isn't in the file.
+//! /// A fault as a report prints it in this format; `None` if it isn't in the file.
 //! fn printed(
 //!     alloc: Global,
 //!     file: &[u8],
 //!     fault: &Fault,
-//!     oneline: bool,
+//!     format: Format,
 //! ) -> Result<Option<Vec<u8>>, Stop> {
 //!     let span = fault.span;
 //!     if file.len() > LARGEST_FILE || span.start > span.end || span.end as usize > file.len() {
 //!         return Ok(None);
 //!     }
 //!     let mut text = Vec::new(alloc);
-//!     write_fault(&mut Output::new(&mut text), "a.yml", file, fault, oneline)?;
+//!     write_fault(&mut Output::new(&mut text), "a.yml", file, fault, format)?;
 //!     Ok(Some(text))
 //! }
 //! ```
@@ -49,5 +49,5 @@ pub use al_base::{
     path_fault, position, printable, rows,
 };
 pub use examples::snippet_rows;
-pub use printing::{WriteFault, write_fault, write_fault_at, write_faults};
+pub use printing::{Format, WriteFault, write_fault, write_fault_at, write_faults};
 pub use wordings::kind;

@@ -3,6 +3,7 @@
 use crate::linter::Toy;
 use al_base::{Output, Path, Stop};
 use al_session::{Change, Refused, Session, apply_change, apply_changes};
+use al_text::Format;
 use std::alloc::{AllocError, Global};
 
 // An edit, the files it rechecks, and the report afterwards.
@@ -18,7 +19,7 @@ fn open(alloc: Global) -> Session<Toy> {
 
 fn report(alloc: Global, session: &mut Session<Toy>) -> Result<Vec<u8>, Stop> {
     let mut bytes = Vec::new(alloc);
-    session.report(&mut Output::new(&mut bytes), true)?;
+    session.report(&mut Output::new(&mut bytes), Format::Oneline)?;
     Ok(bytes)
 }
 

@@ -1,10 +1,11 @@
 -- What the steps of a run leave that decide how it ends.
-use Rattle.std.specs.Prelude.{◌≡◌, ℕ, Bool, List, Option}
+use Rattle.std.specs.Prelude.{◌≡◌, ℕ, List, Option}
 use Rattle.std.specs.Io.KnownBytes.{Appends, Keeps}
 use Rattle.al_base.specs.Counted.{HasRisen}
 use Rattle.al_base.specs.Streams.{bytes_written, write_failures}
 use Rattle.al_base.specs.declared.stops.Stop.TheVariants.{WriteFault}
 use Rattle.al_base.specs.declared.streams.Output.{Output}
+use Rattle.al_text.specs.declared.printing.Format.{Format}
 use Rattle.al_session.specs.Folder.{Folder}
 use Rattle.al_session.specs.Report.{report_of, status_of}
 use Rattle.al_check.specs.Linting.{linting}
@@ -24,11 +25,11 @@ FlushEnds contents wrote now status (ending.NoRun said) = ⊥
 FlushEnds contents wrote now status ending.NotText = ⊥
 
 -- the report of this folder was written, or stopped
-abbrev pub ReportEnds : Bool → Folder → Option (List ℕ) → Option (List ℕ) → Ending → Type 0
-ReportEnds oneline folder wrote now (ending.Reported status) =
-    (status ≡ status_of linting folder) × Appends wrote now (report_of oneline linting folder)
-ReportEnds oneline folder wrote now (ending.Stopped stop) = ReportStops oneline folder wrote now stop
-ReportEnds oneline folder wrote now (ending.Answered status) = ⊥
-ReportEnds oneline folder wrote now (ending.Unread why) = ⊥
-ReportEnds oneline folder wrote now (ending.NoRun said) = ⊥
-ReportEnds oneline folder wrote now ending.NotText = ⊥
+abbrev pub ReportEnds : Format → Folder → Option (List ℕ) → Option (List ℕ) → Ending → Type 0
+ReportEnds format folder wrote now (ending.Reported status) =
+    (status ≡ status_of linting folder) × Appends wrote now (report_of format linting folder)
+ReportEnds format folder wrote now (ending.Stopped stop) = ReportStops format folder wrote now stop
+ReportEnds format folder wrote now (ending.Answered status) = ⊥
+ReportEnds format folder wrote now (ending.Unread why) = ⊥
+ReportEnds format folder wrote now (ending.NoRun said) = ⊥
+ReportEnds format folder wrote now ending.NotText = ⊥

@@ -7,7 +7,7 @@ pub returns-in-Ok : goal.returns-in-Ok
 returns-in-Ok g c =
     folder_reported c.args.words.now (g.D.Disk.holds c.args.disk.now) c.in-Ok.gathered.files.folder
     (bytes_written g.W.Write.contents c.args.writer.now) (bytes_written g.W.Write.contents c.report_gathered.new.writer) c.report_gathered.result
-    c.in-Ok.ensures.gathered c.report_gathered.ensures
+    c.in-Ok.ensures.gathered (rw c.format_in.ensures at c.report_gathered.ensures)
 
 pub returns-in-Err : goal.returns-in-Err
 returns-in-Err g c = Keeps-refl (bytes_written g.W.Write.contents c.args.writer.now)

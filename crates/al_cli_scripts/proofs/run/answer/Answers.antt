@@ -30,14 +30,14 @@ pub returns-in_err-status-in-Report-clause-err : goal.returns-in_err-status-in-R
 returns-in_err-status-in-Report-clause-err g c =
     let folder = c.args.session.now.folder in
     let p = err_from_is_err_and c.from_residual-in_err-status-in-Report.result c.from_residual-in_err-status-in-Report.ensures.1 in
-    rw (p.1, c.in-Report.is) (AppendsPrefix-wider _ _ (report_of c.args.oneline linting folder) (status_line (status_of linting folder))
-    (AppendsPrefix-all _ _ (report_of c.args.oneline linting folder) c.in_ok-report-in-Report.ensures.all))
+    rw (p.1, c.in-Report.is) (AppendsPrefix-wider _ _ (report_of c.args.format linting folder) (status_line (status_of linting folder))
+    (AppendsPrefix-all _ _ (report_of c.args.format linting folder) c.in_ok-report-in-Report.ensures.all))
 
 pub returns-in_ok-status-in-Report-clause-err : goal.returns-in_ok-status-in-Report-clause-err
 returns-in_ok-status-in-Report-clause-err g c =
     let folder = c.args.session.now.folder in
     rw c.in-Report.is (on_err_weaker c.write_number.result
-    (λ w. AppendsPrefix-after _ _ _ (report_of c.args.oneline linting folder) (status_line (status_of linting folder)) c.in_ok-report-in-Report.ensures.all
+    (λ w. AppendsPrefix-after _ _ _ (report_of c.args.format linting folder) (status_line (status_of linting folder)) c.in_ok-report-in-Report.ensures.all
     (status_front _ _ c.from.result (status_of linting folder) (c.from.ensures ∙ c.in_ok-status-in-Report.ensures.status
     ∙ ap (λ (s : SessionState). status_of linting s.folder) c.report.ensures.unchanged) w))
     c.write_number.ensures.prefix)

@@ -6,7 +6,7 @@ use Rattle.al_cli_scripts.proofs.run.answer_all.Given as goal
 abbrev pub invariant-loop-done : goal.invariant-loop-done
 invariant-loop-done g l = record {
   within : l.done ≤ length l.waiting;
-  served : Answering (session l.oneline) l.fn.session.folder l.session.folder l.waiting l.done (g.W.Write.contents l.fn.writer.inner) (g.W.Write.contents l.writer.inner);
+  served : Answering (session l.format) l.fn.session.folder l.session.folder l.waiting l.done (g.W.Write.contents l.fn.writer.inner) (g.W.Write.contents l.writer.inner);
   unfailed : l.writer.failures ≡ l.fn.writer.failures;
 }
 

@@ -12,10 +12,10 @@ use Rattle.al_cli_scripts.proofs.run.run_commands.Goals as goal
 pub loop-turn-init : goal.loop-turn-init
 loop-turn-init g c = record {
   room = c.in_ok-run.ensures.room;
-  kind = c.in_ok-run.ensures.oneline;
+  kind = c.in_ok-run.ensures.format;
   asked = refl;
   asks = λ h. absurd (omega (arith, h));
-  paused = ([], omega arith, rw c.in_ok-run.ensures.waiting (Paused-none (session c.args.oneline) c.args.session.now.folder _ _));
+  paused = ([], omega arith, rw c.in_ok-run.ensures.waiting (Paused-none (session c.args.format) c.args.session.now.folder _ _));
   turns = search (rules, common_steps);
   reads_well = refl;
   writes_well = refl;
@@ -24,13 +24,13 @@ loop-turn-init g c = record {
 pub loop-turn-preserved : goal.loop-turn-preserved
 loop-turn-preserved g c =
     let s = c.loop-turn.invariant.paused in
-    let t : GoesOn (session c.args.oneline) _ _ = rw (c.in-None.is, c.loop-turn.invariant.kind) at c.in_ok-answer.ensures.turn in
+    let t : GoesOn (session c.args.format) _ _ = rw (c.in-None.is, c.loop-turn.invariant.kind) at c.in_ok-answer.ensures.turn in
     record {
       room = c.take_turn.ensures.room;
       kind = search (rules, common_steps);
       asked = asked_again _ _ _ c.loop-turn.invariant.asked c.take_turn.ensures.asked;
       asks = λ h. c.take_turn.ensures.asked ∙ c.loop-turn.invariant.asked;
-      paused = (s.0 ++ t.read, omega (arith, length-append s.0 t.read, t.some), Paused-more (session c.args.oneline) _ _ s.2 t);
+      paused = (s.0 ++ t.read, omega (arith, length-append s.0 t.read, t.some), Paused-more (session c.args.format) _ _ s.2 t);
       turns = search (rules, common_steps);
       reads_well = c.in_ok-answer.ensures.read_failures.answered ∙ c.loop-turn.invariant.reads_well;
       writes_well = c.in_ok-answer.ensures.write_failures.answered ∙ c.loop-turn.invariant.writes_well;
@@ -41,7 +41,7 @@ returns-in_err-run-clause-runs g c =
     let p = err_from_is_err_and c.from_residual.result c.from_residual.ensures.1 in
     rw (p.1, p.2) (record {
       end = tt;
-      stop = turn_unwritten (session c.args.oneline) c.args.session.now.folder [] _ _ _ (Keeps-refl _);
+      stop = turn_unwritten (session c.args.format) c.args.session.now.folder [] _ _ _ (Keeps-refl _);
       last_read = tt;
       read_failures = record { answered = tt; stopped = λ h. absurd cc };
       write_failures = record { answered = tt; stopped = λ h. absurd cc };
@@ -58,12 +58,12 @@ returns-in_err-answer-clause-runs g c =
     let asked = c.take_turn.ensures.asked ∙ c.loop-turn.invariant.asked in
     rw (p.1, p.2) (record {
       end = tt;
-      stop = Stops-after (session c.args.oneline) _ _ s.2 _ (rw c.loop-turn.invariant.kind at c.in_err-answer.ensures.turn);
+      stop = Stops-after (session c.args.format) _ _ s.2 _ (rw c.loop-turn.invariant.kind at c.in_err-answer.ensures.turn);
       last_read = tt;
       read_failures = counted_stop _ _ _ ReadFault _ _ _ refl refl c.loop-turn.invariant.reads_well c.in_err-answer.ensures.read_failures;
       write_failures = counted_stop _ _ _ WriteFault _ _ _ refl refl c.loop-turn.invariant.writes_well c.in_err-answer.ensures.write_failures;
       reads = omega (arith, c.take_turn.ensures.turns, c.loop-turn.invariant.turns);
-      all_turns = λ h. absurd (not_too_many (session c.args.oneline) _ _ _ _ refl h (rw c.loop-turn.invariant.kind at c.in_err-answer.ensures.turn));
+      all_turns = λ h. absurd (not_too_many (session c.args.format) _ _ _ _ refl h (rw c.loop-turn.invariant.kind at c.in_err-answer.ensures.turn));
       asked = omega (arith, asked);
       asks = λ h. asked;
     })
@@ -74,9 +74,9 @@ returns-in-Some-clause-runs g c =
     let r = rw (c.in-Some.is, c.loop-turn.invariant.kind) at c.in_ok-answer.ensures.turn in
     let asked = c.take_turn.ensures.asked ∙ c.loop-turn.invariant.asked in
     record {
-      end = Runs-after (session c.args.oneline) s.2 _ _ r.0;
+      end = Runs-after (session c.args.format) s.2 _ _ r.0;
       stop = tt;
-      last_read = Last-after (session c.args.oneline) s.2 _ r.1;
+      last_read = Last-after (session c.args.format) s.2 _ r.1;
       read_failures = record { answered = c.in_ok-answer.ensures.read_failures.answered ∙ c.loop-turn.invariant.reads_well; stopped = λ h. absurd cc };
       write_failures = record { answered = c.in_ok-answer.ensures.write_failures.answered ∙ c.loop-turn.invariant.writes_well; stopped = λ h. absurd cc };
       reads = omega (arith, c.take_turn.ensures.turns, c.loop-turn.invariant.turns);
@@ -89,7 +89,7 @@ pub returns-in-Some-clause-folder : goal.returns-in-Some-clause-folder
 returns-in-Some-clause-folder g c =
     let s = c.loop-turn.invariant.paused in
     let r = rw (c.in-Some.is, c.loop-turn.invariant.kind) at c.in_ok-answer.ensures.turn in
-    Leaves-after (session c.args.oneline) s.2 _ r.2
+    Leaves-after (session c.args.format) s.2 _ r.2
 
 pub returns-clause-runs : goal.returns-clause-runs
 returns-clause-runs g c =

@@ -10,7 +10,7 @@ pub returns-clause-wrong : goal.returns-clause-wrong
 returns-clause-wrong c = λ bytes more w. (wrong_stays bytes more w, wrong_never bytes more w)
 
 pub returns-clause-one_output : goal.returns-clause-one_output
-returns-clause-one_output c = λ oneline script out out' answer answer' p q. one_output p q
+returns-clause-one_output c = λ format script out out' answer answer' p q. one_output p q
 
 pub returns-clause-some_output : goal.returns-clause-some_output
-returns-clause-some_output c = λ oneline script. some_output [] script
+returns-clause-some_output c = λ format script. some_output [] script

@@ -22,7 +22,7 @@ returns-in_err-write_file g c =
     let files = c.args.files.now.entries in
     let e : String Global × KeptFile _ _ = (c.file_number.result.0.now, c.file_number.result.1.now) in
     let is = c.requires.listed.each c.loop-index.index _ (omega (arith, c.len-index-end.ensures.len, c.loop-index-test.true)) c.index-joined-index.is e c.file_number.ensures in
-    fails_in_element _ _ _ _ (numbered_lines c.args.oneline g.L.Lint.meaning (folder_of files)) (enumerate_from 0 files) c.loop-index.index (c.loop-index.index, e)
+    fails_in_element _ _ _ _ (numbered_lines c.args.format g.L.Lint.meaning (folder_of files)) (enumerate_from 0 files) c.loop-index.index (c.loop-index.index, e)
     (omega (arith, length-enumerate_from 0 files, c.len-index-end.ensures.len, c.loop-index-test.true))
     (numbered_read files c.loop-index.index e c.file_number.ensures) c.loop-index.invariant.appended c.loop-index.invariant.unfailed
     _ _ c.from_residual.ensures.1 (rw (c.as_str.ensures.value, c.deref.ensures.value, is) at c.in_err-write_file.ensures)
@@ -33,7 +33,7 @@ loop-index-preserved g c =
     let e : String Global × KeptFile _ _ = (c.file_number.result.0.now, c.file_number.result.1.now) in
     let is = c.requires.listed.each c.loop-index.index _ (omega (arith, c.len-index-end.ensures.len, c.loop-index-test.true)) c.index-joined-index.is e c.file_number.ensures in
     record {
-      appended = Appends-next (numbered_lines c.args.oneline g.L.Lint.meaning (folder_of files)) (enumerate_from 0 files) c.loop-index.index (c.loop-index.index, e)
+      appended = Appends-next (numbered_lines c.args.format g.L.Lint.meaning (folder_of files)) (enumerate_from 0 files) c.loop-index.index (c.loop-index.index, e)
           (omega (arith, length-enumerate_from 0 files, c.len-index-end.ensures.len, c.loop-index-test.true))
           (numbered_read files c.loop-index.index e c.file_number.ensures) _ _ _ c.loop-index.invariant.appended
           (rw (c.as_str.ensures.value, c.deref.ensures.value, is) at c.in_ok-write_file.ensures.all);

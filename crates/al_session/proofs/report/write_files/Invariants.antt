@@ -9,6 +9,6 @@ use Rattle.al_session.proofs.report.write_files.Given as goal
 abbrev pub invariant-loop-index : goal.invariant-loop-index
 invariant-loop-index g l = record {
   appended : Appends (bytes_written g.W.Write.contents l.fn.writer) (bytes_written g.W.Write.contents l.writer)
-      (flat_map (numbered_lines l.oneline g.L.Lint.meaning (folder_of l.files.entries)) (take l.index (enumerate_from 0 l.files.entries)));
+      (flat_map (numbered_lines l.format g.L.Lint.meaning (folder_of l.files.entries)) (take l.index (enumerate_from 0 l.files.entries)));
   unfailed : write_failures l.writer ≡ write_failures l.fn.writer;
 }

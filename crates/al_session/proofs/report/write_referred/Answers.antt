@@ -24,14 +24,14 @@ write_fault_at-requires-clause-within g c =
 
 pub returns-in_err-write_fault_at : goal.returns-in_err-write_fault_at
 returns-in_err-write_fault_at g c =
-    let text = fault_text c.args.listing.now.oneline c.args.listing.now.path.now c.as_slice-bytes.result.now in
+    let text = fault_text c.args.listing.now.format c.args.listing.now.path.now c.as_slice-bytes.result.now in
     rw (← c.as_slice-bytes.ensures.value, flat_map-map text _ c.args.faults.now)
     (fails_in_element _ _ _ _ (λ r. text r.now) c.args.faults.now c.loop-fault.fault-index c.fault-item.result (omega (arith, c.loop-fault-test.true)) c.fault-item.is
     c.loop-fault.invariant.appended c.loop-fault.invariant.unfailed _ _ c.from_residual.ensures.1 c.in_err-write_fault_at.ensures)
 
 pub loop-fault-preserved : goal.loop-fault-preserved
 loop-fault-preserved g c = record {
-  appended = Appends-next (λ r. fault_text c.args.listing.now.oneline c.args.listing.now.path.now c.as_slice-bytes.result.now r.now) c.args.faults.now c.loop-fault.fault-index
+  appended = Appends-next (λ r. fault_text c.args.listing.now.format c.args.listing.now.path.now c.as_slice-bytes.result.now r.now) c.args.faults.now c.loop-fault.fault-index
       c.fault-item.result (omega (arith, c.loop-fault-test.true)) c.fault-item.is _ _ _ c.loop-fault.invariant.appended
       c.in_ok-write_fault_at.ensures.all;
   unfailed = c.in_ok-write_fault_at.ensures.failures ∙ c.loop-fault.invariant.unfailed;
@@ -43,5 +43,5 @@ loop-fault-preserved g c = record {
 pub returns : goal.returns
 returns g c =
     let whole = take_all c.loop-fault.fault-index c.args.faults.now (omega (arith, c.loop-fault-test.false)) in
-    let text = fault_text c.args.listing.now.oneline c.args.listing.now.path.now c.as_slice-bytes.result.now in
+    let text = fault_text c.args.listing.now.format c.args.listing.now.path.now c.as_slice-bytes.result.now in
     rw (← c.as_slice-bytes.ensures.value, flat_map-map text _ c.args.faults.now) (succeeds _ _ _ _ _ (rw whole at c.loop-fault.invariant.appended) c.loop-fault.invariant.unfailed)

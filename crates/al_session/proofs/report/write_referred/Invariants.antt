@@ -9,7 +9,7 @@ use Rattle.al_session.proofs.report.write_referred.Given as goal
 abbrev pub invariant-loop-fault : goal.invariant-loop-fault
 invariant-loop-fault g l = record {
   appended : Appends (bytes_written g.W.Write.contents l.fn.writer) (bytes_written g.W.Write.contents l.writer)
-      (flat_map (λ r. fault_text l.listing.oneline l.listing.path.now l.bytes r.now) (take l.fault-index l.faults));
+      (flat_map (λ r. fault_text l.listing.format l.listing.path.now l.bytes r.now) (take l.fault-index l.faults));
   unfailed : write_failures l.writer ≡ write_failures l.fn.writer;
   line : l.location.line ≡ line_at l.bytes l.at;
   column : l.location.column ≡ column_at l.bytes l.at;

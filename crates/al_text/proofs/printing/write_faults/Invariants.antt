@@ -9,7 +9,7 @@ use Rattle.al_text.proofs.printing.write_faults.Given as goal
 
 abbrev pub invariant-loop-fault : goal.invariant-loop-fault
 invariant-loop-fault g l = record {
-  appended : Appends (bytes_written g.W.Write.contents l.fn.writer) (bytes_written g.W.Write.contents l.writer) (flat_map (fault_text l.oneline l.path l.bytes) (take l.fault-index l.faults));
+  appended : Appends (bytes_written g.W.Write.contents l.fn.writer) (bytes_written g.W.Write.contents l.writer) (flat_map (fault_text l.format l.path l.bytes) (take l.fault-index l.faults));
   unfailed : write_failures l.writer ≡ write_failures l.fn.writer;
   line : l.location.line ≡ line_at l.bytes l.at;
   column : l.location.column ≡ column_at l.bytes l.at;
