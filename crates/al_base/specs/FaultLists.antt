@@ -27,8 +27,10 @@ abbrev pub place_in_kind : Code → ℕ
 place_in_kind (C.Yaml code) = position_or_len (λ c. yaml.ghosts.eq c code) yaml_codes
 place_in_kind (C.Key code) = position_or_len (λ c. key.ghosts.eq c code) key_codes
 place_in_kind (C.Rule code) = position_or_len (λ c. rule.ghosts.eq c code) rule_codes
-place_in_kind (C.Expression code) = position_or_len (λ c. expression.ghosts.eq c code) expression_codes
-place_in_kind (C.Call code by) = 2 * position_or_len (λ c. call.ghosts.eq c code) call_codes + turn by
+place_in_kind (C.Expression code) =
+    position_or_len (λ c. expression.ghosts.eq c code) expression_codes
+place_in_kind (C.Call code by) =
+    2 * position_or_len (λ c. call.ghosts.eq c code) call_codes + turn by
 
 -- faults of YAML, then of keys, then of rules, of expressions, of calls
 abbrev pub kind_place : Code → ℕ
@@ -40,8 +42,11 @@ kind_place (C.Call code by) = 4
 
 -- by start, by end, by code, and then by the arguments
 abbrev pub fault_cmp : Fault → Fault → Ordering
-fault_cmp = then_cmp (on (λ fault. fault.span.start) nat_cmp) (then_cmp (on (λ fault. fault.span.end) nat_cmp)
-    (then_cmp (on (λ fault. kind_place fault.code) nat_cmp) (then_cmp (on (λ fault. place_in_kind fault.code) nat_cmp)
+fault_cmp =
+    then_cmp (on (λ fault. fault.span.start) nat_cmp)
+    (then_cmp (on (λ fault. fault.span.end) nat_cmp)
+    (then_cmp (on (λ fault. kind_place fault.code) nat_cmp)
+    (then_cmp (on (λ fault. place_in_kind fault.code) nat_cmp)
     (on (λ fault. fault.args) args_cmp))))
 
 -- these faults in order, each once

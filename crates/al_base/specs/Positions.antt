@@ -27,7 +27,9 @@ begins_char byte = nat_lt byte 128 || nat_le 192 byte
 
 -- 1 plus the characters of the offset's line before it
 abbrev pub column_at : List ℕ → ℕ → ℕ
-column_at bytes offset = 1 + count_below (λ k. (line_at bytes k == line_at bytes offset) && begins_char (slice_index bytes k)) offset
+column_at bytes offset =
+    1 + count_below (λ k. (line_at bytes k == line_at bytes offset)
+    && begins_char (slice_index bytes k)) offset
 
 -- the line of an offset begins at start
 pub record BeginsLine (bytes : List ℕ) (offset start : ℕ) : Type 0 where

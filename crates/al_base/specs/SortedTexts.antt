@@ -49,7 +49,9 @@ module _ {T : Type 0} (bytes : T → List ℕ) where
 
   -- each entry has the text at its position in a list
   abbrev pub AreOf : List (List ℕ) → List (Entry T) → Type 0
-  AreOf ts = All (λ e. (e.position < length ts) × (entry_key e ≡ sort_key (slice_index_or ts e.position [])))
+  AreOf ts =
+      All (λ e. (e.position < length ts)
+      × (entry_key e ≡ sort_key (slice_index_or ts e.position [])))
 
   -- they are the entries of a list of as many texts
   abbrev pub StandIn : List (Entry T) → Type 0

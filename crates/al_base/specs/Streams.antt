@@ -44,7 +44,8 @@ WritesPrefix contents old new bytes =
 
 -- A call that returns this result writes all of these bytes, or fails after a prefix of them. It
 -- fails exactly if the writer does.
-pub record WritesOrFails {W T : Type 0} (contents : W → Option (List ℕ)) (old new : Output W) (result : Result T Stop) (bytes : List ℕ)
+pub record WritesOrFails {W T : Type 0} (contents : W → Option (List ℕ)) (old new : Output W)
+    (result : Result T Stop) (bytes : List ℕ)
     : Type 0 where
   pub all : OnOk result (Writes contents old new bytes)
   pub prefix : OnErr result (WritesPrefix contents old new bytes)

@@ -29,7 +29,8 @@ pub struct TextPositions<'a> {
 
 impl<'a> TextPositions<'a> {
     ghost use Rattle.std.specs.Prelude.{map};
-    ghost use Rattle.al_base.specs.NamePlaces.{TellsFirsts, is_first_text, text_place, text_position};
+    ghost use Rattle.al_base.specs.NamePlaces.{TellsFirsts, is_first_text, text_place};
+    ghost use Rattle.al_base.specs.NamePlaces.{text_position};
 
     /// The positions of these texts.
     ///
@@ -79,7 +80,8 @@ pub struct NamePositions {
 
 impl NamePositions {
     ghost use Rattle.std.specs.Prelude.{map};
-    ghost use Rattle.al_base.specs.NamePlaces.{TellsFirsts, is_first_name, name_place, name_position};
+    ghost use Rattle.al_base.specs.NamePlaces.{TellsFirsts, is_first_name, name_place};
+    ghost use Rattle.al_base.specs.NamePlaces.{name_position};
 
     /// The positions of these names.
     ///

@@ -4,7 +4,8 @@ ghost use Rattle.al_tree.specs.Kinds.{file_kind};
 ghost use Rattle.al_check.specs.Linting.{linting};
 ghost use Rattle.al_check.specs.Units.{IsUnit};
 ghost use Rattle.al_check_interfaces.proofs.Exact.{exact};
-ghost use Rattle.al_check.specs.Proofs.Laws.{each_sited, faults_inside, faults_ordered, sites_inside};
+ghost use Rattle.al_check.specs.Proofs.Laws.{each_sited, faults_inside, faults_ordered};
+ghost use Rattle.al_check.specs.Proofs.Laws.{sites_inside};
 
 use crate::files::{Source, file_faults, file_interface, read_file};
 use crate::units::{Unit, brief_of, calls_of, check_alone};

@@ -25,7 +25,8 @@ use Rattle.al_tree.specs.declared.inputs.InputType.TheVariants as input
 use Rattle.al_check_interfaces.specs.Parameters.{has_parameter, is_parameter, mandatory_of}
 use Rattle.al_check_interfaces.specs.Kinds.{parameters_of}
 use Rattle.al_check_interfaces.specs.declared.interfaces.Interface.{Interface}
-use Rattle.al_check_interfaces.specs.declared.interfaces.Interface.TheVariants.{Readable, Unreadable}
+use Rattle.al_check_interfaces.specs.declared.interfaces.Interface.TheVariants.{Readable}
+use Rattle.al_check_interfaces.specs.declared.interfaces.Interface.TheVariants.{Unreadable}
 use Rattle.al_check_interfaces.specs.declared.interfaces.Parameter.{Parameter}
 use Rattle.al_check_interfaces.specs.declared.interfaces.ParameterKind.{ParameterKind}
 use Rattle.al_check_interfaces.specs.declared.interfaces.ParameterKind.TheVariants as kind
@@ -35,7 +36,12 @@ use Rattle.al_check_interfaces.specs.declared.interfaces.Signature.{Signature}
 use Rattle.al_check_interfaces.specs.Uses.{Call, site_caller, that_uses}
 
 abbrev pub call_fault : CallCode → Call → Span → List (List ℕ) → Fault
-call_fault f c at texts = record { span = at; code = kind_of_code.Call f (site_caller c.site); args = map utf8_lossy texts }
+call_fault f c at texts =
+    record {
+      span = at;
+      code = kind_of_code.Call f (site_caller c.site);
+      args = map utf8_lossy texts;
+    }
 
 -- which files a step can call, and which a job
 abbrev pub is_callable : Caller → Role → Bool
@@ -53,7 +59,8 @@ absent_faults c caller.Job = that_uses code.NoWorkflow c ∷ []
 abbrev pub uses_faults : Call → Option Interface → List Fault
 uses_faults c None = absent_faults c (site_caller c.site)
 uses_faults c (Some Unreadable) = []
-uses_faults c (Some (Readable s)) = if is_callable (site_caller c.site) s.role then [] else that_uses code.NotCallable c ∷ []
+uses_faults c (Some (Readable s)) =
+    if is_callable (site_caller c.site) s.role then [] else that_uses code.NotCallable c ∷ []
 
 -- the signature of a file for a step or a job that can call it; None if the call has C1 or C8, or
 -- the file can't be read
@@ -86,11 +93,13 @@ is_free_for kind.Input caller.Job name = false
 is_free_for kind.Secret by name = false
 
 abbrev pub is_taken : ParameterKind → Call → Signature → List ℕ → Bool
-is_taken k c s name = has_parameter (parameters_of k s) name || is_free_for k (site_caller c.site) name
+is_taken k c s name =
+    has_parameter (parameters_of k s) name || is_free_for k (site_caller c.site) name
 
 abbrev pub undefined_name : ParameterKind → Call → Signature → Scalar × Node → List Fault
 undefined_name k c s e =
-    if is_taken k c s (key_of e) then [] else call_fault (undefined_code k) c e.0.span (key_of e ∷ called_name c s ∷ []) ∷ []
+    if is_taken k c s (key_of e) then [] else
+    call_fault (undefined_code k) c e.0.span (key_of e ∷ called_name c s ∷ []) ∷ []
 
 abbrev pub missing_name : ParameterKind → Call → Signature → Parameter → List Fault
 missing_name k c s p =
@@ -99,10 +108,13 @@ missing_name k c s p =
 
 abbrev pub names_against : ParameterKind → Call → Signature → List Fault
 names_against k c s =
-    flat_map (undefined_name k c s) (given_by k c.site.node) ++ flat_map (missing_name k c s) (mandatory_of (parameters_of k s))
+    flat_map (undefined_name k c s) (given_by k c.site.node)
+    ++ flat_map (missing_name k c s) (mandatory_of (parameters_of k s))
 
 abbrev pub is_inherit : Node → Bool
-is_inherit job = option_map_or (λ s. bytes_eq (text_of s) (codes "inherit")) (text_at_key (codes "secrets") job) false
+is_inherit job =
+    option_map_or (λ s. bytes_eq (text_of s) (codes "inherit"))
+    (text_at_key (codes "secrets") job) false
 
 abbrev pub type_name : InputType → List ℕ
 type_name input.Boolean = codes "boolean"
@@ -126,9 +138,11 @@ values_of type_of = map (λ e. (e, given_type type_of e))
 
 -- C4: a value of the wrong type
 abbrev pub wrong_input : Call → List Parameter → Given → List Fault
-wrong_input c inputs v = option_map_or (type_faults c v.0 v.1) (find (is_parameter (key_of v.0)) inputs) []
+wrong_input c inputs v =
+    option_map_or (type_faults c v.0 v.1) (find (is_parameter (key_of v.0)) inputs) []
 
--- the faults of what a call passes to a file that it can call: C4 of the values of a job, C2 and C3 of
+-- the faults of what a call passes to a file that it can call: C4 of the values of a job, C2 and C3
+-- of
 -- inputs, C5 and C6 of the secrets of a job that doesn't pass all of its own on
 abbrev pub passed_faults : Caller → Call → List Given → Signature → List Fault
 passed_faults caller.Step c values s = names_against kind.Input c s
@@ -141,4 +155,5 @@ passed_faults caller.Job c values s =
 abbrev pub call_faults : Call → List Given → Option Interface → List Fault
 call_faults c values answer =
     let by = site_caller c.site in
-    uses_faults c answer ++ option_map_or (passed_faults by c values) (callable_signature by answer) []
+    uses_faults c answer ++ option_map_or (passed_faults by c values)
+    (callable_signature by answer) []

@@ -1,11 +1,13 @@
 -- The faults of a file's calls and expressions, given the answers of its calls.
-use Rattle.std.specs.Prelude.{ℕ, List, [], ◌∷◌, ◌++◌, ◌≤◌, true, codes, length, map, Option, unwrap_or, IsUtf8}
+use Rattle.std.specs.Prelude.{ℕ, List, [], ◌∷◌, ◌++◌, ◌≤◌, true, codes, length, map, Option}
+use Rattle.std.specs.Prelude.{unwrap_or, IsUtf8}
 use Rattle.std.specs.List.{flat_map}
 use Rattle.al_base.specs.declared.faults.Fault.{Fault}
 use Rattle.al_base.specs.Limits.{longest_text}
 use Rattle.al_scalar.specs.Scalar.{Scalar, text_of}
 use Rattle.al_types.specs.Types.{Type'}
-use Rattle.al_yaml_tree.specs.Node.{Node, Nodes, Entries, scalar, sequence, mapping, no_nodes, item, no_entries, entry}
+use Rattle.al_yaml_tree.specs.Node.{Node, Nodes, Entries, scalar, sequence, mapping, no_nodes, item}
+use Rattle.al_yaml_tree.specs.Node.{no_entries, entry}
 use Rattle.al_tree.specs.declared.files.FileKind.{FileKind}
 use Rattle.al_tree.specs.declared.files.FileKind.TheVariants as kind
 use Rattle.al_check_places.specs.Places.{Place, place_at}
@@ -22,7 +24,8 @@ use Rattle.al_check_calls.specs.Types.{type_of_given}
 
 -- what is known of the outputs of a call
 abbrev pub known_of_call : Answered → OutputsOfCall
-known_of_call a = record { job = a.call.site.job; step = a.call.site.step; names = called_outputs a }
+known_of_call a =
+    record { job = a.call.site.job; step = a.call.site.step; names = called_outputs a }
 
 abbrev pub known_from_calls : List Answered → OutputNames
 known_from_calls found = known_in (map known_of_call found)
@@ -35,7 +38,8 @@ place_of_value job key s =
 
 -- its type, given what expressions can refer to there
 abbrev pub value_type_in_job : FileKind → OutputNames → Node → List ℕ → Scalar → Scalar → Type'
-value_type_in_job kind known root job key s = type_of_given (scope_at kind known root (place_of_value job key s)) s
+value_type_in_job kind known root job key s =
+    type_of_given (scope_at kind known root (place_of_value job key s)) s
 
 -- the types of the values that calls pass; those of steps aren't used
 abbrev pub typing : FileKind → OutputNames → Node → Typing

@@ -10,5 +10,8 @@ use Rattle.al_check_interfaces.specs.declared.interfaces.Interface.{Interface}
 use Rattle.al_check_calls.specs.Answers.{Typing, call_faults_in}
 
 abbrev pub CallFaultsLie : Type 0
-CallFaultsLie = (size : ℕ) (kind : FileKind) (typing : Typing) (root : Node) (answers : List (Option Interface)) →
-    IsInside size root → AllByRecursion (λ (f : Fault). LiesIn size f.span) (call_faults_in kind typing root answers)
+CallFaultsLie =
+    (size : ℕ) (kind : FileKind) (typing : Typing) (root : Node) (answers : List (Option Interface))
+    →
+    IsInside size root → AllByRecursion (λ (f : Fault). LiesIn size f.span)
+    (call_faults_in kind typing root answers)

@@ -15,4 +15,6 @@ shows_outputs r = true
 
 -- the outputs of a call, if they are known
 abbrev pub called_outputs : Answered → Option (List (List ℕ))
-called_outputs a = option_and_then (λ s. then_some (shows_outputs s.role) s.outputs) (callable_signature (site_caller a.call.site) a.answer)
+called_outputs a =
+    option_and_then (λ s. then_some (shows_outputs s.role) s.outputs)
+    (callable_signature (site_caller a.call.site) a.answer)

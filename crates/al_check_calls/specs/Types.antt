@@ -14,7 +14,8 @@ use Rattle.al_check_expressions.specs.Contents.{is_one_chunk}
 -- the type of an expression: any if it has a fault
 abbrev pub content_type : Scope → List ℕ → Type'
 content_type sc content =
-    option_map_or (λ f. Any) (fault_of_content content) (type_found (meaning_of sc (tree_of_content content)))
+    option_map_or (λ f. Any) (fault_of_content content)
+    (type_found (meaning_of sc (tree_of_content content)))
 
 -- the type of any other text: a string if it has expressions, otherwise by its class
 abbrev pub text_type : Scalar → Type'
@@ -22,7 +23,8 @@ text_type s = if has_chunk (text_of s) then String else class_type s.class
 
 -- the content of a text that is one expression
 abbrev pub content_where_one : List ℕ → Option (List ℕ)
-content_where_one text = if is_one_chunk text then Some (slice_range text 3 (length text - 2)) else None
+content_where_one text =
+    if is_one_chunk text then Some (slice_range text 3 (length text - 2)) else None
 
 abbrev pub type_of_given : Scope → Scalar → Type'
 type_of_given sc s = option_map_or (content_type sc) (content_where_one (text_of s)) (text_type s)

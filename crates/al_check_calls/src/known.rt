@@ -5,7 +5,8 @@ ghost use Rattle.al_check_calls.specs.Outputs.{called_outputs};
 ghost use Rattle.al_check_calls.specs.Private.AnswerViews.{answered_of};
 ghost use Rattle.al_check_contexts.specs.Answered.{known_in, known_of};
 ghost use Rattle.al_check_calls.specs.FileCalls.{known_of_call};
-ghost use Rattle.al_check_calls.specs.Private.KnownLists.{ArePlaced, Naming, Takes, all_call_outputs};
+ghost use Rattle.al_check_calls.specs.Private.KnownLists.{ArePlaced, Naming, Takes};
+ghost use Rattle.al_check_calls.specs.Private.KnownLists.{all_call_outputs};
 ghost use Rattle.al_check_calls.specs.Private.Comparing.{AreToldByUses};
 ghost use Rattle.al_yaml_tree.specs.View.{view};
 

@@ -7,7 +7,8 @@ ghost use Rattle.al_base.specs.Growth.{SameSet};
 ghost use Rattle.al_check_calls.specs.CallFaults as meant;
 ghost use Rattle.al_check_calls.specs.Private.AnswerViews.{compared_of, name_of};
 ghost use Rattle.al_check_calls.specs.Private.Comparing as comparing;
-ghost use Rattle.al_check_calls.specs.Private.Comparing.{AreThere, HaveOneSignature, TellSignatures};
+ghost use Rattle.al_check_calls.specs.Private.Comparing.{AreThere, HaveOneSignature};
+ghost use Rattle.al_check_calls.specs.Private.Comparing.{TellSignatures};
 
 use crate::comparisons::{Comparison, call_alike, given_by};
 use crate::reports::{called_name, code_at, uses_text};

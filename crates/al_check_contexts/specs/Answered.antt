@@ -1,5 +1,6 @@
 -- What is known of the outputs of calls, as a list.
-use Rattle.std.specs.Prelude.{ℕ, List, Bool, ◌&&◌, ◌==◌, Option, option_and_then, find, map, slice_get}
+use Rattle.std.specs.Prelude.{ℕ, List, Bool, ◌&&◌, ◌==◌, Option, option_and_then, find, map}
+use Rattle.std.specs.Prelude.{slice_get}
 use Rattle.std.specs.Option.{option_copied, option_eq}
 use Rattle.std.specs.Str.{bytes_eq}
 use Rattle.al_check_contexts.specs.Contexts.{OutputNames}
@@ -23,7 +24,12 @@ known_in bs job step = option_and_then (λ b. b.names) (find (is_at job step) bs
 
 -- the meaning of the program's answer, given the lists of names that its position refers to
 abbrev pub call_outputs : List (List (List ℕ)) → Answer → OutputsOfCall
-call_outputs lists a = record { job = option_copied a.job; step = a.step; names = option_and_then (slice_get lists) a.names }
+call_outputs lists a =
+    record {
+      job = option_copied a.job;
+      step = a.step;
+      names = option_and_then (slice_get lists) a.names;
+    }
 
 abbrev pub known_of : Answers → OutputNames
 known_of known = known_in (map (call_outputs (map (λ l. l.now) known.lists.now)) known.answers.now)

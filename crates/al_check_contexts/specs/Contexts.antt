@@ -1,5 +1,6 @@
 -- The type of each context at a position of a file.
-use Rattle.std.specs.Prelude.{ℕ, List, [], ◌∷◌, codes, map, take, Option, Some, None, option_map, find, if◌then◌else◌}
+use Rattle.std.specs.Prelude.{ℕ, List, [], ◌∷◌, codes, map, take, Option, Some, None, option_map}
+use Rattle.std.specs.Prelude.{find, if◌then◌else◌}
 use Rattle.std.specs.List.{filter_map, enumerate_from}
 use Rattle.std.specs.Option.{option_map_or}
 use Rattle.std.specs.Str.{bytes_eq}
@@ -16,7 +17,9 @@ use Rattle.al_tree.specs.declared.files.FileKind.{FileKind}
 use Rattle.al_tree.specs.declared.files.FileKind.TheVariants as kind
 use Rattle.al_check_places.specs.Positions.{Position, Section, apart, in_job}
 use Rattle.al_check_places.specs.declared.positions.Seen.{Seen}
-use Rattle.al_check_places.specs.declared.positions.Seen.TheVariants.{Nothing as no_step, Before as before, Everything as every_step}
+use Rattle.al_check_places.specs.declared.positions.Seen.TheVariants.{Nothing as no_step}
+use Rattle.al_check_places.specs.declared.positions.Seen.TheVariants.{Before as before}
+use Rattle.al_check_places.specs.declared.positions.Seen.TheVariants.{Everything as every_step}
 use Rattle.al_tree.specs.Declarations.{action_steps, has_value, is_composite}
 use Rattle.al_check_objects.specs.Fixed.{github_type, runner_type, job_type, strategy_type}
 use Rattle.al_check_objects.specs.Inputs.{inputs_type}
@@ -35,7 +38,9 @@ nothing_known job step = None
 
 -- `steps`: each step with an id, among those that are seen; the first of those with equal ids
 abbrev pub step_type : Type' → Type'
-step_type outputs = strictly ((codes "conclusion", String) ∷ (codes "outcome", String) ∷ (codes "outputs", outputs) ∷ [])
+step_type outputs =
+    strictly ((codes "conclusion", String) ∷ (codes "outcome", String)
+    ∷ (codes "outputs", outputs) ∷ [])
 
 abbrev pub step_field : OutputNames → Option (List ℕ) → ℕ × Node → Option TypedName
 step_field known job s =
@@ -53,13 +58,15 @@ Owner = Option (List ℕ) × List Node
 
 abbrev pub steps_type : OutputNames → Option Owner → Seen → Type'
 steps_type known owner seen =
-    option_map_or (λ o. strictly (firsts (filter_map (step_field known o.0) (enumerate_from 0 (seen_of seen o.1))))) owner Any
+    option_map_or (λ o. strictly (firsts
+    (filter_map (step_field known o.0) (enumerate_from 0 (seen_of seen o.1))))) owner Any
 
 -- a job as others see it: its result, and its outputs, which are those of the called workflow if it
 -- calls one
 abbrev pub job_outputs : OutputNames → Scalar × Node → Type'
 job_outputs known j =
-    if has_value (codes "uses") j.1 then option_map_or named_strings (known (Some (key_of j)) None) loose_any
+    if has_value (codes "uses") j.1 then
+    option_map_or named_strings (known (Some (key_of j)) None) loose_any
     else named_strings (keys_in (entries_at (codes "outputs") j.1))
 
 abbrev pub job_field : OutputNames → Scalar × Node → TypedName
@@ -72,11 +79,13 @@ jobs_type known jobs = strictly (firsts (map (job_field known) jobs))
 -- `needs`: the direct dependencies that exist; a name refers to the first job with it, ignoring
 -- ASCII case
 abbrev pub dependency : OutputNames → List (Scalar × Node) → List ℕ → Option TypedName
-dependency known jobs name = option_map (job_field known) (find (λ j. same_name (key_of j) name) jobs)
+dependency known jobs name =
+    option_map (job_field known) (find (λ j. same_name (key_of j) name) jobs)
 
 abbrev pub needs_type : OutputNames → List (Scalar × Node) → Node → Type'
 needs_type known jobs job =
-    strictly (firsts (filter_map (λ s. dependency known jobs (text_of s)) (texts_at (codes "needs") job)))
+    strictly (firsts (filter_map (λ s. dependency known jobs (text_of s))
+    (texts_at (codes "needs") job)))
 
 -- the job of a section, with its key, if there is one
 abbrev pub job_in : List (Scalar × Node) → Section → Option (Scalar × Node)
@@ -103,11 +112,13 @@ context_type_at k known root p context.Vars = loose_strings
 context_type_at k known root p context.Secrets = loose_strings
 context_type_at k known root p context.Runner = runner_type
 context_type_at k known root p context.Job = job_type
-context_type_at k known root p context.Strategy = option_map_or (λ j. strategy_type) (job_in (jobs_of root) p.section) Any
+context_type_at k known root p context.Strategy =
+    option_map_or (λ j. strategy_type) (job_in (jobs_of root) p.section) Any
 context_type_at k known root p context.Needs =
     option_map_or (λ j. needs_type known (jobs_of root) j.1) (job_in (jobs_of root) p.section) Any
 context_type_at k known root p context.Jobs = jobs_in known (jobs_of root) p.section
 context_type_at k known root p context.Steps =
     steps_type known (owner_of k root (job_in (jobs_of root) p.section)) p.seen
-context_type_at k known root p context.Matrix = option_map_or (λ j. matrix_type j.1) (job_in (jobs_of root) p.section) Any
+context_type_at k known root p context.Matrix =
+    option_map_or (λ j. matrix_type j.1) (job_in (jobs_of root) p.section) Any
 context_type_at k known root p context.Inputs = inputs_type k root

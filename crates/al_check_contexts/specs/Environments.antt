@@ -35,8 +35,10 @@ owner_in f s = owner_of f.kind (view f.root.now) (job_in (jobs_of (view f.root.n
 -- as it has counted; and the types that it keeps are right
 pub record IsAtPosition (e : Env) : Type 0 where
   pub jobs : jobs_from e.basis ≡ jobs_of (view (file_of e).root.now)
-  pub shows : Shows e.types e.scope.types (types_at (file_of e) (position (section_view e.section) (before e.seen)))
-  pub steps : AreStepsOf e.types (known_of (file_of e).known) (owner_in (file_of e) (section_view e.section)) e.steps
+  pub shows : Shows e.types e.scope.types
+      (types_at (file_of e) (position (section_view e.section) (before e.seen)))
+  pub steps : AreStepsOf e.types (known_of (file_of e).known)
+      (owner_in (file_of e) (section_view e.section)) e.steps
   pub prefixes : ArePrefixes e.types e.steps
   pub strategy : Means e.types e.basis.strategy strategy_type
   pub job_types : KeepsJobsOf e.types e.basis e.job_types

@@ -1,5 +1,6 @@
 -- Lookups in maps that are made once per file.
-use Rattle.std.specs.Prelude.{ℕ, List, [], ◌∷◌, Option, Some, codes, map, option_map, option_and_then, slice_get, if◌then◌else◌}
+use Rattle.std.specs.Prelude.{ℕ, List, [], ◌∷◌, Option, Some, codes, map, option_map}
+use Rattle.std.specs.Prelude.{option_and_then, slice_get, if◌then◌else◌}
 use Rattle.std.specs.BTreeMap.{get_by}
 use Rattle.std.specs.Cmp.Lexicographic.{slice_cmp}
 use Rattle.std.specs.Option.{option_cmp, option_copied, option_map_or}
@@ -28,7 +29,8 @@ list_at o = slice_get (lists_of o)
 unfoldable pub found_at : Outputs → Found
 found_at o job step =
     option_map (option_and_then (list_at o)) (get_by
-    (λ k. ordering_then (option_cmp (slice_cmp nat_cmp) job (option_copied k.0)) (option_cmp nat_cmp step k.1)) o.positions)
+    (λ k. ordering_then (option_cmp (slice_cmp nat_cmp) job (option_copied k.0))
+    (option_cmp nat_cmp step k.1)) o.positions)
 
 -- with one more answer before the others
 abbrev pub and_found : OutputsOfCall → Found → Found

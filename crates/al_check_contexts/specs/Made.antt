@@ -19,7 +19,8 @@ pub record KeepsBare (types : Types) (made : Option Ty) : Type 0 where
   pub each : (t : Ty) → made ≡ Some t → Means types t (shown_with (named_strings []))
 
 -- each kept type of a job is that of its position
-pub record KeepsJobs (types : Types) (known : Outputs) (js : List (Scalar × Node)) (m : JobTypes) : Type 0 where
+pub record KeepsJobs (types : Types) (known : Outputs) (js : List (Scalar × Node)) (m : JobTypes) :
+    Type 0 where
   pub calls : Keeps types (called_at known) m.calls
   pub shown : Keeps types (shown_at known js) m.shown
   pub bare : KeepsBare types m.bare

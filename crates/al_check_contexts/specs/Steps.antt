@@ -1,5 +1,6 @@
 -- The fields of `steps` by counts of steps.
-use Rattle.std.specs.Prelude.{◌≡◌, ◌+◌, ◌<◌, ◌≤◌, ℕ, List, [], true, Option, Some, None, get_or, length, take}
+use Rattle.std.specs.Prelude.{◌≡◌, ◌+◌, ◌<◌, ◌≤◌, ℕ, List, [], true, Option, Some, None, get_or}
+use Rattle.std.specs.Prelude.{length, take}
 use Rattle.std.specs.List.{enumerate_from, filter_map}
 use Rattle.al_types.specs.Puts.{TypedName, firsts}
 use Rattle.al_check_contexts.specs.Contexts.{OutputNames, Owner, step_field}
@@ -18,10 +19,12 @@ abbrev pub IsCount : List TypedName → ℕ → List TypedName → Type 0
 IsCount ts n us = (n ≤ length ts) × (take n ts ≡ us)
 
 -- each prefix of some steps has a count: as many first fields are the fields of the prefix
-pub record AreSteps (types : Types) (known : OutputNames) (o : Owner) (s : StepFields) : Type 0 where
+pub record AreSteps (types : Types) (known : OutputNames) (o : Owner) (s : StepFields) :
+    Type 0 where
   pub all : length s.counts.items ≡ length o.1 + 1
   pub counts : (k : ℕ) → k < length s.counts.items →
-      IsCount (fields_in (objects_of types) (map_in s.prefixes)) (get_or s.counts.items k 0) (first_fields known o k)
+      IsCount (fields_in (objects_of types) (map_in s.prefixes)) (get_or s.counts.items k 0)
+      (first_fields known o k)
 
 -- the same for the steps of an owner; without an owner there are no counts
 abbrev pub AreStepsOf : Types → OutputNames → Option Owner → StepFields → Type 0
@@ -32,4 +35,5 @@ AreStepsOf types known (Some o) s = AreSteps types known o s
 pub record ArePrefixes (types : Types) (s : StepFields) : Type 0 where
   pub below : is_map_below (length types.objects.items) (map_in s.prefixes) ≡ true
   pub base : HasPrefix types (map_in s.prefixes) s.prefixes.base
-  pub inside : (k : ℕ) → k < length s.counts.items → get_or s.counts.items k 0 ≤ length (map_in s.prefixes).types.items
+  pub inside : (k : ℕ) → k < length s.counts.items → get_or s.counts.items k 0
+      ≤ length (map_in s.prefixes).types.items

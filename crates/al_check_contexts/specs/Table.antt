@@ -24,7 +24,8 @@ pub record Shows (types : Types) (ts : ContextTypes) (m : Context → Type') : T
   pub each : (c : Context) → Means types (context_number ts c) (m c)
 
 -- the types of a section of a workflow with these jobs, one of which is the section's
-pub record AreOfSection (types : Types) (known : OutputNames) (js : List (Scalar × Node)) (s : Section)
+pub record AreOfSection (types : Types) (known : OutputNames) (js : List (Scalar × Node))
+    (s : Section)
     (job : Option (Scalar × Node)) (st : SectionTypes) : Type 0 where
   pub strategy : Means types st.strategy (option_map_or (λ j. strategy_type) job Any)
   pub needs : Means types st.needs (option_map_or (λ j. needs_type known js j.1) job Any)

@@ -1,6 +1,7 @@
 //! The jobs of a workflow, by key.
 ghost use Rattle.std.specs.Prelude.{◌≡◌, ◌<◌, IfOk, length, map, option_map, slice_get};
-ghost use Rattle.al_base.specs.NamePlaces.{first_at, name_place, name_position, text_place, text_position};
+ghost use Rattle.al_base.specs.NamePlaces.{first_at, name_place, name_position, text_place};
+ghost use Rattle.al_base.specs.NamePlaces.{text_position};
 ghost use Rattle.al_base.specs.Names.{same_name};
 ghost use Rattle.al_check_places.specs.Positions.{section_view};
 ghost use Rattle.al_tree.specs.Keys.{key_of, keys_in};

@@ -26,7 +26,8 @@ pub(crate) fn first_types<'a>(
 ) -> Result<ContextTypes, AllocError>
     ensures types { IfOk result (λ ts. (known : OutputNames)
         → Means types.old steps
-        (context_type_at (file.entry).kind known (view (file.entry).root.now) (position apart (before 0))
+        (context_type_at (file.entry).kind known (view (file.entry).root.now)
+        (position apart (before 0))
         context.Steps)
         → Shows types.new ts (context_type_at (file.entry).kind known (view (file.entry).root.now)
         (position apart (before 0)))) }

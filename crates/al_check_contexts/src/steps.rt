@@ -1,9 +1,11 @@
 //! The type of `steps`: its fields are made once for all steps of a job or an action, and each step
 //! sees some first of them.
-ghost use Rattle.std.specs.Prelude.{◌≡◌, ◌-◌, ◌≤◌, [], IfOk, List, None, Option, OnOk, length, option_map, true};
+ghost use Rattle.std.specs.Prelude.{◌≡◌, ◌-◌, ◌≤◌, [], IfOk, List, None, Option, OnOk, length};
+ghost use Rattle.std.specs.Prelude.{option_map, true};
 ghost use Rattle.std.specs.Option.{option_copied, option_map_or, option_to_list};
 ghost use Rattle.al_base.specs.Growth.{BeginsWith};
-ghost use Rattle.al_check_contexts.specs.Contexts.{OutputNames, Owner as StepOwner, step_field, steps_type};
+ghost use Rattle.al_check_contexts.specs.Contexts.{OutputNames, Owner as StepOwner, step_field};
+ghost use Rattle.al_check_contexts.specs.Contexts.{steps_type};
 ghost use Rattle.al_check_places.specs.declared.positions.Seen.TheVariants.{Before as before};
 ghost use Rattle.al_check_contexts.specs.Lookups.{step_at};
 ghost use Rattle.al_check_contexts.specs.Made.{known_from};
@@ -45,7 +47,8 @@ pub(crate) fn outputs_type<'a>(
 ) -> Result<Ty, AllocError>
     requires { is_known types.old others ≡ true }
     ensures { Makes types.old types.new result
-        (option_map_or named_strings (option_map (λ l. l.now) outputs.entry) (object_with [] (Present (type_at types.old others)))) }
+        (option_map_or named_strings (option_map (λ l. l.now) outputs.entry)
+        (object_with [] (Present (type_at types.old others)))) }
 {
     match outputs {
         None => object_of(types, &[], Some(others)),

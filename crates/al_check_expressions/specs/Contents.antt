@@ -1,5 +1,6 @@
 -- The faults of the expressions in a scalar, with their spans in the file.
-use Rattle.std.specs.Prelude.{ℕ, List, [], ◌∷◌, ◌++◌, ◌+◌, ◌-◌, ◌==◌, ◌<◌, ◌^◌, Bool, true, false, ◌||◌, ◌&&◌, not, length, map}
+use Rattle.std.specs.Prelude.{ℕ, List, [], ◌∷◌, ◌++◌, ◌+◌, ◌-◌, ◌==◌, ◌<◌, ◌^◌, Bool, true, false}
+use Rattle.std.specs.Prelude.{◌||◌, ◌&&◌, not, length, map}
 use Rattle.std.specs.Prelude.{slice_range, if◌then◌else◌}
 use Rattle.std.specs.List.{flat_map}
 use Rattle.std.specs.Option.{option_map_or, option_to_list}
@@ -44,25 +45,30 @@ fault_in_file s by f = record f { span = span_in_file s (by + f.span.start) (by 
 -- X18: an object or array with other text around it, or where only a scalar is accepted
 abbrev pub collection_faults : Bool → Bool → Type' → Tree → List Fault
 collection_faults is_alone is_scalar_only t tree =
-    if is_collection t && (not is_alone || is_scalar_only) then expression_fault code.NotText (extent tree) [] ∷ [] else []
+    if is_collection t && (not is_alone || is_scalar_only) then
+    expression_fault code.NotText (extent tree) [] ∷ [] else []
 
 abbrev pub tree_faults : Scope → Bool → Bool → Tree → List Fault
 tree_faults sc is_alone is_scalar_only tree =
-    faults_found (meaning_of sc tree) ++ collection_faults is_alone is_scalar_only (type_found (meaning_of sc tree)) tree
+    faults_found (meaning_of sc tree)
+    ++ collection_faults is_alone is_scalar_only (type_found (meaning_of sc tree)) tree
 
 -- an expression with X1 to X6 has no other fault
 abbrev pub content_faults : Scope → Bool → Bool → List ℕ → List Fault
 content_faults sc is_alone is_scalar_only bytes =
-    option_map_or (λ f. f ∷ []) (fault_of_content bytes) (tree_faults sc is_alone is_scalar_only (tree_of_content bytes))
+    option_map_or (λ f. f ∷ []) (fault_of_content bytes)
+    (tree_faults sc is_alone is_scalar_only (tree_of_content bytes))
 
 abbrev pub chunk_faults : Scope → Bool → Scalar → Span → List Fault
 chunk_faults sc is_scalar_only s c =
     map (fault_in_file s c.start)
-    (content_faults sc (is_one_chunk (text_of s)) is_scalar_only (slice_range (text_of s) c.start c.end))
+    (content_faults sc (is_one_chunk (text_of s)) is_scalar_only
+    (slice_range (text_of s) c.start c.end))
 
 abbrev pub chunked_faults : Scope → Bool → Scalar → Chunked → List Fault
 chunked_faults sc is_scalar_only s cs =
-    flat_map (chunk_faults sc is_scalar_only s) cs.chunks ++ map (fault_in_file s 0) (option_to_list cs.fault)
+    flat_map (chunk_faults sc is_scalar_only s) cs.chunks
+    ++ map (fault_in_file s 0) (option_to_list cs.fault)
 
 -- a condition without `${{` is one expression
 abbrev pub is_whole : Place → Bool

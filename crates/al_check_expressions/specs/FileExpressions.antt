@@ -19,13 +19,18 @@ abbrev pub expression_faults_at : FileKind → OutputNames → Node → Place �
 expression_faults_at kind known root p = place_faults (scope_at kind known root p) p
 
 abbrev pub expression_faults : FileKind → OutputNames → Node → List Fault
-expression_faults kind known root = flat_map (expression_faults_at kind known root) (places_of kind root)
+expression_faults kind known root =
+    flat_map (expression_faults_at kind known root) (places_of kind root)
 
 -- the faults lie in the file if the tree's nodes do, and each byte of its texts comes from there
 abbrev pub ExpressionFaultsLie : Type 0
-ExpressionFaultsLie = (size : ℕ) (kind : FileKind) (known : OutputNames) (root : Node) → IsLaid size root → AreFrom size root →
+ExpressionFaultsLie =
+    (size : ℕ) (kind : FileKind) (known : OutputNames) (root : Node) → IsLaid size root
+    → AreFrom size root →
     AllLie size (expression_faults kind known root)
 
 -- a text without `${{` that isn't a condition has no fault, wherever it is, so it needs no place
 abbrev pub PlainTextsAreRight : Type 0
-PlainTextsAreRight = (scope : Scope) (p : Place) → p.is_condition ≡ false → has_chunk (text_of p.word) ≡ false → place_faults scope p ≡ []
+PlainTextsAreRight =
+    (scope : Scope) (p : Place) → p.is_condition ≡ false → has_chunk (text_of p.word) ≡ false
+    → place_faults scope p ≡ []

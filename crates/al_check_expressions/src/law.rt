@@ -1,5 +1,6 @@
 //! Laws of the definitions.
-ghost use Rattle.al_check_expressions.specs.FileExpressions.{ExpressionFaultsLie, PlainTextsAreRight};
+ghost use Rattle.al_check_expressions.specs.FileExpressions.{ExpressionFaultsLie};
+ghost use Rattle.al_check_expressions.specs.FileExpressions.{PlainTextsAreRight};
 
 /// Each fault of an expression lies in the file if the tree's nodes lie in one another and in the
 /// file, and each byte of its texts comes from there. Does nothing at run time.

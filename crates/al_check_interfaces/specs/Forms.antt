@@ -1,6 +1,7 @@
 -- What the text of a `uses` names (GitHub, "Workflow syntax", `jobs.<job_id>.steps[*].uses` and
 -- `jobs.<job_id>.uses`).
-use Rattle.std.specs.Prelude.{ℕ, List, [], ◌∷◌, ◌++◌, ◌+◌, ◌-◌, ◌==◌, nat_lt, nat_eq, Bool, false, ◌&&◌, codes, drop, take, length}
+use Rattle.std.specs.Prelude.{ℕ, List, [], ◌∷◌, ◌++◌, ◌+◌, ◌-◌, ◌==◌, nat_lt, nat_eq, Bool, false}
+use Rattle.std.specs.Prelude.{◌&&◌, codes, drop, take, length}
 use Rattle.std.specs.Prelude.{Option, Some, None, is_none, if◌then◌else◌}
 use Rattle.std.specs.List.{enumerate_from, list_all, list_any, starts_with, ends_with}
 use Rattle.std.specs.Option.{option_map_or}

@@ -1,6 +1,7 @@
 -- The interface of a file, which its callers see (GitHub, "Workflow syntax", `on.workflow_call`;
 -- "Metadata syntax", `inputs`, `outputs`, `runs`). It has no spans and no descriptions.
-use Rattle.std.specs.Prelude.{ℕ, List, [], ◌∷◌, Bool, false, ◌||◌, codes, map, Option, option_map, if◌then◌else◌}
+use Rattle.std.specs.Prelude.{ℕ, List, [], ◌∷◌, Bool, false, ◌||◌, codes, map, Option, option_map}
+use Rattle.std.specs.Prelude.{if◌then◌else◌}
 use Rattle.std.specs.List.{list_any}
 use Rattle.std.specs.Option.{option_map_or}
 use Rattle.std.specs.Str.{bytes_eq}
@@ -17,7 +18,8 @@ use Rattle.al_tree.specs.Inputs.{input_of}
 use Rattle.al_tree.specs.declared.inputs.InputType.{InputType}
 use Rattle.al_tree.specs.declared.inputs.InputType.TheVariants as input
 use Rattle.al_check_interfaces.specs.declared.interfaces.Interface.{Interface}
-use Rattle.al_check_interfaces.specs.declared.interfaces.Interface.TheVariants.{Readable, Unreadable}
+use Rattle.al_check_interfaces.specs.declared.interfaces.Interface.TheVariants.{Readable}
+use Rattle.al_check_interfaces.specs.declared.interfaces.Interface.TheVariants.{Unreadable}
 use Rattle.al_check_interfaces.specs.declared.interfaces.Parameter.{Parameter}
 use Rattle.al_check_interfaces.specs.declared.interfaces.Role.TheVariants as role
 use Rattle.al_check_interfaces.specs.declared.interfaces.Signature.{Signature}
@@ -42,7 +44,13 @@ type_taken declared.CallInputs n = input_of n
 type_taken by n = input.String
 
 abbrev pub parameter : Declaring → Scalar × Node → Parameter
-parameter by e = record { name = key_of e; required = is_required e.1; has_default = has_default by e.1; takes = type_taken by e.1 }
+parameter by e =
+    record {
+      name = key_of e;
+      required = is_required e.1;
+      has_default = has_default by e.1;
+      takes = type_taken by e.1;
+    }
 
 abbrev pub parameters : Declaring → List (List ℕ) → Node → List Parameter
 parameters by ks n = map (parameter by) (declared_below ks n)

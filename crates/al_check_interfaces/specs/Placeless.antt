@@ -4,7 +4,8 @@ use Rattle.std.specs.Prelude.{◌≡◌, codes, map}
 use Rattle.al_scalar.specs.Line.{Cell}
 use Rattle.al_scalar.specs.Scalar.{Scalar}
 use Rattle.al_base.specs.Spans.{span}
-use Rattle.al_yaml_tree.specs.Node.{Node, Nodes, Entries, scalar, sequence, mapping, no_nodes, item, no_entries, entry}
+use Rattle.al_yaml_tree.specs.Node.{Node, Nodes, Entries, scalar, sequence, mapping, no_nodes, item}
+use Rattle.al_yaml_tree.specs.Node.{no_entries, entry}
 use Rattle.al_tree.specs.Keys.{key_of}
 use Rattle.al_tree.specs.Values.{value_at}
 use Rattle.al_tree.specs.declared.files.FileKind.{FileKind}
@@ -12,7 +13,13 @@ use Rattle.al_check_interfaces.specs.Interfaces.{interface_of, parameter}
 use Rattle.al_check_interfaces.specs.declared.signatures.Declaring.{Declaring}
 
 abbrev pub placeless_scalar : Scalar → Scalar
-placeless_scalar s = record { style = s.style; class = s.class; cells = map (λ (c : Cell). (c.0, 0)) s.cells; span = span 0 0 }
+placeless_scalar s =
+    record {
+      style = s.style;
+      class = s.class;
+      cells = map (λ (c : Cell). (c.0, 0)) s.cells;
+      span = span 0 0;
+    }
 
 -- a tree with all nodes and texts moved to the offset 0
 abbrev mutual
@@ -31,7 +38,8 @@ abbrev mutual
 
 -- trees that differ only in spans have the same interface
 abbrev pub ShowsNoPlaces : Type 0
-ShowsNoPlaces = (kind : FileKind) (root : Node) → interface_of kind (placeless root) ≡ interface_of kind root
+ShowsNoPlaces =
+    (kind : FileKind) (root : Node) → interface_of kind (placeless root) ≡ interface_of kind root
 
 -- entries that differ only in other keys, such as a description, declare the same parameter
 abbrev pub ShowsNothingElse : Type 0

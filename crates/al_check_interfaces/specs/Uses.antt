@@ -1,6 +1,7 @@
 -- The calls of a file: the steps and jobs that call, what the text of their `uses` names, and which
 -- name a file in the folder.
-use Rattle.std.specs.Prelude.{ℕ, List, [], ◌∷◌, codes, map, Option, Some, None, is_some, option_map, if◌then◌else◌}
+use Rattle.std.specs.Prelude.{ℕ, List, [], ◌∷◌, codes, map, Option, Some, None, is_some, option_map}
+use Rattle.std.specs.Prelude.{if◌then◌else◌}
 use Rattle.std.specs.List.{flat_map, filter_map, enumerate_from}
 use Rattle.std.specs.Str.Lossy.{utf8_lossy}
 use Rattle.al_base.specs.declared.codes.CallCode.{CallCode}
@@ -54,7 +55,13 @@ pub record Call : Type 0 where
   pub form : Form
 
 abbrev pub call_by : Site → Scalar → Call
-call_by s uses = record { site = s; at = uses.span; text = text_of uses; form = form_by (site_caller s) (text_of uses) }
+call_by s uses =
+    record {
+      site = s;
+      at = uses.span;
+      text = text_of uses;
+      form = form_by (site_caller s) (text_of uses);
+    }
 
 abbrev pub call_at : Site → Option Call
 call_at s = option_map (call_by s) (text_at_key (codes "uses") s.node)
@@ -64,7 +71,12 @@ calls_in kind root = filter_map call_at (sites_in kind root)
 
 -- a fault at `uses` that names its text
 abbrev pub that_uses : CallCode → Call → Fault
-that_uses f c = record { span = c.at; code = kind_of_code.Call f (site_caller c.site); args = utf8_lossy c.text ∷ [] }
+that_uses f c =
+    record {
+      span = c.at;
+      code = kind_of_code.Call f (site_caller c.site);
+      args = utf8_lossy c.text ∷ [];
+    }
 
 -- C7
 abbrev pub wrong_by : Form → Call → List Fault

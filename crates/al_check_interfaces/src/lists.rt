@@ -31,7 +31,8 @@ impl Model for Parameters {
 
     ghost view = { λ a. a.parameters.items };
 
-    ghost invariant = { λ a. (name_position a.positions ≡ name_place (map (λ p. p.name) a.parameters.items))
+    ghost invariant = { λ a. (name_position a.positions
+        ≡ name_place (map (λ p. p.name) a.parameters.items))
         × (a.mandatory.items ≡ mandatory_of a.parameters.items) };
 }
 

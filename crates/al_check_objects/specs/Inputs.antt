@@ -25,10 +25,12 @@ input_field e = (key_of e, input_type (input_of e.1))
 
 -- the inputs that an event declares
 abbrev pub event_inputs : List ℕ → Node → List TypedName
-event_inputs event root = map input_field (declared_below (codes "on" ∷ event ∷ codes "inputs" ∷ []) root)
+event_inputs event root =
+    map input_field (declared_below (codes "on" ∷ event ∷ codes "inputs" ∷ []) root)
 
 -- in a workflow those of its call, fused with those of its dispatch; in an action strings
 abbrev pub inputs_type : FileKind → Node → Type'
 inputs_type kind.Workflow root =
-    strictly (put_all put_or_fuse (event_inputs (codes "workflow_call") root) (event_inputs (codes "workflow_dispatch") root))
+    strictly (put_all put_or_fuse (event_inputs (codes "workflow_call") root)
+    (event_inputs (codes "workflow_dispatch") root))
 inputs_type kind.Action root = named_strings (keys_in (declared_below (codes "inputs" ∷ []) root))

@@ -1,5 +1,6 @@
 -- The type of `matrix` in a job (GitHub, "Workflow syntax", `jobs.<job_id>.strategy.matrix`).
-use Rattle.std.specs.Prelude.{List, [], ◌∷◌, Bool, ◌||◌, codes, Option, Some, None, is_some, if◌then◌else◌}
+use Rattle.std.specs.Prelude.{List, [], ◌∷◌, Bool, ◌||◌, codes, Option, Some, None, is_some}
+use Rattle.std.specs.Prelude.{if◌then◌else◌}
 use Rattle.std.specs.List.{filter_map, fold, list_any}
 use Rattle.std.specs.Option.{option_map_or}
 use Rattle.al_scalar.specs.Scalar.{Scalar, text_of}
@@ -7,10 +8,12 @@ use Rattle.al_scalar.specs.declared.styles.Class.{Class}
 use Rattle.al_scalar.specs.declared.styles.Class.TheVariants as class
 use Rattle.al_rules_formats.specs.Chunks.{is_lone_chunk}
 use Rattle.al_rules_formats.specs.declared.chunks.Around.TheVariants.{Nothing}
-use Rattle.al_types.specs.Types.{Type', Any, Null, Number, Bool', String, ArrayOf, Optional, Absent, Present}
+use Rattle.al_types.specs.Types.{Type', Any, Null, Number, Bool', String, ArrayOf, Optional, Absent}
+use Rattle.al_types.specs.Types.{Present}
 use Rattle.al_types.specs.Types.{fuse_optional, option_of, or_any}
 use Rattle.al_yaml_tree.specs.Access.{mapping_in, scalar_in}
-use Rattle.al_yaml_tree.specs.Node.{Node, Nodes, Entries, scalar, sequence, mapping, no_nodes, item, no_entries, entry}
+use Rattle.al_yaml_tree.specs.Node.{Node, Nodes, Entries, scalar, sequence, mapping, no_nodes, item}
+use Rattle.al_yaml_tree.specs.Node.{no_entries, entry}
 use Rattle.al_yaml_tree.specs.View.{entries_of, nodes_of}
 use Rattle.al_tree.specs.Faults.{has_chunk}
 use Rattle.al_tree.specs.Keys.{key_of}
@@ -29,7 +32,9 @@ class_type class.Float = Number
 class_type class.Str = String
 
 abbrev pub matrix_scalar_type : Scalar → Type'
-matrix_scalar_type s = if has_chunk (text_of s) then (if is_lone_chunk Nothing (text_of s) then Any else String) else class_type s.class
+matrix_scalar_type s =
+    if has_chunk (text_of s) then (if is_lone_chunk Nothing (text_of s) then Any else String) else
+    class_type s.class
 
 -- The type of a value: a sequence is an array of what its items have in common, a mapping a strict
 -- object, where the first of equal names counts.
@@ -73,12 +78,16 @@ is_open_include n = is_some (scalar_in n) || list_any (λ i. is_some (scalar_in 
 -- the rows, and what each combination of `include` adds to them
 abbrev pub with_combinations : List TypedName → Option Node → Type'
 with_combinations rows None = strictly rows
-with_combinations rows (Some n) = if is_open_include n then loose_any else strictly (include_all rows (items_in n))
+with_combinations rows (Some n) =
+    if is_open_include n then loose_any else strictly (include_all rows (items_in n))
 
 -- the type of a matrix; one given by a scalar, such as an expression, can have any field
 abbrev pub matrix_of : Node → Type'
-matrix_of n = if is_some (scalar_in n) then loose_any else with_combinations (rows_of n) (value_at (codes "include") n)
+matrix_of n =
+    if is_some (scalar_in n) then loose_any else
+    with_combinations (rows_of n) (value_at (codes "include") n)
 
 -- the type of `matrix` in a job; without a matrix it has no properties
 abbrev pub matrix_type : Node → Type'
-matrix_type job = option_map_or matrix_of (value_below (codes "strategy" ∷ codes "matrix" ∷ []) job) (strictly [])
+matrix_type job =
+    option_map_or matrix_of (value_below (codes "strategy" ∷ codes "matrix" ∷ []) job) (strictly [])

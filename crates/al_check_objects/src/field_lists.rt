@@ -31,7 +31,8 @@ impl<'a> FieldList<'a> {
     /// Appends a field, unless there is one with its name.
     pub fn and(self, name: &'a [u8], ty: Ty) -> Result<FieldList<'a>, AllocError>
         ensures { IfOk result
-            (λ l. (types : declared.Types) (ts : List TypedName) (m : Type') → Lists types self.entry ts
+            (λ l. (types : declared.Types) (ts : List TypedName) (m : Type')
+            → Lists types self.entry ts
             → Means types ty m
             → Lists types l (put_new ts (name.now, m))) }
     {

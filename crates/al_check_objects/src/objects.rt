@@ -24,10 +24,12 @@ pub fn object_of<'a>(
     rest: Option<Ty>,
 ) -> Result<Ty, AllocError>
     requires once { are_once (map (λ f. f.0.now) fields.now) ≡ true }
-    requires known { list_all (is_below (length types.old.objects.items)) (map (λ f. f.1) fields.now) ≡ true }
+    requires known { list_all (is_below (length types.old.objects.items))
+        (map (λ f. f.1) fields.now) ≡ true }
     requires rest { is_rest_below (length types.old.objects.items) rest ≡ true }
     ensures { Makes types.old types.new result
-        (object_with (map (λ f. (f.0.now, type_at types.old f.1)) fields.now) (rest_in (objects_of types.old) rest)) }
+        (object_with (map (λ f. (f.0.now, type_at types.old f.1)) fields.now)
+        (rest_in (objects_of types.old) rest)) }
 {
     let map = FieldMap::of(types.alloc(), fields)?;
     types.fields(map, rest)

@@ -72,4 +72,5 @@ availability ks = fold longer None (filter (λ r. is_path_prefix r.path ks) tabl
 
 -- the meaning of the program's rows
 abbrev pub row_view : rust.Row → Row
-row_view r = record { path = map key_view r.path.now; contexts = r.contexts.now; special = r.special.now }
+row_view r =
+    record { path = map key_view r.path.now; contexts = r.contexts.now; special = r.special.now }

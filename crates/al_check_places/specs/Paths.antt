@@ -15,7 +15,8 @@ Path = List (Option (List ℕ))
 -- a path as it is written: a `.` between its keys, and `*` for any key
 abbrev pub path : String → Path
 path text =
-    map (λ k. if bytes_eq k (codes "*") then None else Some k) (slice_split (nat_eq 46) (codes text))
+    map (λ k. if bytes_eq k (codes "*") then None else Some k)
+    (slice_split (nat_eq 46) (codes text))
 
 -- whether the path is a prefix of the keys
 abbrev pub is_path_prefix : Path → List (List ℕ) → Bool

@@ -85,7 +85,8 @@ abbrev mutual
   places_of_node k shape is_item way (sequence ns at) =
       option_map_or (λ s. places_of_items k s way 0 ns) (rule_or_any (rule shape)).items []
   places_of_node k shape is_item way (mapping es at) =
-      places_of_entries k (rule_or_any (rule (mapping_shape shape (entries es)))).keys_of [] (among (keys_in (entries es))) way es
+      places_of_entries k (rule_or_any (rule (mapping_shape shape (entries es)))).keys_of []
+      (among (keys_in (entries es))) way es
 
   -- the places of the items of a sequence, from the nth on
   pub places_of_items : FileKind → Shape → List WayStep → ℕ → Nodes → List Place
@@ -98,7 +99,8 @@ abbrev mutual
       → Entries → List Place
   places_of_entries k ks seen all way no_entries = []
   places_of_entries k ks seen all way (entry key v es) =
-      entry_places (standing ks (among seen) all (text_of key)) (λ s. places_of_node k s false (way ++ under (text_of key) ∷ []) v)
+      entry_places (standing ks (among seen) all (text_of key))
+      (λ s. places_of_node k s false (way ++ under (text_of key) ∷ []) v)
       ++ places_of_entries k ks (seen ++ text_of key ∷ []) all way es
 
 -- the places of a file with this root

@@ -30,7 +30,8 @@ seen_in_item k i = if bytes_eq k (codes "steps") then steps.Before i else steps.
 
 abbrev pub seen_below : List ℕ → List ℕ → Seen
 seen_below a b =
-    if bytes_eq a (codes "outputs") || (bytes_eq a (codes "environment") && bytes_eq b (codes "url")) then steps.Everything
+    if bytes_eq a (codes "outputs")
+    || (bytes_eq a (codes "environment") && bytes_eq b (codes "url")) then steps.Everything
     else steps.Nothing
 
 abbrev pub seen_at : FileKind → List WayStep → Seen

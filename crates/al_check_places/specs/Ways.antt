@@ -31,15 +31,18 @@ is_one paths ks = list_any (λ p. (length p == length ks) && is_path_prefix p ks
 abbrev pub is_checked_in_workflow : List (List ℕ) → Bool
 is_checked_in_workflow ks =
     if is_path_prefix (path "on") ks
-    then begins_one (map path ("on.workflow_call.inputs.*.default" ∷ "on.workflow_call.outputs.*.value" ∷ [])) ks
-    else not (begins_one (map path ("jobs.*.needs" ∷ "jobs.*.uses" ∷ "jobs.*.steps.id" ∷ "jobs.*.steps.uses" ∷ [])) ks)
+    then begins_one (map path ("on.workflow_call.inputs.*.default"
+    ∷ "on.workflow_call.outputs.*.value" ∷ [])) ks
+    else not (begins_one (map path ("jobs.*.needs" ∷ "jobs.*.uses" ∷ "jobs.*.steps.id"
+    ∷ "jobs.*.steps.uses" ∷ [])) ks)
 
 -- In an action: the defaults of inputs, the values of outputs, and everything below `runs` except
 -- `using`, `id` and `uses`. A default or value is checked only if it is itself a scalar: its way
 -- has no further key and no position.
 abbrev pub is_checked_in_action : ℕ → List (List ℕ) → Bool
 is_checked_in_action steps ks =
-    if is_path_prefix (path "runs") ks then not (begins_one (map path ("runs.using" ∷ "runs.steps.id" ∷ "runs.steps.uses" ∷ [])) ks)
+    if is_path_prefix (path "runs") ks then
+    not (begins_one (map path ("runs.using" ∷ "runs.steps.id" ∷ "runs.steps.uses" ∷ [])) ks)
     else begins_one (map path ("inputs.*.default" ∷ "outputs.*.value" ∷ [])) ks && (steps == 3)
 
 abbrev pub is_checked : FileKind → List WayStep → Bool
@@ -49,7 +52,8 @@ is_checked kind.Action way = is_checked_in_action (length way) (keys_of way)
 -- ways to conditions, and to scripts of steps
 abbrev pub conditions : List Path
 conditions =
-    map path ("jobs.*.if" ∷ "jobs.*.steps.if" ∷ "runs.steps.if" ∷ "runs.pre-if" ∷ "runs.post-if" ∷ [])
+    map path ("jobs.*.if" ∷ "jobs.*.steps.if" ∷ "runs.steps.if" ∷ "runs.pre-if"
+    ∷ "runs.post-if" ∷ [])
 
 abbrev pub scripts : List Path
 scripts = map path ("jobs.*.steps.run" ∷ "runs.steps.run" ∷ [])

@@ -160,7 +160,8 @@ fn find<'a>(
 #[cycle(finds)]
 fn find_items<'a>(shape: Shape, nodes: &'a [Node], walk: &mut Walk<'a>) -> Result<(), AllocError>
     ensures found { OnOk result (places_in walk.new ≡ places_in walk.old
-        ++ places_of_items walk.old.kind shape (way_in walk.old) 0 (nodes_of (map view nodes.now))) }
+        ++ places_of_items walk.old.kind shape (way_in walk.old) 0
+        (nodes_of (map view nodes.now))) }
     ensures way { OnOk result (walk.new.way.steps.items ≡ walk.old.way.steps.items) }
     ensures kind { OnOk result (walk.new.kind ≡ walk.old.kind) }
 {

@@ -41,7 +41,8 @@ impl<'a> Way<'a> {
 
     /// Goes on to the value under a key. Fails with `AllocError` when out of memory, as below.
     pub(crate) fn enter_value(&mut self, key: &'a [u8]) -> Result<(), AllocError>
-        ensures { OnOk result (self.new.steps.items ≡ self.old.steps.items ++ Under key.entry ∷ []) }
+        ensures { OnOk result (self.new.steps.items ≡ self.old.steps.items ++ Under key.entry
+            ∷ []) }
     {
         self.keys.reserve(1)?;
         self.steps.push(WayStep::Under(key))?;
@@ -145,7 +146,8 @@ fn begins_any(paths: &[&[Key]], keys: &[&[u8]]) -> bool
 
 /// Whether the keys are one of these paths.
 fn is_any(paths: &[&[Key]], keys: &[&[u8]]) -> bool
-    ensures { result ≡ is_one (map (λ p. map key_view p.now) paths.now) (map (λ k. k.now) keys.now) }
+    ensures { result ≡ is_one (map (λ p. map key_view p.now) paths.now)
+        (map (λ k. k.now) keys.now) }
 {
     paths.iter().any(|path| is_path(path, keys))
 }

@@ -1,5 +1,6 @@
 -- Files that a run took, in the order in which it put them.
-use Rattle.std.specs.Prelude.{◌≡◌, ◌≤◌, ◌&&◌, ℕ, true, nat_eq, codes, drop, fold, if◌then◌else◌, length, map, List, [], ◌∷◌, ◌++◌}
+use Rattle.std.specs.Prelude.{◌≡◌, ◌≤◌, ◌&&◌, ℕ, true, nat_eq, codes, drop, fold, if◌then◌else◌}
+use Rattle.std.specs.Prelude.{length, map, List, [], ◌∷◌, ◌++◌}
 use Rattle.std.specs.Prelude.{Option, None, Some, Vec}
 use Rattle.std.specs.Cmp.Lexicographic.{slice_cmp}
 use Rattle.std.specs.Global.{Global}
@@ -47,13 +48,15 @@ AreHeld holding (e ∷ es) = IsHeld holding e.0 e.1 × AreHeld holding es
 -- the folder lists no more paths than a run takes, and these are those that it has a file at
 abbrev pub AreListedFiles : Option Holding → List (List ℕ) → Type 0
 AreListedFiles None paths = Unit {0}
-AreListedFiles (Some folder) paths = (listed : List (List ℕ)) × (folder.listed ≡ Some listed) × (length listed ≤ most_files)
+AreListedFiles (Some folder) paths =
+    (listed : List (List ℕ)) × (folder.listed ≡ Some listed) × (length listed ≤ most_files)
     × ((p : List ℕ) → is_among p paths ≡ (is_among p listed && is_file (folder.has p)))
 
 -- the paths that FILEs ask for: their own, in order, each once; if there are no FILEs, those of the
 -- files that the folder lists, ascending
 abbrev pub AreAsked : Option Holding → List (List ℕ) → List (List ℕ) → Type 0
-AreAsked holding [] paths = IsStrictlySortedBy (slice_cmp nat_cmp) paths × AreListedFiles holding paths
+AreAsked holding [] paths =
+    IsStrictlySortedBy (slice_cmp nat_cmp) paths × AreListedFiles holding paths
 AreAsked holding (file ∷ files) paths = paths ≡ each_once (map path_named (file ∷ files))
 
 -- the candidates of the calls of these files
@@ -67,7 +70,8 @@ AreCalled first (e ∷ es) = (is_among e.0 (called_by first) ≡ true) × AreCal
 
 -- Files of a folder in order: first those that these FILEs ask for, then others, each called by a
 -- file before it.
-pub record AreInOrder (holding : Option Holding) (words : List (List ℕ)) (files : List (List ℕ × List ℕ)) : Type 0 where
+pub record AreInOrder (holding : Option Holding) (words : List (List ℕ))
+    (files : List (List ℕ × List ℕ)) : Type 0 where
   pub first : List (List ℕ × List ℕ)
   pub after : List (List ℕ × List ℕ)
   pub all : files ≡ first ++ after
@@ -76,7 +80,8 @@ pub record AreInOrder (holding : Option Holding) (words : List (List ℕ)) (file
   pub held : AreHeld holding files
 
 -- the folder of the files that these FILEs ask for, and of those that they call
-pub record IsGathered (holding : Option Holding) (words : List (List ℕ)) (folder : Folder) : Type 0 where
+pub record IsGathered (holding : Option Holding) (words : List (List ℕ)) (folder : Folder) :
+    Type 0 where
   pub files : List (List ℕ × List ℕ)
   pub gathered : AreGathered files
   pub ordered : AreInOrder holding words files

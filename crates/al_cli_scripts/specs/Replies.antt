@@ -81,4 +81,5 @@ reply_bytes (Err refused) = refused_reply refused
 -- memory ran out and nothing was written, or a write failed after a prefix of the reply
 abbrev pub ReplyStops : Result Edit Refused → Option (List ℕ) → Option (List ℕ) → Stop → Type 0
 ReplyStops reply wrote now stop = ((stop ≡ stops.Memory) × (reply ≡ Err Memory) × Keeps wrote now)
-    ⊎ ((stop ≡ stops.WriteFault) × (reply ≢ Err Memory) × AppendsPrefix wrote now (reply_bytes reply))
+    ⊎ ((stop ≡ stops.WriteFault) × (reply ≢ Err Memory)
+    × AppendsPrefix wrote now (reply_bytes reply))

@@ -29,7 +29,8 @@ replies_to steps folder (c ∷ cs) =
 
 -- these bytes are whole commands and then rest, with the replies to the commands, and the folder
 -- after them
-pub record Served {F : Type 0} (steps : Steps F) (start : F) (bytes : List ℕ) (folder : F) (replies rest : List ℕ) : Type 0 where
+pub record Served {F : Type 0} (steps : Steps F) (start : F) (bytes : List ℕ) (folder : F)
+    (replies rest : List ℕ) : Type 0 where
   pub commands : List Command
   pub each : All IsCommand commands
   pub whole : bytes ≡ flat_map command_bytes commands ++ rest
@@ -42,7 +43,8 @@ Ends steps folder rest out answer = ((rest ≡ []) × (out ≡ []) × (answer �
     ⊎ ((rest ≢ []) × (BeginsWithCommand rest → ⊥) × (out ≡ codes "bad command\n") × (answer ≡ 2))
 
 -- the output and the result of a script over a folder
-pub record Puts {F : Type 0} (steps : Steps F) (start : F) (script out : List ℕ) (answer : ℕ) : Type 0 where
+pub record Puts {F : Type 0} (steps : Steps F) (start : F) (script out : List ℕ) (answer : ℕ) :
+    Type 0 where
   pub folder : F
   pub replies : List ℕ
   pub rest : List ℕ
@@ -57,13 +59,15 @@ abbrev pub PutsPrefix : {F : Type 0} → Steps F → F → List ℕ → Option (
 PutsPrefix steps start script wrote now =
     (out : List ℕ) (answer : ℕ) → Puts steps start script out answer → AppendsPrefix wrote now out
 
--- ---- the result of a run; left and then are the reader's remaining bytes before and after, wrote and now the writer's bytes
+-- ---- the result of a run; left and then are the reader's remaining bytes before and after, wrote
+-- and now the writer's bytes
 
 -- the run wrote the whole output for the waiting bytes and the reader's remaining bytes
 abbrev pub RunsToEnd : {F : Type 0} → Steps F → F → List ℕ → Option (List ℕ) → Option (List ℕ)
     → Option (List ℕ) → ℕ → Type 0
 RunsToEnd steps start waiting left wrote now answer =
-    IfSome left (λ script. (out : List ℕ) × Puts steps start (waiting ++ script) out answer × Appends wrote now out)
+    IfSome left (λ script. (out : List ℕ) × Puts steps start (waiting ++ script) out answer
+    × Appends wrote now out)
 
 -- the run left this folder, which is the one after the whole commands of that script
 abbrev pub LeavesFolder : {F : Type 0} → Steps F → F → List ℕ → Option (List ℕ) → F → Type 0
@@ -78,7 +82,8 @@ IsCutShort steps start waiting left wrote now =
     IfSome left (λ script. PutsPrefix steps start (waiting ++ script) wrote now)
 
 -- the run read these bytes, and answered each whole command in them; the rest isn't wrong
-pub record PausesAfter {F : Type 0} (steps : Steps F) (start folder : F) (waiting : List ℕ) (left then wrote now : Option (List ℕ))
+pub record PausesAfter {F : Type 0} (steps : Steps F) (start folder : F) (waiting : List ℕ)
+    (left then wrote now : Option (List ℕ))
     (read : List ℕ) : Type 0 where
   pub replies : List ℕ
   pub consumed : Consumes left then read
@@ -117,7 +122,8 @@ ReadsLast steps folder waiting left then =
 
 -- all reads but the last returned whole commands and the beginning of one, and the run ended after
 -- the last: it read nothing else
-pub record ReadsNoFurther {F : Type 0} (steps : Steps F) (start : F) (left then : Option (List ℕ)) : Type 0 where
+pub record ReadsNoFurther {F : Type 0} (steps : Steps F) (start : F) (left then : Option (List ℕ)) :
+    Type 0 where
   pub folder : F
   pub replies : List ℕ
   pub waiting : List ℕ
@@ -131,17 +137,22 @@ pub record ReadsNoFurther {F : Type 0} (steps : Steps F) (start : F) (left then 
 
 -- a count of failures: unchanged if a run returned or continues, one more if it stopped at such a
 -- failure
-pub record CountsFailures {T : Type 0} (result : Result T Stop) (stop : Stop) (before now : ℕ) : Type 0 where
+pub record CountsFailures {T : Type 0} (result : Result T Stop) (stop : Stop) (before now : ℕ) :
+    Type 0 where
   pub answered : OnOk result (now ≡ before)
   pub stopped : IsErrOf result stop → HasRisen before now
 
 -- What a run of a script over a folder leaves, with its result: the reader and the writer, before
 -- and after.
-pub record Runs {F R W : Type 0} (steps : Steps F) (start : F) (remaining : R → Option (List ℕ)) (contents : W → Option (List ℕ))
+pub record Runs {F R W : Type 0} (steps : Steps F) (start : F) (remaining : R
+    → Option (List ℕ)) (contents : W → Option (List ℕ))
     (unread left : Input R) (wrote now : Output W) (result : Result ℕ Stop) : Type 0 where
-  pub end : IfOk result (RunsToEnd steps start [] (remaining unread.inner) (contents wrote.inner) (contents now.inner))
-  pub stop : IfErr result (Stops steps start (remaining unread.inner) (remaining left.inner) (contents wrote.inner) (contents now.inner))
-  pub last_read : OnOk result (ReadsNoFurther steps start (remaining unread.inner) (remaining left.inner))
+  pub end : IfOk result (RunsToEnd steps start [] (remaining unread.inner) (contents wrote.inner)
+      (contents now.inner))
+  pub stop : IfErr result (Stops steps start (remaining unread.inner) (remaining left.inner)
+      (contents wrote.inner) (contents now.inner))
+  pub last_read : OnOk result (ReadsNoFurther steps start (remaining unread.inner)
+      (remaining left.inner))
   pub read_failures : CountsFailures result ReadFault unread.failures left.failures
   pub write_failures : CountsFailures result WriteFault wrote.failures now.failures
   pub reads : left.turns ≤ unread.turns + most_reads

@@ -28,7 +28,11 @@ type_of_context ts context.Inputs = ty_of ts.inputs
 
 abbrev pub scope_of : code.Scope → Scope
 scope_of s =
-    record { types = type_of_context s.types; available = available_of s.available; in_run = s.in_run }
+    record {
+      types = type_of_context s.types;
+      available = available_of s.available;
+      in_run = s.in_run;
+    }
 
 -- the types of the contexts, as types in a table
 pub record StandFor (types : Types) (ns : numbers.ContextTypes) (ts : ContextTypes) : Type 0 where

@@ -2,12 +2,14 @@
 use Rattle.std.specs.Prelude.{List, [], ◌∷◌, Option, Some, None, Box, string_bytes}
 use Rattle.std.specs.Global.{Global}
 use Rattle.al_types.specs.Puts.{TypedName, firsts}
-use Rattle.al_types.specs.Types.{Type', Any, Null, Number, Bool', String, ArrayOf, Optional, Absent, Present, Parts}
+use Rattle.al_types.specs.Types.{Type', Any, Null, Number, Bool', String, ArrayOf, Optional, Absent}
+use Rattle.al_types.specs.Types.{Present, Parts}
 use Rattle.al_types.specs.Types.{object_type, parts_with}
 use Rattle.al_expr.specs.declared.trees.Ty.{Ty}
 use Rattle.al_expr.specs.declared.trees.Ty as code
 use Rattle.al_expr.specs.declared.trees.Field.{Field}
-use Rattle.al_expr.specs.declared.trees.Ty.{Row_of-Field, end_of-Field, more_of-Field, Held-Ty-Object-1, None', Some'}
+use Rattle.al_expr.specs.declared.trees.Ty.{Row_of-Field, end_of-Field, more_of-Field}
+use Rattle.al_expr.specs.declared.trees.Ty.{Held-Ty-Object-1, None', Some'}
 
 -- an object with these fields, where the first with each name counts, and with others of a type if
 -- others are possible

@@ -83,7 +83,8 @@ pub(crate) fn add_object(
 ) -> Result<Listing, AllocError>
     ensures { IfOk result
         (λ l. parts_in l
-        ≡ fuse_parts (parts_in so_far) (listed_parts (map field_of fields.now) (rest_of rest.now))) }
+        ≡ fuse_parts (parts_in so_far)
+        (listed_parts (map field_of fields.now) (rest_of rest.now))) }
 {
     let both = add_fields(alloc, fields, so_far)?;
     add_rest(alloc, rest, both)

@@ -2,7 +2,8 @@
 
 ghost use Rattle.std.specs.Prelude.{◌≡◌, ◌<◌, ◌≤◌, IfOk, length, true};
 ghost use Rattle.al_expr_types.specs.Tables.{is_known, objects_of, type_at};
-ghost use Rattle.al_expr_types.specs.Types.{are_fields_below, arrays_of, fields_parts, is_below, is_rest_below};
+ghost use Rattle.al_expr_types.specs.Types.{are_fields_below, arrays_of, fields_parts, is_below};
+ghost use Rattle.al_expr_types.specs.Types.{is_rest_below};
 ghost use Rattle.al_expr_types.specs.Types.{object_in, rest_in, scalar_type, strings_parts};
 ghost use Rattle.al_expr.specs.Listings.{parts_in};
 ghost use Rattle.al_expr.specs.Trees.{field_of, rest_of, ty_of};

@@ -71,7 +71,8 @@ with_content rest start bs (Some len) =
 abbrev pub with_opening : (ℕ → List ℕ → Chunked) → ℕ → List ℕ → Option ℕ → Chunked
 with_opening rest at bs None = no_chunks None
 with_opening rest at bs (Some before) =
-    with_content rest (at + before + 3) (drop (before + 3) bs) (closing_position (drop (before + 3) bs))
+    with_content rest (at + before + 3) (drop (before + 3) bs)
+    (closing_position (drop (before + 3) bs))
 
 -- the chunks of a text whose first byte is at this offset, at most this many
 abbrev pub chunks_within : ℕ → ℕ → List ℕ → Chunked

@@ -35,7 +35,8 @@ mutual
   pub data Derives : Nonterminal → List Lexeme → Tree → List Lexeme → Type 0 where
     single : {l : ℕ} {ts rest : List Lexeme} {t : Tree} → Derives (below l) ts t rest
         → Derives (Binary l) ts t rest
-    chain : {l : ℕ} {ts mid rest : List Lexeme} {t : Tree} {o : Sign × Tree} {os : List (Sign × Tree)} →
+    chain : {l : ℕ} {ts mid rest : List Lexeme} {t : Tree} {o : Sign
+        × Tree} {os : List (Sign × Tree)} →
         Derives (below l) ts t mid → Operators l mid (o ∷ os) rest
         → Derives (Binary l) ts (Chain t (operands_of (o ∷ os))) rest
     positive : {ts rest : List Lexeme} {t : Tree} → Derives Postfix ts t rest
@@ -56,10 +57,13 @@ mutual
     name : {b : List ℕ} {s : Span} {rest : List Lexeme}
         → Derives Primary (lexeme kind.Name b s ∷ rest) (Named b s) rest
     call_empty : {b c d : List ℕ} {s u e : Span} {rest : List Lexeme} →
-        Derives Primary (lexeme kind.Name b s ∷ lexeme kind.Open c u ∷ lexeme kind.Close d e ∷ rest) (Call b s (arguments_of []) e) rest
-    call : {b c d : List ℕ} {s u e : Span} {ts mid rest : List Lexeme} {t : Tree} {more : List Tree} →
+        Derives Primary (lexeme kind.Name b s ∷ lexeme kind.Open c u ∷ lexeme kind.Close d e
+        ∷ rest) (Call b s (arguments_of []) e) rest
+    call : {b c d : List ℕ} {s u e : Span} {ts mid rest : List Lexeme} {t : Tree} {more : List Tree}
+        →
         Derives (Binary 3) ts t mid → Lists mid more (lexeme kind.Close d e ∷ rest)
-        → Derives Primary (lexeme kind.Name b s ∷ lexeme kind.Open c u ∷ ts) (Call b s (arguments_of (t ∷ more)) e) rest
+        → Derives Primary (lexeme kind.Name b s ∷ lexeme kind.Open c u
+        ∷ ts) (Call b s (arguments_of (t ∷ more)) e) rest
     group : {b c : List ℕ} {s e : Span} {ts rest : List Lexeme} {t : Tree} →
         Derives (Binary 3) ts t (lexeme kind.Close c e ∷ rest)
         → Derives Primary (lexeme kind.Open b s ∷ ts) (Group t s e) rest
@@ -67,7 +71,8 @@ mutual
   -- operators of one level with their operands
   pub data Operators : ℕ → List Lexeme → List (Sign × Tree) → List Lexeme → Type 0 where
     no_more : {l : ℕ} {ts : List Lexeme} → Operators l ts [] ts
-    one_more : {l : ℕ} {o : Operator} {b : List ℕ} {s : Span} {ts mid rest : List Lexeme} {t : Tree} {os : List (Sign × Tree)} →
+    one_more : {l : ℕ} {o : Operator} {b : List ℕ} {s : Span} {ts mid rest : List Lexeme} {t : Tree}
+        {os : List (Sign × Tree)} →
         level_of o ≡ l → Derives (below l) ts t mid → Operators l mid os rest
         → Operators l (lexeme (kind.Infix o) b s ∷ ts) ((sign o s, t) ∷ os) rest
 
@@ -77,14 +82,18 @@ mutual
     to_property : {b c : List ℕ} {s d : Span} {ts rest : List Lexeme} {ss : List StepTree} →
         Walks ts ss rest
         → Walks (lexeme kind.Dot c d ∷ lexeme kind.Name b s ∷ ts) (Property d b s ∷ ss) rest
-    to_keyword : {w : Keyword} {b c : List ℕ} {s d : Span} {ts rest : List Lexeme} {ss : List StepTree} →
-        Walks ts ss rest → Walks (lexeme kind.Dot c d ∷ lexeme (kind.Keyword w) b s ∷ ts) (Property d b s ∷ ss) rest
+    to_keyword : {w : Keyword} {b c : List ℕ} {s d : Span} {ts rest : List Lexeme}
+        {ss : List StepTree} →
+        Walks ts ss rest → Walks (lexeme kind.Dot c d ∷ lexeme (kind.Keyword w) b s
+        ∷ ts) (Property d b s ∷ ss) rest
     to_all : {b c : List ℕ} {s d : Span} {ts rest : List Lexeme} {ss : List StepTree} →
         Walks ts ss rest
         → Walks (lexeme kind.Dot c d ∷ lexeme kind.Star b s ∷ ts) (All d s ∷ ss) rest
     to_each : {b c a : List ℕ} {s d e : Span} {ts rest : List Lexeme} {ss : List StepTree} →
-        Walks ts ss rest → Walks (lexeme kind.OpenIndex c d ∷ lexeme kind.Star b s ∷ lexeme kind.CloseIndex a e ∷ ts) (All d e ∷ ss) rest
-    to_index : {b c : List ℕ} {s e : Span} {ts mid rest : List Lexeme} {t : Tree} {ss : List StepTree} →
+        Walks ts ss rest → Walks (lexeme kind.OpenIndex c d ∷ lexeme kind.Star b s
+        ∷ lexeme kind.CloseIndex a e ∷ ts) (All d e ∷ ss) rest
+    to_index : {b c : List ℕ} {s e : Span} {ts mid rest : List Lexeme} {t : Tree}
+        {ss : List StepTree} →
         Derives (Binary 3) ts t (lexeme kind.CloseIndex c e ∷ mid) → Walks mid ss rest
         → Walks (lexeme kind.OpenIndex b s ∷ ts) (Index s t e ∷ ss) rest
 

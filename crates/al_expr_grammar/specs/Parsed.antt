@@ -44,7 +44,8 @@ EndsRule Unary ts = EndsPath ts
 EndsRule Postfix ts = EndsPath ts
 EndsRule Primary ts = Unit {0}
 
-pub record Parsed (p : Nonterminal) (room : ℕ) (ts : List Lexeme) (t : Tree) (rest : List Lexeme) : Type 0 where
+pub record Parsed (p : Nonterminal) (room : ℕ) (ts : List Lexeme) (t : Tree) (rest : List Lexeme) :
+    Type 0 where
   pub derives : Derives p ts t rest
   pub goes : (k : ℕ) (st : List Frame) → StartsAt p k → k + outside st + room ≡ deepest_expression
       → scan E k st (kinds ts) ≡ scan O k st (kinds rest)
@@ -69,17 +70,20 @@ Refused p room ts e =
 abbrev pub Parses : Nonterminal → ℕ → List Lexeme
     → Result (Expr × Bor (List Token)) ParseError → Type 0
 Parses p room ts result =
-    MatchResult result (λ x. Parsed p room ts (expr_view x.0) (map seen x.1.now)) (λ e. Refused p room ts e)
+    MatchResult result (λ x. Parsed p room ts (expr_view x.0) (map seen x.1.now))
+    (λ e. Refused p room ts e)
 
 -- The part of a chain of operators read so far.
-pub record PartOfChain (l room : ℕ) (ts : List Lexeme) (os : List (Sign × Tree)) (rest : List Lexeme) : Type 0 where
+pub record PartOfChain (l room : ℕ) (ts : List Lexeme) (os : List (Sign × Tree))
+    (rest : List Lexeme) : Type 0 where
   pub derives : Operators l ts os rest
   pub goes : (st : List Frame) → outside st + room ≡ deepest_expression
       → scan O 0 st (kinds ts) ≡ scan O 0 st (kinds rest)
   pub shorter : length rest ≤ length ts
 
 -- The part of a path read so far.
-pub record PartOfPath (room : ℕ) (ts : List Lexeme) (ss : List StepTree) (rest : List Lexeme) : Type 0 where
+pub record PartOfPath (room : ℕ) (ts : List Lexeme) (ss : List StepTree) (rest : List Lexeme) :
+    Type 0 where
   pub derives : Walks ts ss rest
   pub goes : (k : ℕ) (st : List Frame) → k + outside st + room ≡ deepest_expression
       → scan O k st (kinds ts) ≡ scan O k st (kinds rest)
@@ -101,7 +105,8 @@ StepRefused room ts e = (k : ℕ) (st : List Frame) → k + outside st + room �
 -- the result of parsing a step
 abbrev pub ParsesStep : ℕ → List Lexeme → Result (PathStep × Bor (List Token)) ParseError → Type 0
 ParsesStep room ts result =
-    MatchResult result (λ x. StepRead room ts (step_of x.0) (map seen x.1.now)) (λ e. StepRefused room ts e)
+    MatchResult result (λ x. StepRead room ts (step_of x.0) (map seen x.1.now))
+    (λ e. StepRefused room ts e)
 
 -- No token of this kind comes first.
 abbrev pub Lacks : TokenKind → List TokenKind → Type 0
@@ -112,7 +117,8 @@ abbrev pub error_at : List Lexeme → ParseError
 error_at ts = error.Unexpected (length ts)
 
 -- the arguments of a call read so far, at least one, inside a call after some negations
-pub record ArgumentsPart (room : ℕ) (ts : List Lexeme) (all : List Tree) (rest : List Lexeme) : Type 0 where
+pub record ArgumentsPart (room : ℕ) (ts : List Lexeme) (all : List Tree) (rest : List Lexeme) :
+    Type 0 where
   pub first : Tree
   pub more : List Tree
   pub mid : List Lexeme
@@ -125,7 +131,8 @@ pub record ArgumentsPart (room : ℕ) (ts : List Lexeme) (all : List Tree) (rest
   pub shorter : length rest < length ts
 
 -- all arguments of a call
-pub record ArgumentsRead (room : ℕ) (ts : List Lexeme) (all : List Tree) (rest : List Lexeme) : Type 0 where
+pub record ArgumentsRead (room : ℕ) (ts : List Lexeme) (all : List Tree) (rest : List Lexeme) :
+    Type 0 where
   pub part : ArgumentsPart room ts all rest
   pub ends : Lacks Comma (kinds rest)
 

@@ -85,7 +85,8 @@ onward (Deeper m k st) room left go = if room then go m k st else TooDeep left
 abbrev pub scan : Mode → ℕ → List Frame → List TokenKind → Verdict
 scan m k st [] = finish m st
 scan m k st (t ∷ ts) =
-    onward (step m k st t) (nat_lt (k + outside st) deepest_expression) (suc (length ts)) (λ m' k' st'. scan m' k' st' ts)
+    onward (step m k st t) (nat_lt (k + outside st) deepest_expression) (suc (length ts))
+    (λ m' k' st'. scan m' k' st' ts)
 
 abbrev pub verdict_of : List TokenKind → Verdict
 verdict_of ts = scan E 0 [] ts

@@ -101,13 +101,18 @@ word_kind b =
 -- the marks; of two that begin alike, the longer one comes first
 abbrev pub marks : List (List ℕ × TokenKind)
 marks =
-    (codes "(", Open) ∷ (codes ")", Close) ∷ (codes "[", OpenIndex) ∷ (codes "]", CloseIndex) ∷ (codes ".", Dot) ∷ (codes ",", Comma)
-    ∷ (codes "*", Star) ∷ (codes "!=", Infix NotEqual) ∷ (codes "!", Bang) ∷ (codes "<=", Infix LessEqual) ∷ (codes "<", Infix Less)
-    ∷ (codes ">=", Infix GreaterEqual) ∷ (codes ">", Infix Greater) ∷ (codes "==", Infix Equal) ∷ (codes "&&", Infix And)
+    (codes "(", Open) ∷ (codes ")", Close) ∷ (codes "[", OpenIndex) ∷ (codes "]", CloseIndex)
+    ∷ (codes ".", Dot) ∷ (codes ",", Comma)
+    ∷ (codes "*", Star) ∷ (codes "!=", Infix NotEqual) ∷ (codes "!", Bang)
+    ∷ (codes "<=", Infix LessEqual) ∷ (codes "<", Infix Less)
+    ∷ (codes ">=", Infix GreaterEqual) ∷ (codes ">", Infix Greater) ∷ (codes "==", Infix Equal)
+    ∷ (codes "&&", Infix And)
     ∷ (codes "||", Infix Or) ∷ []
 
 abbrev pub mark : List ℕ → Read
-mark bs = option_map_or (λ m. Token m.1 (length m.0)) (find (λ m. starts_with nat_eq bs m.0) marks) BadCharacter
+mark bs =
+    option_map_or (λ m. Token m.1 (length m.0)) (find (λ m. starts_with nat_eq bs m.0) marks)
+    BadCharacter
 
 abbrev pub text_read : Option ℕ → Read
 text_read tail = option_map_or (λ n. Token Text (1 + n)) tail OpenText

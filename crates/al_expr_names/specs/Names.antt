@@ -13,14 +13,18 @@ use Rattle.al_expr_names.specs.declared.names.Function.TheVariants as function
 abbrev pub contexts : List (List ℕ × Context)
 contexts =
     (codes "github", context.Github) ∷ (codes "env", context.Env) ∷ (codes "vars", context.Vars)
-    ∷ (codes "secrets", context.Secrets) ∷ (codes "runner", context.Runner) ∷ (codes "job", context.Job)
-    ∷ (codes "strategy", context.Strategy) ∷ (codes "needs", context.Needs) ∷ (codes "jobs", context.Jobs)
-    ∷ (codes "steps", context.Steps) ∷ (codes "matrix", context.Matrix) ∷ (codes "inputs", context.Inputs) ∷ []
+    ∷ (codes "secrets", context.Secrets) ∷ (codes "runner", context.Runner)
+    ∷ (codes "job", context.Job)
+    ∷ (codes "strategy", context.Strategy) ∷ (codes "needs", context.Needs)
+    ∷ (codes "jobs", context.Jobs)
+    ∷ (codes "steps", context.Steps) ∷ (codes "matrix", context.Matrix)
+    ∷ (codes "inputs", context.Inputs) ∷ []
 
 abbrev pub functions : List (List ℕ × Function)
 functions =
     (codes "contains", function.Contains) ∷ (codes "startsWith", function.StartsWith)
-    ∷ (codes "endsWith", function.EndsWith) ∷ (codes "format", function.Format) ∷ (codes "join", function.Join)
+    ∷ (codes "endsWith", function.EndsWith) ∷ (codes "format", function.Format)
+    ∷ (codes "join", function.Join)
     ∷ (codes "toJSON", function.ToJson) ∷ (codes "fromJSON", function.FromJson)
     ∷ (codes "hashFiles", function.HashFiles) ∷ (codes "success", function.Success)
     ∷ (codes "always", function.Always) ∷ (codes "cancelled", function.Cancelled)
@@ -35,7 +39,9 @@ function_of n = lookup (λ name. same_name name n) functions
 
 -- the name of each
 abbrev pub context_name : Context → List ℕ
-context_name c = option_map_or (λ row. row.0) (find (λ row. equal_contexts.ghosts.eq row.1 c) contexts) []
+context_name c =
+    option_map_or (λ row. row.0) (find (λ row. equal_contexts.ghosts.eq row.1 c) contexts) []
 
 abbrev pub function_name : Function → List ℕ
-function_name f = option_map_or (λ row. row.0) (find (λ row. equal_functions.ghosts.eq row.1 f) functions) []
+function_name f =
+    option_map_or (λ row. row.0) (find (λ row. equal_functions.ghosts.eq row.1 f) functions) []

@@ -38,7 +38,8 @@ can_call fs f = not (is_special f) || list_any (λ g. functions.ghosts.eq g f) f
 
 -- these contexts, and these special functions
 abbrev pub available : List Context → List Function → Available
-available cs fs = record { contexts = λ c. list_any (λ d. contexts.ghosts.eq d c) cs; functions = can_call fs }
+available cs fs =
+    record { contexts = λ c. list_any (λ d. contexts.ghosts.eq d c) cs; functions = can_call fs }
 
 abbrev pub available_of : code.Available → Available
 available_of a = available a.contexts.now a.special.now

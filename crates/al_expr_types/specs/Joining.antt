@@ -8,7 +8,8 @@ use Rattle.al_expr_types.specs.declared.joining.Join.TheVariants as join
 use Rattle.al_expr_types.specs.declared.joining.ObjectJoin.{ObjectJoin}
 
 abbrev pub object_join_type : List Parts → ObjectJoin → Type'
-object_join_type ms s = arrays_of s.arrays (object_type (fuse_all (map (object_in ms) s.objects.items)))
+object_join_type ms s =
+    arrays_of s.arrays (object_type (fuse_all (map (object_in ms) s.objects.items)))
 
 abbrev pub join_in : List Parts → Join → Optional
 join_in ms join.Nothing = Absent

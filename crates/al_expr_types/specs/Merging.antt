@@ -1,5 +1,6 @@
 -- Merging objects, name by name.
-use Rattle.std.specs.Prelude.{ℕ, List, get_or, Bool, false, nat_eq, Option, Some, None, if◌then◌else◌}
+use Rattle.std.specs.Prelude.{ℕ, List, get_or, Bool, false, nat_eq, Option, Some, None}
+use Rattle.std.specs.Prelude.{if◌then◌else◌}
 use Rattle.std.specs.List.{list_all}
 use Rattle.al_base.specs.Names.{same_name}
 use Rattle.al_base.specs.NamePlaces.{name_place}

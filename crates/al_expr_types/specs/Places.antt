@@ -9,7 +9,8 @@ use Rattle.al_expr_types.specs.declared.name_index.NameIndex.{NameIndex}
 
 -- the first position of a name, by an index
 unfoldable pub place_in : NameIndex → List ℕ → Option ℕ
-place_in index name = get_by (λ k. key_cmp (sort_key (lower_case name)) (k.0, k.1.items)) index.positions
+place_in index name =
+    get_by (λ k. key_cmp (sort_key (lower_case name)) (k.0, k.1.items)) index.positions
 
 -- an index of the first position of each name in a list
 abbrev pub IsNameIndex : NameIndex → List (List ℕ) → Type 0

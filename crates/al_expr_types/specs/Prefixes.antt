@@ -21,7 +21,8 @@ prefix_parts ms m k = parts_with (named_types ms (names_in m.names) (take k m.ty
 abbrev pub HasPrefix : Types → FieldMap → Option Prefix → Type 0
 HasPrefix types m o =
     let ms = objects_of types in
-    MatchOption o (Unit {0}) (λ p. (p.object < length types.objects.items) × (object_in ms p.object ≡ prefix_parts ms m p.count))
+    MatchOption o (Unit {0}) (λ p. (p.object < length types.objects.items)
+    × (object_in ms p.object ≡ prefix_parts ms m p.count))
 
 -- and these are at most this many
 abbrev pub IsShorter : Option Prefix → ℕ → Type 0

@@ -1,7 +1,8 @@
 -- Types form a set, so that an equation of types can be kept as a fact.
 use Rattle.std.proofs.Common.{◌≡◌, ℕ, List, refl, ap, subst}
 use mathlib.Core.HLevel.{⊥_prop, Unit-prop, Π_prop, ×₃_prop, collapsible→set}
-use Rattle.al_types.specs.Types.{Type', Any, Null, Number, Bool', String, ArrayOf, ObjectOf, Optional, Absent, Present}
+use Rattle.al_types.specs.Types.{Type', Any, Null, Number, Bool', String, ArrayOf, ObjectOf}
+use Rattle.al_types.specs.Types.{Optional, Absent, Present}
 
 abbrev mutual
   same : Type' → Type' → Type 0
@@ -11,7 +12,8 @@ abbrev mutual
   same Bool' Bool' = Unit {0}
   same String String = Unit {0}
   same (ArrayOf a) (ArrayOf b) = same a b
-  same (ObjectOf f r x) (ObjectOf g s y) = ((n : List ℕ) → same_optional (f n) (g n)) × same_optional r s × same_optional x y
+  same (ObjectOf f r x) (ObjectOf g s y) =
+      ((n : List ℕ) → same_optional (f n) (g n)) × same_optional r s × same_optional x y
   same a b = ⊥
 
   same_optional : Optional → Optional → Type 0
@@ -28,7 +30,8 @@ mutual
   same-prop String String = Unit-prop
   same-prop (ArrayOf a) (ArrayOf b) = same-prop a b
   same-prop (ObjectOf f r x) (ObjectOf g s y) =
-      ×₃_prop (Π_prop (λ n. same_optional-prop (f n) (g n))) (same_optional-prop r s) (same_optional-prop x y)
+      ×₃_prop (Π_prop (λ n. same_optional-prop (f n) (g n))) (same_optional-prop r s)
+      (same_optional-prop x y)
   same-prop a b = ⊥_prop
 
   same_optional-prop : (a b : Optional) → IsProp (same_optional a b)
@@ -59,7 +62,8 @@ mutual
   equal String String h = refl
   equal (ArrayOf a) (ArrayOf b) h = ap ArrayOf (equal a b h)
   equal (ObjectOf f r x) (ObjectOf g s y) h =
-      λ d. ObjectOf (λ n. equal_optional (f n) (g n) (h.0 n) d) (equal_optional r s h.1 d) (equal_optional x y h.2 d)
+      λ d. ObjectOf (λ n. equal_optional (f n) (g n) (h.0 n) d) (equal_optional r s h.1 d)
+      (equal_optional x y h.2 d)
   equal a b h = absurd h
 
   equal_optional : (a b : Optional) → same_optional a b → a ≡ b
@@ -69,6 +73,8 @@ mutual
 
 pub Optional-set : IsSet Optional
 Optional-set =
-    collapsible→set (λ (a b : Optional) (e : a ≡ b). equal_optional a b (subst (same_optional a) e (itself_optional a)))
+    collapsible→set (λ (a b : Optional) (e : a ≡ b).
+    equal_optional a b (subst (same_optional a) e (itself_optional a)))
     (λ a b p q. ap (equal_optional a b)
-    (same_optional-prop a b (subst (same_optional a) p (itself_optional a)) (subst (same_optional a) q (itself_optional a))))
+    (same_optional-prop a b (subst (same_optional a) p (itself_optional a))
+    (subst (same_optional a) q (itself_optional a))))

@@ -2,7 +2,8 @@
 use Rattle.std.specs.Prelude.{ℕ, zero, suc, List, [], ◌∷◌, ◌++◌, map, take, zip}
 use Rattle.std.specs.Prelude.{get_or, Bool, true, false, ◌&&◌, nat_lt, Option, Some, None}
 use Rattle.std.specs.List.{list_all}
-use Rattle.al_types.specs.Types.{Type', Any, Null, Number, Bool', String, ArrayOf, Optional, Absent, Present, Parts}
+use Rattle.al_types.specs.Types.{Type', Any, Null, Number, Bool', String, ArrayOf, Optional, Absent}
+use Rattle.al_types.specs.Types.{Present, Parts}
 use Rattle.al_types.specs.Types.{fuse_optional, object_type, parts_with}
 use Rattle.al_types.specs.Strings.{strings}
 use Rattle.al_types.specs.Fused.{fuse_all}
@@ -57,7 +58,8 @@ named_types ms ns ts = zip ns (map (type_in ms) ts)
 
 abbrev pub fields_parts : List Parts → Fields → Parts
 fields_parts ms f =
-    parts_with (named_types ms (names_in f.map.value.names) (take f.count f.map.value.types.items)) (rest_in ms f.rest)
+    parts_with (named_types ms (names_in f.map.value.names) (take f.count f.map.value.types.items))
+    (rest_in ms f.rest)
 
 -- what types have in common
 abbrev pub common_of : List Type' → Optional
@@ -67,8 +69,12 @@ common_of (t ∷ ts) = fuse_optional (Present t) (common_of ts)
 -- what all of its fields have in common is that of the prefix and of the types after it
 abbrev pub extension_parts : List Parts → Extension → Parts
 extension_parts ms e =
-    let p = fields_parts ms e.fields in
-    (p.0, p.1, fuse_optional (object_in ms e.base.object).2 (common_of (map (type_in ms) e.own.items)))
+    let p = fields_parts ms e.fields in (
+      p.0,
+      p.1,
+      fuse_optional (object_in ms e.base.object).2
+          (common_of (map (type_in ms) e.own.items)),
+    )
 
 -- string fields with these names
 abbrev pub strings_parts : List (List ℕ) → Parts

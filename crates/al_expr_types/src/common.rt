@@ -60,7 +60,8 @@ impl<'a> Types<'a> {
         requires { n < length self.now.objects.items }
         ensures common { IfOk result (λ of. IfSome of (λ list. object_in (objects_of self.now) n
             ≡ fuse_all (map (object_in (objects_of self.now)) list.value.items))) }
-        ensures below { IfOk result (λ of. IfSome of (λ list. are_below n list.value.items ≡ true)) }
+        ensures below { IfOk result
+            (λ of. IfSome of (λ list. are_below n list.value.items ≡ true)) }
     {
         let Some(list) = self.members(n)? else {
             return Ok(None);
@@ -78,9 +79,12 @@ impl<'a> Types<'a> {
     /// A list with one more object, or with those that take its place.
     fn and_flat(&mut self, flat: Vec<u32>, n: u32) -> Result<Vec<u32>, AllocError>
         requires { n < length self.old.objects.items }
-        ensures common { IfOk result (λ more. fuse_all (map (object_in (objects_of self.old)) more.items)
-            ≡ fuse_parts (fuse_all (map (object_in (objects_of self.old)) flat.items)) (object_in (objects_of self.old) n)) }
-        ensures below { IfOk result (λ more. are_below (length self.old.objects.items) flat.items ≡ true
+        ensures common { IfOk result
+            (λ more. fuse_all (map (object_in (objects_of self.old)) more.items)
+            ≡ fuse_parts (fuse_all (map (object_in (objects_of self.old)) flat.items))
+            (object_in (objects_of self.old) n)) }
+        ensures below { IfOk result
+            (λ more. are_below (length self.old.objects.items) flat.items ≡ true
             → are_below (length self.old.objects.items) more.items ≡ true) }
         ensures objects { self.new.objects ≡ self.old.objects }
     {
@@ -93,9 +97,11 @@ impl<'a> Types<'a> {
     /// A list of objects, each once, with other objects in place of those that are common to them.
     fn flat(&mut self, objects: &[u32]) -> Result<Vec<u32>, AllocError>
         requires { are_below (length self.old.objects.items) objects.now ≡ true }
-        ensures common { IfOk result (λ flat. fuse_all (map (object_in (objects_of self.old)) flat.items)
+        ensures common { IfOk result
+            (λ flat. fuse_all (map (object_in (objects_of self.old)) flat.items)
             ≡ fuse_all (map (object_in (objects_of self.old)) objects.now)) }
-        ensures below { IfOk result (λ flat. are_below (length self.old.objects.items) flat.items ≡ true) }
+        ensures below { IfOk result
+            (λ flat. are_below (length self.old.objects.items) flat.items ≡ true) }
         ensures objects { self.new.objects ≡ self.old.objects }
     {
         let mut flat = Vec::new(self.alloc);
@@ -121,9 +127,11 @@ impl<'a> Types<'a> {
     /// that grow share their blocks.
     fn grouped(&mut self, flat: Vec<u32>) -> Result<Vec<u32>, AllocError>
         requires { are_below (length self.old.objects.items) flat.items ≡ true }
-        ensures common { IfOk result (λ list. fuse_all (map (object_in (objects_of self.new)) list.items)
+        ensures common { IfOk result
+            (λ list. fuse_all (map (object_in (objects_of self.new)) list.items)
             ≡ fuse_all (map (object_in (objects_of self.old)) flat.items)) }
-        ensures below { IfOk result (λ list. are_below (length self.new.objects.items) list.items ≡ true) }
+        ensures below { IfOk result
+            (λ list. are_below (length self.new.objects.items) list.items ≡ true) }
         ensures kept { BeginsWith (objects_of self.new) (objects_of self.old) }
     {
         let commons = self.leading_commons(flat.as_slice());

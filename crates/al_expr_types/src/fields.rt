@@ -16,7 +16,8 @@ pub struct FieldMap<'a> {
 }
 
 impl<'a> FieldMap<'a> {
-    ghost use Rattle.std.specs.Prelude.{◌<◌, [], List, IfOk, None, get_or, map, option_map, slice_get, take, true, ℕ};
+    ghost use Rattle.std.specs.Prelude.{◌<◌, [], List, IfOk, None, get_or, map, option_map};
+    ghost use Rattle.std.specs.Prelude.{slice_get, take, true, ℕ};
     ghost use Rattle.al_types.specs.Puts.{put_new};
     ghost use Rattle.al_types.specs.Types.{Parts, field_at};
     ghost use Rattle.al_expr_types.specs.FieldMaps.{fields_in, is_map_below};

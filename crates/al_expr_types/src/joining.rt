@@ -5,7 +5,8 @@ ghost use Rattle.al_types.specs.Presence.{is_present};
 ghost use Rattle.al_types.specs.Types.{Any, Parts, Present, fuse_optional, fuse_type};
 ghost use Rattle.al_types.specs.Fused.{fuse_parts, fuse_all};
 ghost use Rattle.al_expr_types.specs.Joining.{is_join_below, join_in, object_join_type};
-ghost use Rattle.al_expr_types.specs.Types.{are_below, arrays_of, base_type, is_below, object_in, type_in};
+ghost use Rattle.al_expr_types.specs.Types.{are_below, arrays_of, base_type, is_below, object_in};
+ghost use Rattle.al_expr_types.specs.Types.{type_in};
 ghost use Rattle.al_expr_types.specs.declared.ty.Base.TheVariants as base;
 
 use crate::ty::{Base, Scalar, Ty};

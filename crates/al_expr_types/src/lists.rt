@@ -67,7 +67,8 @@ impl Lists {
     pub(crate) fn and(&mut self, list: Vec<u32>, n: u32) -> Result<Vec<u32>, AllocError>
         ensures common { IfOk result (λ more. (f : ℕ → Parts)
             → fuse_all (map f more.items) ≡ fuse_parts (fuse_all (map f list.items)) (f n)) }
-        ensures below { IfOk result (λ more. (k : ℕ) → are_below k list.items ≡ true → nat_lt n k ≡ true
+        ensures below { IfOk result
+            (λ more. (k : ℕ) → are_below k list.items ≡ true → nat_lt n k ≡ true
             → are_below k more.items ≡ true) }
     {
         if is_at(list.as_slice(), self.positions.get(n as usize), n) {

@@ -22,7 +22,8 @@ pub struct FieldJoins<'a> {
 impl<'a> FieldJoins<'a> {
     ghost use Rattle.std.specs.Prelude.{Some, List, IfOk, true, ℕ};
     ghost use Rattle.al_types.specs.Strings.{strings};
-    ghost use Rattle.al_types.specs.Types.{Absent, Parts, Present, field_at, fuse_optional, optional};
+    ghost use Rattle.al_types.specs.Types.{Absent, Parts, Present, field_at, fuse_optional};
+    ghost use Rattle.al_types.specs.Types.{optional};
     ghost use Rattle.al_expr_types.specs.Merging.{and_named, are_joins_below, found_in};
     ghost use Rattle.al_expr_types.specs.Types.{are_fields_below, fields_parts, is_below, type_in};
 

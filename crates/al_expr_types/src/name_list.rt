@@ -96,7 +96,8 @@ pub struct NameList {
 impl Model for NameList {
     ghost use Rattle.std.specs.Prelude.{List, ℕ};
     ghost use Rattle.std.specs.Prelude.{◌≡◌};
-    ghost use Rattle.al_base.specs.NamePlaces.{TellsFirsts, is_first_name, name_place, name_position};
+    ghost use Rattle.al_base.specs.NamePlaces.{TellsFirsts, is_first_name, name_place};
+    ghost use Rattle.al_base.specs.NamePlaces.{name_position};
 
     ghost Value = { List (List ℕ) };
 

@@ -26,7 +26,8 @@ impl<'a> Fields<'a> {
     ghost use Rattle.std.specs.Prelude.{◌≡◌, List, IfOk, true, ℕ};
     ghost use Rattle.al_types.specs.Types.{Parts, parts_with};
     ghost use Rattle.al_expr_types.specs.FieldMaps.{fields_in, is_map_below};
-    ghost use Rattle.al_expr_types.specs.Types.{are_fields_below, fields_parts, is_rest_below, rest_in};
+    ghost use Rattle.al_expr_types.specs.Types.{are_fields_below, fields_parts, is_rest_below};
+    ghost use Rattle.al_expr_types.specs.Types.{rest_in};
 
     /// All fields of a map, and the type of other fields, if others are possible. Fails with
     /// `AllocError` when out of memory.

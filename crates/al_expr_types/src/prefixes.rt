@@ -1,6 +1,7 @@
 //! Prefixes of the fields of a map, such as the steps before each step of a job.
 
-ghost use Rattle.std.specs.Prelude.{◌≡◌, ◌<◌, ◌≤◌, Contains, List, None, Some, IfOk, IsTrue, OnOk, length, map, take, true, ℕ};
+ghost use Rattle.std.specs.Prelude.{◌≡◌, ◌<◌, ◌≤◌, Contains, List, None, Some, IfOk, IsTrue, OnOk};
+ghost use Rattle.std.specs.Prelude.{length, map, take, true, ℕ};
 ghost use Rattle.std.specs.List.{list_all};
 ghost use Rattle.al_base.specs.Growth.{BeginsWith};
 ghost use Rattle.al_types.specs.Types.{Parts, fuse_optional, object_type};

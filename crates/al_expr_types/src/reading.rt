@@ -7,7 +7,8 @@ ghost use Rattle.al_types.specs.Fused.{fuse_all};
 ghost use Rattle.al_expr_types.specs.Joining.{is_join_below, join_in};
 ghost use Rattle.al_expr_types.specs.Parts.{part_in};
 ghost use Rattle.al_expr_types.specs.Tables.{objects_of, type_at};
-ghost use Rattle.al_expr_types.specs.Types.{common_of, are_below, are_fields_below, extension_parts, fields_parts};
+ghost use Rattle.al_expr_types.specs.Types.{common_of, are_below, are_fields_below};
+ghost use Rattle.al_expr_types.specs.Types.{extension_parts, fields_parts};
 ghost use Rattle.al_expr_types.specs.Types.{is_below, is_object_below, is_rest_below};
 ghost use Rattle.al_expr_types.specs.Types.{object_in, rest_in, strings_parts, type_in};
 ghost use Rattle.al_expr_types.specs.declared.objects.Object.TheVariants as object;
@@ -42,7 +43,8 @@ fn and_all(alloc: Global, types: &[Ty], so_far: Join) -> Result<Join, AllocError
 /// Joins a type, if there is one, with those so far.
 fn and_one(alloc: Global, ty: Option<Ty>, so_far: Join) -> Result<Join, AllocError>
     ensures part { IfOk result
-        (λ j. (ms : List Parts) → join_in ms j ≡ fuse_optional (join_in ms so_far) (rest_in ms ty)) }
+        (λ j. (ms : List Parts) → join_in ms j
+        ≡ fuse_optional (join_in ms so_far) (rest_in ms ty)) }
     ensures below { IfOk result
         (λ j. (n : ℕ) → is_rest_below n ty ≡ true → is_join_below n so_far ≡ true
         → is_join_below n j ≡ true) }
@@ -122,7 +124,8 @@ impl<'a> Types<'a> {
         ensures part { IfOk result (λ j. join_in (objects_of self.now) j
             ≡ fuse_optional (join_in (objects_of self.now) so_far)
             (part_in part.entry (extension_parts (objects_of self.now) extension.now))) }
-        ensures below { IfOk result (λ j. is_join_below (length self.now.objects.items) so_far ≡ true
+        ensures below { IfOk result
+            (λ j. is_join_below (length self.now.objects.items) so_far ≡ true
             → is_join_below (length self.now.objects.items) j ≡ true) }
     {
         match part {
@@ -141,7 +144,8 @@ impl<'a> Types<'a> {
         ensures part { IfOk result (λ j. join_in (objects_of self.now) j
             ≡ fuse_optional (join_in (objects_of self.now) so_far)
             (part_in part.entry (object_in (objects_of self.now) n))) }
-        ensures below { IfOk result (λ j. is_join_below (length self.now.objects.items) so_far ≡ true
+        ensures below { IfOk result
+            (λ j. is_join_below (length self.now.objects.items) so_far ≡ true
             → is_join_below (length self.now.objects.items) j ≡ true) }
     {
         match part {
@@ -215,7 +219,8 @@ impl<'a> Types<'a> {
         requires { n < length self.now.objects.items }
         ensures common { IfOk result (λ of. IfSome of (λ list. object_in (objects_of self.now) n
             ≡ fuse_all (map (object_in (objects_of self.now)) list.value.items))) }
-        ensures below { IfOk result (λ of. IfSome of (λ list. are_below n list.value.items ≡ true)) }
+        ensures below { IfOk result
+            (λ of. IfSome of (λ list. are_below n list.value.items ≡ true)) }
     {
         match self.object(n) {
             Object::Common(of) => Ok(Some(of.clone()?)),

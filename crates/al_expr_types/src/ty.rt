@@ -1,9 +1,11 @@
 //! Types, which are small and copied.
 
 ghost use Rattle.std.specs.Prelude.{◌≡◌, List, IfOk, MatchOption, false, nat_lt, true, ℕ};
-ghost use Rattle.al_types.specs.Types.{ArrayOf, Parts, assignable_type, fuse_type, is_array, is_collection, is_object, is_plain};
+ghost use Rattle.al_types.specs.Types.{ArrayOf, Parts, assignable_type, fuse_type, is_array};
+ghost use Rattle.al_types.specs.Types.{is_collection, is_object, is_plain};
 ghost use Rattle.al_types.specs.TypeParts.{form_of};
-ghost use Rattle.al_expr_types.specs.Types.{arrays_of, base_type, is_any, is_below, scalar_type, type_in};
+ghost use Rattle.al_expr_types.specs.Types.{arrays_of, base_type, is_any, is_below, scalar_type};
+ghost use Rattle.al_expr_types.specs.Types.{type_in};
 ghost use Rattle.al_expr_types.specs.declared.ty.Base.TheVariants as base;
 
 use al_types::Form;

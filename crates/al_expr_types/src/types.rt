@@ -1,7 +1,8 @@
 //! The table of a file's objects, and the types made from them.
 
 ghost use Rattle.std.specs.Prelude.{◌≡◌, true};
-ghost use Rattle.al_expr_types.specs.Kept.{AreCommons, AreCommons-prop, AreIndexes, AreIndexes-prop};
+ghost use Rattle.al_expr_types.specs.Kept.{AreCommons, AreCommons-prop, AreIndexes};
+ghost use Rattle.al_expr_types.specs.Kept.{AreIndexes-prop};
 ghost use Rattle.al_expr_types.specs.Types.{are_in_order};
 
 use crate::fields::FieldMap;
@@ -44,7 +45,8 @@ impl<'a> Types<'a> {
     ghost use Rattle.al_expr_types.specs.Joining.{is_join_below, join_in};
     ghost use Rattle.al_expr_types.specs.Tables.{is_known, objects_of, type_at};
     ghost use Rattle.al_expr_types.specs.FieldMaps.{fields_in, is_map_below};
-    ghost use Rattle.al_expr_types.specs.Types.{is_object_below, is_rest_below, object_in, object_parts, rest_in};
+    ghost use Rattle.al_expr_types.specs.Types.{is_object_below, is_rest_below, object_in};
+    ghost use Rattle.al_expr_types.specs.Types.{object_parts, rest_in};
 
     /// No objects. Doesn't allocate.
     pub fn new(alloc: Global) -> Types<'a>

@@ -7,4 +7,6 @@ use Rattle.al_expr_names.specs.Scopes.{Scope}
 use Rattle.al_expr_typing.specs.Meaning.{faults_found, meaning_of}
 
 abbrev pub MeaningFaultsLie : Type 0
-MeaningFaultsLie = (content : List ℕ) (t : Tree) (sc : Scope) → Spells content t → AllLie (length content) (faults_found (meaning_of sc t))
+MeaningFaultsLie =
+    (content : List ℕ) (t : Tree) (sc : Scope) → Spells content t
+    → AllLie (length content) (faults_found (meaning_of sc t))

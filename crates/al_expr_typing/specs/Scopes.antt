@@ -27,7 +27,11 @@ context_number ts context.Inputs = ts.inputs
 
 abbrev pub scope_in : List Parts → code.Scope → Scope
 scope_in ms s =
-    record { types = λ c. type_in ms (context_number s.types c); available = available_of s.available; in_run = s.in_run }
+    record {
+      types = λ c. type_in ms (context_number s.types c);
+      available = available_of s.available;
+      in_run = s.in_run;
+    }
 
 abbrev pub scope_view : Types → code.Scope → Scope
 scope_view types s = scope_in (objects_of types) s

@@ -29,4 +29,5 @@ chain_part (Index a t b) = option_map_or (λ text. text.0) (literal_text t) (cod
 
 -- the untrusted chain with these parts, if there is one
 abbrev pub untrusted_chain : List (List ℕ) → Option (List ℕ)
-untrusted_chain ps = find (λ c. pointwise same_name (slice_split (λ b. b == ascii ".") c) ps) untrusted_chains
+untrusted_chain ps =
+    find (λ c. pointwise same_name (slice_split (λ b. b == ascii ".") c) ps) untrusted_chains

@@ -90,7 +90,8 @@ fn check_available(
     ensures { OnOk result
         (faults.new ≡ faults.old
         ++ give (not (can_call scope.now.available.special.now function))
-        (expression_fault code.UnavailableFunction (name.entry).span ((name.entry).text.now ∷ []))) }
+        (expression_fault code.UnavailableFunction (name.entry).span
+        ((name.entry).text.now ∷ []))) }
 {
     if !scope.available.allows(function) {
         let code = ExpressionCode::UnavailableFunction;

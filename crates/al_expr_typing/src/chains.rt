@@ -7,7 +7,8 @@ ghost use Rattle.al_expr_grammar.specs.Refusal.{expression_fault};
 ghost use Rattle.al_expr_grammar.specs.Tree.{operands_of};
 ghost use Rattle.al_expr_grammar.specs.View.{operand_of};
 ghost use Rattle.al_expr_typing.specs.Comparison.{comparable_types};
-ghost use Rattle.al_expr_typing.specs.Meaning.{begins_logic, give, is_logic, operation, typed, faults_then};
+ghost use Rattle.al_expr_typing.specs.Meaning.{begins_logic, give, is_logic, operation, typed};
+ghost use Rattle.al_expr_typing.specs.Meaning.{faults_then};
 ghost use Rattle.al_expr_types.specs.Tables.{is_known, objects_of, type_at};
 ghost use Rattle.al_expr_types.specs.Types.{type_in};
 ghost use Rattle.al_types.specs.Types.{Parts};
@@ -39,7 +40,8 @@ pub(crate) fn operation(
     requires below { is_join_known types.old so_far ≡ true }
     requires present { has_operand types.old so_far ≡ true }
     requires other { is_known types.old operand.ty ≡ true }
-    ensures ok { IfOk result (λ j. typed (type_so_far types.new j) faults.new ≡ faults_then faults.old
+    ensures ok { IfOk result
+        (λ j. typed (type_so_far types.new j) faults.new ≡ faults_then faults.old
         (operation operand.operator operand.at (type_so_far types.old so_far)
         (type_at types.old operand.ty))) }
     ensures below { IfOk result (λ j. is_join_known types.new j ≡ true) }

@@ -13,7 +13,8 @@ pub(crate) fn report_text(
     text: &str,
     faults: &mut FaultSink,
 ) -> Result<(), AllocError>
-    ensures { OnOk result (faults.new ≡ faults.old ++ expression_fault code span (text.now ∷ []) ∷ []) }
+    ensures { OnOk result (faults.new ≡ faults.old ++ expression_fault code span (text.now ∷ [])
+        ∷ []) }
 {
     let args = Args::one(String::from_str(faults.alloc(), text)?);
     faults.report(span, Code::Expression(code), args)

@@ -2,11 +2,13 @@
 
 ghost use Rattle.std.specs.Prelude.{◌≡◌, ◌<◌, IfOk, List, None, length, true, ℕ};
 ghost use Rattle.al_base.specs.Growth.{BeginsWith};
-ghost use Rattle.al_expr_typing.specs.Meaning.{typed, faults_then, property_of, all_of, index_of, not_indexable};
+ghost use Rattle.al_expr_typing.specs.Meaning.{typed, faults_then, property_of, all_of, index_of};
+ghost use Rattle.al_expr_typing.specs.Meaning.{not_indexable};
 ghost use Rattle.al_types.specs.Types.{Parts};
 ghost use Rattle.al_expr_typing.specs.Steps.{is_index};
 ghost use Rattle.al_expr_types.specs.Tables.{is_known, objects_of, type_at};
-ghost use Rattle.al_expr_types.specs.Types.{base_type, is_base_below, is_below, scalar_type, type_in};
+ghost use Rattle.al_expr_types.specs.Types.{base_type, is_base_below, is_below, scalar_type};
+ghost use Rattle.al_expr_types.specs.Types.{type_in};
 
 use crate::reports::report_text;
 use al_base::{Code, ExpressionCode, FaultSink, Span};

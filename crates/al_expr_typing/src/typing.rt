@@ -1,14 +1,17 @@
 //! The type of an expression, and the faults found on the way.
 
-ghost use Rattle.std.specs.Prelude.{◌≡◌, ◌++◌, ◌||◌, ◌&&◌, not, [], List, IfOk, OnOk, map, option_map, true};
+ghost use Rattle.std.specs.Prelude.{◌≡◌, ◌++◌, ◌||◌, ◌&&◌, not, [], List, IfOk, OnOk, map};
+ghost use Rattle.std.specs.Prelude.{option_map, true};
 ghost use Rattle.al_expr_typing.specs.Arguments.{are_known, argument_at};
 ghost use Rattle.al_expr_typing.specs.Scopes.{IsShown, scope_in, scope_view};
 ghost use Rattle.al_types.specs.Types.{Parts};
 ghost use Rattle.al_expr_types.specs.Types as numbers;
 ghost use Rattle.al_expr_types.specs.Tables.{is_known, objects_of, type_at};
 ghost use Rattle.al_base.specs.Growth.{BeginsWith};
-ghost use Rattle.al_expr_typing.specs.Meaning.{typed, type_found, faults_found, faults_then, meaning_of, walk, operations, meanings};
-ghost use Rattle.al_expr_typing.specs.Meaning.{begins_logic, untrusted_faults, all_after, step_from, index_from};
+ghost use Rattle.al_expr_typing.specs.Meaning.{typed, type_found, faults_found, faults_then};
+ghost use Rattle.al_expr_typing.specs.Meaning.{meaning_of, walk, operations, meanings};
+ghost use Rattle.al_expr_typing.specs.Meaning.{begins_logic, untrusted_faults, all_after};
+ghost use Rattle.al_expr_typing.specs.Meaning.{step_from, index_from};
 ghost use Rattle.al_expr_typing.specs.Steps.{base_name};
 ghost use Rattle.al_expr_typing.specs.Meaning as meaning;
 ghost use Rattle.al_expr_typing.specs.Literals.{literal_text};
@@ -44,7 +47,8 @@ pub fn type_of(
         ≡ type_found (meaning_of (scope_view types.old scope.now) (expr_view expr.now))) }
     ensures faults { OnOk result
         (faults.new
-        ≡ faults.old ++ faults_found (meaning_of (scope_view types.old scope.now) (expr_view expr.now))) }
+        ≡ faults.old ++ faults_found
+        (meaning_of (scope_view types.old scope.now) (expr_view expr.now))) }
     ensures known { IfOk result (λ t. is_known types.new t ≡ true) }
     ensures kept { BeginsWith (objects_of types.new) (objects_of types.old) }
 {
@@ -251,7 +255,8 @@ fn index_from(
     requires known { is_known types.old left.ty ≡ true }
     ensures ok { IfOk result (λ t. typed (type_at types.new t) faults.new ≡ faults_then faults.old
         (index_from (literal_text (expr_view index.now)) whole (type_at types.old (left.entry).ty)
-        (meaning.meaning (scope_view types.old (left.entry).around.scope.now) (left.entry).around.safe
+        (meaning.meaning (scope_view types.old (left.entry).around.scope.now)
+        (left.entry).around.safe
         (expr_view index.now)))) }
     ensures known { IfOk result (λ t. is_known types.new t ≡ true) }
     ensures shown { IsShown types.new (left.entry).around.scope.now }

@@ -11,7 +11,8 @@ pub fn placeholder_rows()
     ensures twice { used_arguments 2 (codes "{0}{0}") ≡ Some (true ∷ false ∷ []) }
     ensures zero_in_front { used_arguments 2 (codes "{01}") ≡ Some (false ∷ true ∷ []) }
     ensures ten { used_arguments 11 (codes "a{10}")
-        ≡ Some (false ∷ false ∷ false ∷ false ∷ false ∷ false ∷ false ∷ false ∷ false ∷ false ∷ true ∷ []) }
+        ≡ Some (false ∷ false ∷ false ∷ false ∷ false ∷ false ∷ false ∷ false ∷ false ∷ false ∷ true
+        ∷ []) }
     ensures braces { used_arguments 1 (codes "{{0}}") ≡ Some (false ∷ []) }
     ensures in_braces { used_arguments 1 (codes "{{{0}}}") ≡ Some (true ∷ []) }
     ensures past_the_arguments { used_arguments 2 (codes "{0} {2}") ≡ None }

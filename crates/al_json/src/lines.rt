@@ -10,7 +10,8 @@ use std::io::Write;
 
 // Writes a text and a line feed, and flushes the writer.
 fn write_line<W: Write>(writer: &mut W, line: &str) -> io::Result<()>
-    ensures { OnOk result (Appends (W.contents writer.old) (W.contents writer.new) (line.now ++ 10 ∷ [])) }
+    ensures { OnOk result (Appends (W.contents writer.old) (W.contents writer.new)
+        (line.now ++ 10 ∷ [])) }
 {
     writer.write_all(line.as_bytes())?;
     writer.write_all(b"\n")?;

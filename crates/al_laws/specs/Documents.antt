@@ -21,13 +21,15 @@ document_within bound size ls = do
 -- `tree_of`, with another bound than the file's length plus one
 abbrev pub tree_within : ℕ → List ℕ → Result Node FaultAt
 tree_within bound bs =
-    unless_fault (byte_fault bs) (within_limits 0 0 (document_within bound (length bs) (file_lines bs) no_anchors))
+    unless_fault (byte_fault bs) (within_limits 0 0
+    (document_within bound (length bs) (file_lines bs) no_anchors))
 
 -- With any bound greater than the file's length, all starts of nodes, the anchors, and the root or
 -- the first fault are those that the definition gives.
 abbrev pub BoundReadsAll : Type 0
 BoundReadsAll = (bound : ℕ) (bs : List ℕ) → length bs < bound
-    → document_within bound (length bs) (file_lines bs) no_anchors ≡ document (length bs) (file_lines bs) no_anchors
+    → document_within bound (length bs) (file_lines bs) no_anchors
+    ≡ document (length bs) (file_lines bs) no_anchors
 
 -- With any bound greater than the file's length, a file has the same tree, or the same fault.
 abbrev pub BoundGivesTree : Type 0

@@ -23,17 +23,20 @@ use Rattle.al_rules_formats.specs.declared.schedules.Item.{Item}
 -- an activity type that isn't in the event's row
 abbrev pub activity_type_faults : List ℕ → Node → List Fault
 activity_type_faults name event =
-    option_map_or (λ types. flat_map (λ s. unless_among UnknownActivity types (of_scalar s)) (texts_at (codes "types") event))
+    option_map_or (λ types. flat_map (λ s. unless_among UnknownActivity types (of_scalar s))
+    (texts_at (codes "types") event))
     (activities_of name) []
 
 -- a filter that isn't a pattern
 abbrev pub filter_faults : Filter → Node → List ℕ → List Fault
 filter_faults filter event key =
-    flat_map (λ s. unless (is_pattern filter (of_scalar s).text) WrongPattern (of_scalar s)) (texts_at key event)
+    flat_map (λ s. unless (is_pattern filter (of_scalar s).text) WrongPattern (of_scalar s))
+    (texts_at key event)
 
 abbrev pub filters_faults : Node → List Fault
 filters_faults event =
-    flat_map (filter_faults Names event) (codes "branches" ∷ codes "branches-ignore" ∷ codes "tags" ∷ codes "tags-ignore" ∷ [])
+    flat_map (filter_faults Names event) (codes "branches" ∷ codes "branches-ignore" ∷ codes "tags"
+    ∷ codes "tags-ignore" ∷ [])
     ++ flat_map (filter_faults Paths event) (codes "paths" ∷ codes "paths-ignore" ∷ [])
 
 -- a schedule outside the grammar, and one that runs too often
@@ -43,11 +46,14 @@ schedule_faults (Some items) n = unless (not (is_too_often items)) ScheduleTooOf
 
 abbrev pub cron_faults : Node → List Fault
 cron_faults entry =
-    option_map_or (λ s. schedule_faults (schedule_of (of_scalar s).text) (of_scalar s)) (text_at_key (codes "cron") entry) []
+    option_map_or (λ s. schedule_faults (schedule_of (of_scalar s).text) (of_scalar s))
+    (text_at_key (codes "cron") entry) []
 
 -- an input of an unknown type
 abbrev pub input_faults : List (List ℕ) → Scalar × Node → List Fault
-input_faults types m = option_map_or (λ s. unless_among UnknownInputType types (of_scalar s)) (text_at_key (codes "type") m.1) []
+input_faults types m =
+    option_map_or (λ s. unless_among UnknownInputType types (of_scalar s))
+    (text_at_key (codes "type") m.1) []
 
 abbrev pub inputs_faults : List (List ℕ) → Node → List Fault
 inputs_faults types event = flat_map (input_faults types) (entries_at (codes "inputs") event)

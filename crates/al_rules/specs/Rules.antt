@@ -43,7 +43,9 @@ container_faults c = env_faults c ++ credentials_faults c
 
 -- the faults of a workflow or a job as a section
 abbrev pub section_faults : Node → List Fault
-section_faults n = permissions_faults n ++ env_faults n ++ shell_faults (text_below (codes "defaults" ∷ codes "run" ∷ codes "shell" ∷ []) n)
+section_faults n =
+    permissions_faults n ++ env_faults n
+    ++ shell_faults (text_below (codes "defaults" ∷ codes "run" ∷ codes "shell" ∷ []) n)
 
 abbrev pub containers_faults : Node → List Fault
 containers_faults job =
@@ -70,7 +72,8 @@ workflow_faults root =
 abbrev pub no_shell_faults : Node → List Fault
 no_shell_faults step =
     if is_some (value_at (codes "shell") step) then []
-    else option_map_or (λ key. rule_fault MissingShell key.span [] ∷ []) (key_at (codes "run") step) []
+    else option_map_or (λ key. rule_fault MissingShell key.span []
+    ∷ []) (key_at (codes "run") step) []
 
 -- an output of a composite action without a value
 abbrev pub output_faults : Scalar × Node → List Fault
@@ -100,7 +103,8 @@ scalar_of_value n = option_map of_scalar (scalar_in n)
 
 abbrev pub runs_faults : Node → Node → List Fault
 runs_faults root runs =
-    option_map_or (λ n. using_faults root runs n (runs_of n.text)) (option_and_then scalar_of_value (value_at (codes "using") runs)) []
+    option_map_or (λ n. using_faults root runs n (runs_of n.text))
+    (option_and_then scalar_of_value (value_at (codes "using") runs)) []
 
 abbrev pub action_faults : Node → List Fault
 action_faults root = option_map_or (runs_faults root) (value_at (codes "runs") root) []

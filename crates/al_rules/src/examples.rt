@@ -25,8 +25,10 @@ ghost use Rattle.std.specs.Prelude.{◌≡◌, [], ◌∷◌, codes};
 pub fn rows()
     ensures unknown_event { workflow_faults file.unknown_event
         ≡ rule_fault UnknownEvent (at 4 7) (codes "pus" ∷ []) ∷ [] }
-    ensures wrong_activity { workflow_faults file.wrong_activity ≡ rule_fault UnknownActivity (at 34 39) (codes "close" ∷ []) ∷ [] }
-    ensures wrong_patterns { workflow_faults file.wrong_patterns ≡ rule_fault WrongPattern (at 27 32) (codes "a[b" ∷ []) ∷
+    ensures wrong_activity { workflow_faults file.wrong_activity
+        ≡ rule_fault UnknownActivity (at 34 39) (codes "close" ∷ []) ∷ [] }
+    ensures wrong_patterns { workflow_faults file.wrong_patterns
+        ≡ rule_fault WrongPattern (at 27 32) (codes "a[b" ∷ []) ∷
         rule_fault WrongPattern (at 51 57) (codes "!./x" ∷ []) ∷ [] }
     ensures schedules { workflow_faults file.schedules ≡
         rule_fault WrongSchedule (at 28 37) (codes "0 0 * * 7" ∷ []) ∷

@@ -27,12 +27,15 @@ range low high names = record { low = low; high = high; names = names }
 
 abbrev pub month_names : List (List ℕ × ℕ)
 month_names =
-    (codes "jan", 1) ∷ (codes "feb", 2) ∷ (codes "mar", 3) ∷ (codes "apr", 4) ∷ (codes "may", 5) ∷ (codes "jun", 6)
-    ∷ (codes "jul", 7) ∷ (codes "aug", 8) ∷ (codes "sep", 9) ∷ (codes "oct", 10) ∷ (codes "nov", 11) ∷ (codes "dec", 12) ∷ []
+    (codes "jan", 1) ∷ (codes "feb", 2) ∷ (codes "mar", 3) ∷ (codes "apr", 4) ∷ (codes "may", 5)
+    ∷ (codes "jun", 6)
+    ∷ (codes "jul", 7) ∷ (codes "aug", 8) ∷ (codes "sep", 9) ∷ (codes "oct", 10) ∷ (codes "nov", 11)
+    ∷ (codes "dec", 12) ∷ []
 
 abbrev pub day_names : List (List ℕ × ℕ)
 day_names =
-    (codes "sun", 0) ∷ (codes "mon", 1) ∷ (codes "tue", 2) ∷ (codes "wed", 3) ∷ (codes "thu", 4) ∷ (codes "fri", 5) ∷ (codes "sat", 6) ∷ []
+    (codes "sun", 0) ∷ (codes "mon", 1) ∷ (codes "tue", 2) ∷ (codes "wed", 3) ∷ (codes "thu", 4)
+    ∷ (codes "fri", 5) ∷ (codes "sat", 6) ∷ []
 
 -- the number with these decimal digits
 abbrev pub written_number : List ℕ → Option ℕ
@@ -62,7 +65,8 @@ head_of r step (a ∷ []) =
     if bytes_eq a (codes "*") then from_to (unwrap_or step 1) r.low r.high
     else option_and_then (from_value r step) (schedule_value r a)
 head_of r step (a ∷ b ∷ []) =
-    option_and_then (λ m. option_and_then (from_to (unwrap_or step 1) m) (schedule_value r b)) (schedule_value r a)
+    option_and_then (λ m. option_and_then (from_to (unwrap_or step 1) m) (schedule_value r b))
+    (schedule_value r a)
 head_of r step _ = None
 
 -- a head, optionally with a slash and a step from 1 to the greatest value

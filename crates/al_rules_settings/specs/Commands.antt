@@ -20,7 +20,8 @@ part_span s i n = record { start = offset_of s i; end = place_after (offset_of s
 -- a command: the text that it begins with, and its name
 abbrev pub commands : List (List ℕ × List ℕ)
 commands =
-    (codes "::set-output name=", codes "set-output") ∷ (codes "::save-state name=", codes "save-state")
+    (codes "::set-output name=", codes "set-output")
+    ∷ (codes "::save-state name=", codes "save-state")
     ∷ (codes "::set-env name=", codes "set-env") ∷ (codes "::add-path::", codes "add-path") ∷ []
 
 abbrev pub command_fault : Scalar → List ℕ → List ℕ → ℕ → Fault

@@ -58,7 +58,8 @@ exclude_faults place n = unless (is_some (place n.text)) UnknownMatrixRow n
 abbrev pub mapping_faults : Node → List Fault
 mapping_faults n =
     flat_map row_faults (entries_in n)
-    ++ flat_map (exclude_faults (name_place (row_names (entries_in n)))) (exclude_keys (items_at (codes "exclude") n))
+    ++ flat_map (exclude_faults (name_place (row_names (entries_in n))))
+    (exclude_keys (items_at (codes "exclude") n))
 
 abbrev pub matrix_faults : Node → List Fault
 matrix_faults n =

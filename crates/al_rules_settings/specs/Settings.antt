@@ -55,7 +55,8 @@ env_faults section = flat_map variable_faults (entries_at (codes "env") section)
 
 -- a password that isn't one expression
 abbrev pub is_password : Node → Bool
-is_password n = option_map_or (λ s. is_null s || is_lone_chunk Nothing (text_of s)) (scalar_in n) false
+is_password n =
+    option_map_or (λ s. is_null s || is_lone_chunk Nothing (text_of s)) (scalar_in n) false
 
 abbrev pub password_faults : Node → List Fault
 password_faults n = if is_password n then []
@@ -63,7 +64,9 @@ password_faults n = if is_password n then []
 
 -- the fault of the credentials of a container or a service
 abbrev pub credentials_faults : Node → List Fault
-credentials_faults container = option_map_or password_faults (value_below (codes "credentials" ∷ codes "password" ∷ []) container) []
+credentials_faults container =
+    option_map_or password_faults (value_below (codes "credentials" ∷ codes "password"
+    ∷ []) container) []
 
 -- the deprecated commands of a script
 abbrev pub script_faults : Option Scalar → List Fault
@@ -75,4 +78,5 @@ is_always_true text = has_chunk text && not (is_lone_chunk Blanks text)
 
 abbrev pub condition_faults : Option Scalar → List Fault
 condition_faults condition =
-    option_map_or (λ s. if is_always_true (text_of s) then rule_fault AlwaysTrue s.span [] ∷ [] else []) condition []
+    option_map_or (λ s. if is_always_true (text_of s) then rule_fault AlwaysTrue s.span []
+    ∷ [] else []) condition []

@@ -79,7 +79,11 @@ rows_at m found (l ∷ ls) =
     let below = rows_at m (found || not (is_all_blank l.text)) ls in
     elim (row_of m found l.text) [
       | None ↦ record { rows = []; left = l ∷ ls }
-      | Some text ↦ (if l.last then record { rows = record { text = text; break = [] } ∷ []; left = at_end l }
+      | Some text ↦ (if l.last then record {
+        rows = record { text = text; break = [] }
+            ∷ [];
+        left = at_end l;
+      }
           else with_row (record { text = text; break = l.end ∷ [] }) below)
     ]
 
@@ -131,5 +135,11 @@ block_scalar is_literal within [] = fault yaml.UnexpectedCharacter 0
 block_scalar is_literal within (l ∷ ls) =
     header None None (place l.text l.end + 1) (drop 1 l.text) >>= (λ h.
     let m = content_indent h.digit within ls in
-    let rs = (if l.last then record { rows = []; left = at_end l } else rows_at m (is_some h.digit) ls) in
-    Ok (record { text = text_after is_literal h.chomping None [] rs.rows; end = rows_end h.end rs.rows; left = rs.left }))
+    let rs =
+    (if l.last then record { rows = []; left = at_end l } else
+    rows_at m (is_some h.digit) ls) in
+    Ok (record {
+      text = text_after is_literal h.chomping None [] rs.rows;
+      end = rows_end h.end rs.rows;
+      left = rs.left;
+    }))

@@ -18,7 +18,8 @@ abbrev pub nulls : List (List ℕ)
 nulls = [] ∷ codes "null" ∷ codes "Null" ∷ codes "NULL" ∷ codes "~" ∷ []
 
 abbrev pub booleans : List (List ℕ)
-booleans = codes "true" ∷ codes "True" ∷ codes "TRUE" ∷ codes "false" ∷ codes "False" ∷ codes "FALSE" ∷ []
+booleans =
+    codes "true" ∷ codes "True" ∷ codes "TRUE" ∷ codes "false" ∷ codes "False" ∷ codes "FALSE" ∷ []
 
 abbrev pub infinities : List (List ℕ)
 infinities = codes ".inf" ∷ codes ".Inf" ∷ codes ".INF" ∷ []

@@ -75,7 +75,8 @@ plain_lines p here break empties (l ∷ ls) =
     let below = plain_lines p there l.end [] ls in
     if is_empty text then with_empty
     else (if not (continues p l.text) then Ok here
-    else (if not (is_flow p) && is_value_colon p rest then fault yaml.UnexpectedCharacter (place rest l.end)
+    else (if not (is_flow p) && is_value_colon p rest then
+    fault yaml.UnexpectedCharacter (place rest l.end)
     else before (folded_break break empties ++ part.0) (if is_empty rest then below else Ok there)))
 
 -- a plain scalar, whose first character begins the first line

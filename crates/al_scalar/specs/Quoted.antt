@@ -112,7 +112,10 @@ abbrev mutual
         | Some d ↦ escape_character at (16 * value + d) (double_part cs)
       ]
   escape_digits at (suc n) value (c ∷ cs) =
-      elim (hex_digit c.0) [ None ↦ fault yaml.WrongEscape at | Some d ↦ escape_digits at n (16 * value + d) cs ]
+      elim (hex_digit c.0) [
+        | None ↦ fault yaml.WrongEscape at
+        | Some d ↦ escape_digits at n (16 * value + d) cs
+      ]
 
 -- The result at a line, by how it ends; its break is folded unless it is escaped. quote is the
 -- offset of the opening quote.
@@ -121,8 +124,10 @@ abbrev pub line_given : ℕ → List Cell → QuotedLine → Line → List Line
 line_given quote space p l ls below =
     elim p.stop [
       | closed end rest ↦ Ok (record { text = space ++ p.text; end = end; left = cut rest l ls })
-      | cut_short at ↦ (if l.last then fault yaml.UnclosedQuote quote else fault yaml.WrongEscape at)
-      | _ ↦ (if l.last then fault yaml.UnclosedQuote quote else before (space ++ p.text) (below (then_some (is_broken p.stop) l.end)))
+      | cut_short at ↦ (if l.last then fault yaml.UnclosedQuote quote else
+          fault yaml.WrongEscape at)
+      | _ ↦ (if l.last then fault yaml.UnclosedQuote quote else
+          before (space ++ p.text) (below (then_some (is_broken p.stop) l.end)))
     ]
 
 -- a line between the first and the last that is all blanks

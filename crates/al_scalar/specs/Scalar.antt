@@ -37,7 +37,8 @@ class_in _ cs = class.Str
 
 abbrev pub read_as : Style → ℕ → Result Taken FaultAt → Result ScalarRead FaultAt
 read_as style at taken = taken >>= (λ t. Ok (record {
-  scalar = record { style = style; class = class_in style t.text; cells = t.text; span = span at t.end };
+  scalar =
+      record { style = style; class = class_in style t.text; cells = t.text; span = span at t.end };
   left = t.left;
 }))
 

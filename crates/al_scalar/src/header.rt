@@ -70,7 +70,8 @@ fn after_digit(bytes: &[u8], at: usize, digit: u8) -> Header
 /// The header after its sign.
 fn after_sign(bytes: &[u8], at: usize, chomping: Chomping) -> Header
     requires { at ≤ length bytes.now }
-    ensures { Indicates bytes.now at (header None (Some chomping) at (text_at bytes.now at)) result }
+    ensures { Indicates bytes.now at (header None (Some chomping) at (text_at bytes.now at))
+        result }
 {
     match first_byte(bytes, at) {
         Some(digit @ b'1'..=b'9') => Header {

@@ -52,7 +52,8 @@ fn literal_run(bytes: &[u8], at: usize, quotes: Quotes) -> Run
     ensures order { result.end ≤ result.next }
     ensures inside { result.next ≤ length bytes.now }
     ensures ends { EndsRun quotes bytes.now result.next }
-    ensures reads { ReadsOn quotes bytes.now at (cells_between bytes.now at result.end) result.next }
+    ensures reads { ReadsOn quotes bytes.now at (cells_between bytes.now at result.end)
+        result.next }
 {
     let mut end = at;
     'characters: loop {
@@ -160,7 +161,8 @@ fn numeric_escape(bytes: &[u8], backslash: usize, count: usize) -> Mark
     requires size { length bytes.now < 2 ^ 32 }
     requires escape { slice_index bytes.now backslash ≡ 92 }
     requires other { lookup (λ k. k == slice_index bytes.now (backslash + 1)) escape_table ≡ None }
-    requires letter { lookup (λ k. k == slice_index bytes.now (backslash + 1)) digits_table ≡ Some count }
+    requires letter { lookup (λ k. k == slice_index bytes.now (backslash + 1)) digits_table
+        ≡ Some count }
     requires few { count ≤ 8 }
     ensures { GivesMark Double bytes.now backslash result }
 {

@@ -206,7 +206,12 @@ pub fn scalar_read(
     requires start { at < 2 ^ 32 }
     requires end { taken.end < 2 ^ 32 }
     ensures scalar { IfOk result (λ read. read.scalar
-        ≡ record { style = style; class = class; cells = taken.text; span = record { start = at; end = taken.end } }) }
+        ≡ record {
+          style = style;
+          class = class;
+          cells = taken.text;
+          span = record { start = at; end = taken.end };
+        }) }
     ensures next { IfOk result (λ read. read.next ≡ taken.next) }
 {
     let span = Span {

@@ -139,7 +139,8 @@ impl Model for LongText {
 
     ghost view = { λ t. cells_from 0 t.bytes.items t.runs };
 
-    ghost invariant = { λ t. IsOrdered (length t.bytes.items) t.runs × AreInRange (cells_from 0 t.bytes.items t.runs) };
+    ghost invariant = { λ t. IsOrdered (length t.bytes.items) t.runs
+        × AreInRange (cells_from 0 t.bytes.items t.runs) };
 }
 
 impl LongText {

@@ -15,9 +15,12 @@ SamePutChangesNothing eq m f = (p b : List ℕ) → bytes_at f p ≡ Some b →
 
 -- Two files make the same folder, whichever is put first.
 abbrev pub PutsInAnyOrder : Folder → Type 0
-PutsInAnyOrder f = (p b q c : List ℕ) → p ≢ q → with_file (with_file f p b) q c ≡ with_file (with_file f q c) p b
+PutsInAnyOrder f =
+    (p b q c : List ℕ) → p ≢ q → with_file (with_file f p b) q c ≡ with_file (with_file f q c) p b
 
 -- A file that a change doesn't affect keeps its faults.
 abbrev pub OthersKeepFaults : {I : Type 0} → (I → I → Bool) → Meaning I → Folder → Type 0
-OthersKeepFaults eq m f = (g : Folder) → IsStrictlySortedBy (slice_cmp nat_cmp) (paths_of g) → (q b : List ℕ) → bytes_at g q ≡ Some b →
+OthersKeepFaults eq m f =
+    (g : Folder) → IsStrictlySortedBy (slice_cmp nat_cmp) (paths_of g) → (q b : List ℕ)
+    → bytes_at g q ≡ Some b →
     is_among q (affected_paths eq m f g) ≡ false → faults_at m g q ≡ faults_at m f q

@@ -14,7 +14,8 @@ pub record SessionState : Type 0 where
   pub reads : ℕ
 
 -- The invariant of what a session keeps: the faults and the index are those of its folder.
-pub record AreLinted {U I S R : Type 0} (m : Meaning I) (is_unit : U → List ℕ → List ℕ → Type 0) (files : Files U I)
+pub record AreLinted {U I S R : Type 0} (m : Meaning I) (is_unit : U → List ℕ → List ℕ
+    → Type 0) (files : Files U I)
     (callers : Callers S R) : Type 0 where
   pub kept : AreKept m is_unit files
   pub faults : AllChecked m (folder_of files) files
@@ -24,12 +25,15 @@ pub record AreLinted {U I S R : Type 0} (m : Meaning I) (is_unit : U → List �
 abbrev pub folder_in : {U I : Type 0} → IndexedFiles U I → Folder
 folder_in kept = folder_of kept.files.entries
 
-abbrev pub IsLinted : {U I : Type 0} → Meaning I → (U → List ℕ → List ℕ → Type 0) → IndexedFiles U I → Type 0
+abbrev pub IsLinted : {U I : Type 0} → Meaning I → (U → List ℕ → List ℕ → Type 0)
+    → IndexedFiles U I → Type 0
 IsLinted m is_unit kept = AreLinted m is_unit kept.files.entries kept.callers
 
 -- What a put of these bytes adds to the count of reads: at most one; none if the file already has
 -- these bytes, and one if it doesn't and the put can be refused only because memory ran out.
-pub record ReadsForPut {I : Type 0} (m : Meaning I) (f : Folder) (path bytes : List ℕ) (before now : ℕ) : Type 0 where
+pub record ReadsForPut {I : Type 0} (m : Meaning I) (f : Folder) (path bytes : List ℕ)
+    (before now : ℕ) : Type 0 where
   pub at_most : IsUpTo before now 1
   pub there : bytes_at f path ≡ Some bytes → now ≡ before
-  pub read_once : put_refusal m f path bytes ≡ None → bytes_at f path ≢ Some bytes → now ≡ count_after before 1
+  pub read_once : put_refusal m f path bytes ≡ None → bytes_at f path ≢ Some bytes → now
+      ≡ count_after before 1

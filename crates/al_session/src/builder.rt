@@ -3,7 +3,8 @@
 ghost use Rattle.std.specs.Prelude.{◌≡◌, ◌≢◌, [], None, length, IfOk, OnOk, OnErr, IfErr};
 ghost use Rattle.std.specs.Option.{option_copied, option_map};
 ghost use Rattle.al_base.specs.Counted.{count_after};
-ghost use Rattle.al_session_folder.specs.Folder.{bytes_at, put_refusal, refusal_or_memory, with_file};
+ghost use Rattle.al_session_folder.specs.Folder.{bytes_at, put_refusal, refusal_or_memory};
+ghost use Rattle.al_session_folder.specs.Folder.{with_file};
 ghost use Rattle.al_session_folder.specs.Kept.{folder_of};
 ghost use Rattle.al_lint.specs.Meaning.{IsUpTo};
 ghost use Rattle.al_session.specs.Builder.{IsLoaded};
@@ -37,7 +38,11 @@ impl<L: Lint> Model for SessionBuilder<L> {
 
     ghost Value = { SessionState };
 
-    ghost view = { λ s. record { folder = folder_of s.kept.files.entries; checks = L.checks_of s.lint; reads = L.reads_of s.lint } };
+    ghost view = { λ s. record {
+      folder = folder_of s.kept.files.entries;
+      checks = L.checks_of s.lint;
+      reads = L.reads_of s.lint;
+    } };
 
     ghost invariant = { λ s. IsLoaded L.meaning L.is_unit s.kept };
 }

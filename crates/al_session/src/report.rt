@@ -4,7 +4,8 @@ ghost use Rattle.std.specs.Prelude.{◌≡◌, not, length, ◌==◌};
 ghost use Rattle.std.specs.List.{enumerate_from, flat_map, list_any};
 ghost use Rattle.al_base.specs.Streams.{WritesOrFails};
 ghost use Rattle.al_session_folder.specs.Kept.{folder_of, referents};
-ghost use Rattle.al_session_folder.specs.Printing.{AreListed, ArePrintable, IsPrintable, joined_or_own};
+ghost use Rattle.al_session_folder.specs.Printing.{AreListed, ArePrintable, IsPrintable};
+ghost use Rattle.al_session_folder.specs.Printing.{joined_or_own};
 ghost use Rattle.al_session.specs.Private.Printing.{lines_of, numbered_lines};
 
 use al_base::{Fault, Location, Output, Stop};

@@ -1,6 +1,7 @@
 //! A folder of files, kept linted.
 
-ghost use Rattle.std.specs.Prelude.{◌≡◌, ◌≢◌, ℕ, List, [], Err, None, Some, length, slice_get, IfOk, OnOk, OnErr, IfErr, IfSome};
+ghost use Rattle.std.specs.Prelude.{◌≡◌, ◌≢◌, ℕ, List, [], Err, None, Some, length, slice_get};
+ghost use Rattle.std.specs.Prelude.{IfOk, OnOk, OnErr, IfErr, IfSome};
 ghost use Rattle.std.specs.List.{AllByRecursion};
 ghost use Rattle.std.specs.List.Sorted.{IsStrictlySortedBy};
 ghost use Rattle.std.specs.Ordering.{nat_cmp};
@@ -11,7 +12,8 @@ ghost use Rattle.al_base.specs.Counted.{HasRisen, AppendsPrefix};
 ghost use Rattle.al_base.specs.FaultLists.{fault_cmp};
 ghost use Rattle.al_base.specs.Spans.{LiesIn};
 ghost use Rattle.al_base.specs.Streams.{bytes_written, write_failures};
-ghost use Rattle.al_session_folder.specs.Folder.{bytes_at, faults_at, put_refusal, delete_refusal, with_file};
+ghost use Rattle.al_session_folder.specs.Folder.{bytes_at, faults_at, put_refusal, delete_refusal};
+ghost use Rattle.al_session_folder.specs.Folder.{with_file};
 ghost use Rattle.al_session_folder.specs.Folder.{without_file, paths_of, refusal_or_memory};
 ghost use Rattle.std.specs.Bool.{Decides};
 ghost use Rattle.al_session_folder.specs.Affected.{affected_paths, is_among};
@@ -20,7 +22,8 @@ ghost use Rattle.al_base.specs.Counted.{count_after};
 ghost use Rattle.al_session_folder.specs.Missing.{is_missing, missing_in};
 ghost use Rattle.al_session.specs.Report.{status_of, report_of};
 ghost use Rattle.al_session_folder.specs.Printing.{AreCycleFaults};
-ghost use Rattle.al_session.specs.EditLaws.{OthersKeepFaults, PutsInAnyOrder, SamePutChangesNothing};
+ghost use Rattle.al_session.specs.EditLaws.{OthersKeepFaults, PutsInAnyOrder};
+ghost use Rattle.al_session.specs.EditLaws.{SamePutChangesNothing};
 ghost use Rattle.al_session.specs.Session.{IsLinted, ReadsForPut, folder_in};
 
 use crate::calls::{find_graph, linked_files};
@@ -68,7 +71,11 @@ impl<L: Lint> Model for Session<L> {
 
     ghost Value = { SessionState };
 
-    ghost view = { λ s. record { folder = folder_of s.kept.files.entries; checks = L.checks_of s.lint; reads = L.reads_of s.lint } };
+    ghost view = { λ s. record {
+      folder = folder_of s.kept.files.entries;
+      checks = L.checks_of s.lint;
+      reads = L.reads_of s.lint;
+    } };
 
     ghost invariant = { λ s. IsLinted L.meaning L.is_unit s.kept
         × IsGraphIf L.meaning (folder_in s.kept) s.calls };
@@ -173,7 +180,8 @@ impl<L: Lint> Session<L> {
         ensures few_checks { OnErr result (IsUpTo self.old.checks self.new.checks
             (length (affected_paths L.Iface.eq L.meaning self.old.folder
             (with_file self.old.folder path.now bytes.now)))) }
-        ensures reads { ReadsForPut L.meaning self.old.folder path.now bytes.now self.old.reads self.new.reads }
+        ensures reads { ReadsForPut L.meaning self.old.folder path.now bytes.now self.old.reads
+            self.new.reads }
         ensures no_read { IfErr result
             (λ refused. refused ≢ Refused.Memory → self.new.reads ≡ self.old.reads) }
     {

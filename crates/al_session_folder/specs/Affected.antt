@@ -6,7 +6,8 @@ use Rattle.al_lint.specs.Meaning.{Meaning}
 use Rattle.al_session_folder.specs.Folder.{Folder, bytes_at, answer, paths_of}
 
 -- a file is unchanged, and so is the answer of each of its calls; eq compares interfaces
-unfoldable pub is_untouched : {I : Type 0} → (I → I → Bool) → Meaning I → Folder → Folder → List ℕ → List ℕ → Bool
+unfoldable pub is_untouched : {I : Type 0} → (I → I → Bool) → Meaning I → Folder → Folder → List ℕ
+    → List ℕ → Bool
 is_untouched eq m old new p b =
     option_eq bytes_eq (bytes_at old p) (Some b)
     && list_all (λ t. option_eq eq (answer m old t) (answer m new t)) (m.calls p b)
@@ -19,7 +20,8 @@ affected_paths eq m old new = paths_of (filter (λ e. not (is_untouched eq m old
 
 -- whether the change from old to new affects the file at q
 abbrev pub is_affected : {I : Type 0} → (I → I → Bool) → Meaning I → Folder → Folder → List ℕ → Bool
-is_affected eq m old new q = option_map_or (λ b. not (is_untouched eq m old new q b)) (bytes_at new q) false
+is_affected eq m old new q =
+    option_map_or (λ b. not (is_untouched eq m old new q b)) (bytes_at new q) false
 
 -- whether a path is one of these
 abbrev pub is_among : List ℕ → List (List ℕ) → Bool

@@ -1,5 +1,6 @@
 -- The graph of calls, labels that decide which calls are on a cycle, and what the graph depends on.
-use Rattle.std.specs.Prelude.{ℕ, ◌≡◌, ◌↔◌, List, Option, Some, None, Vec, length, map, slice_index_or}
+use Rattle.std.specs.Prelude.{ℕ, ◌≡◌, ◌↔◌, List, Option, Some, None, Vec, length, map}
+use Rattle.std.specs.Prelude.{slice_index_or}
 use Rattle.std.specs.Global.{Global}
 use Rattle.al_graph.specs.Graphs.{Edge, Walk, edges_of}
 use Rattle.al_lint.specs.Meaning.{Meaning}
@@ -19,7 +20,8 @@ TellCycles graph labels = (length labels ≡ length graph) × ((j k : ℕ) → E
 
 -- The graph of a folder's calls, as the program keeps it, and labels that decide which of them are
 -- on a cycle.
-pub record IsCallGraph {I : Type 0} (m : Meaning I) (f : Folder) (graph : List (Vec ℕ Global)) (labels : List (Option ℕ)) : Type 0 where
+pub record IsCallGraph {I : Type 0} (m : Meaning I) (f : Folder) (graph : List (Vec ℕ Global))
+    (labels : List (Option ℕ)) : Type 0 where
   pub edges : edges_of graph ≡ calls_graph m f
   pub tell : TellCycles (calls_graph m f) labels
 
@@ -30,7 +32,8 @@ pub record HasSameCalls {I : Type 0} (m : Meaning I) (f g : Folder) : Type 0 whe
   pub calls : map (λ e. m.calls e.0 e.1) g ≡ map (λ e. m.calls e.0 e.1) f
 
 -- Kept files with the graph of their calls.
-pub record AreLinked {U I : Type 0} (m : Meaning I) (is_unit : U → List ℕ → List ℕ → Type 0) (files : Files U I)
+pub record AreLinked {U I : Type 0} (m : Meaning I) (is_unit : U → List ℕ → List ℕ
+    → Type 0) (files : Files U I)
     (graph : List (Vec ℕ Global)) (labels : List (Option ℕ)) : Type 0 where
   pub kept : AreKept m is_unit files
   pub calls : IsCallGraph m (folder_of files) graph labels

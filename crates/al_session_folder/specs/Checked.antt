@@ -7,4 +7,5 @@ use Rattle.al_session_folder.specs.Kept.{Files}
 
 -- each file is kept with the faults that it has in this folder
 abbrev pub AllChecked : {U I : Type 0} → Meaning I → Folder → Files U I → Type 0
-AllChecked m f files = AllByRecursion (λ e. e.1.faults.items ≡ faults_in m f (string_bytes e.0) e.1.bytes.items) files
+AllChecked m f files =
+    AllByRecursion (λ e. e.1.faults.items ≡ faults_in m f (string_bytes e.0) e.1.bytes.items) files

@@ -1,6 +1,7 @@
 -- Call cycles: a call is on one if its callee is the caller itself, or reaches the caller by
 -- further calls.
-use Rattle.std.specs.Prelude.{ℕ, Bool, false, List, [], ◌∷◌, ◌++◌, Option, Some, None, bytes_eq, map}
+use Rattle.std.specs.Prelude.{ℕ, Bool, false, List, [], ◌∷◌, ◌++◌, Option, Some, None, bytes_eq}
+use Rattle.std.specs.Prelude.{map}
 use Rattle.std.specs.Prelude.{if◌then◌else◌}
 use Rattle.std.specs.List.{filter_map, flat_map, position, zip}
 use Rattle.al_base.specs.FaultLists.{fault_list}
@@ -32,7 +33,8 @@ is_on_cycle graph file (Some to) = leads graph to file
 -- the calls
 abbrev pub call_cycle_faults : {I : Type 0} → Meaning I → Folder → ℕ → List ℕ → List ℕ → List Fault
 call_cycle_faults m f file p b =
-    flat_map (λ x. if is_on_cycle (calls_graph m f) file (callee f x.0) then x.1 ∷ [] else []) (zip (m.calls p b) (m.sites p b))
+    flat_map (λ x. if is_on_cycle (calls_graph m f) file (callee f x.0) then x.1
+    ∷ [] else []) (zip (m.calls p b) (m.sites p b))
 
 -- a file's faults as reports list them: its own, and those of its calls on a call cycle, in order,
 -- each once

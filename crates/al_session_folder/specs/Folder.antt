@@ -12,7 +12,8 @@ use Rattle.al_base.specs.Paths.{path_fault_of}
 use Rattle.al_lint.specs.Meaning.{Meaning, candidates}
 use Rattle.al_lint.specs.declared.lint.Target.{Target}
 use Rattle.al_lint.specs.declared.lint.Refused.{Refused}
-use Rattle.al_lint.specs.declared.lint.Refused.TheVariants.{BadPath, NotAccepted, TooLarge, Full, NoSuchFile, Memory}
+use Rattle.al_lint.specs.declared.lint.Refused.TheVariants.{BadPath, NotAccepted, TooLarge, Full}
+use Rattle.al_lint.specs.declared.lint.Refused.TheVariants.{NoSuchFile, Memory}
 
 -- The bytes of files by path, in order of path.
 abbrev pub Folder : Type 0

@@ -17,7 +17,8 @@ use Rattle.al_base.specs.Limits.{largest_file, most_files}
 use Rattle.al_base.specs.LineStarts.{line_starts}
 use Rattle.al_base.specs.Paths.{path_fault_of}
 use Rattle.al_lint.specs.Meaning.{Meaning, is_candidate}
-use Rattle.al_session_folder.specs.Folder.{Folder, bytes_at, faults_in, paths_of, with_file, without_file}
+use Rattle.al_session_folder.specs.Folder.{Folder, bytes_at, faults_in, paths_of, with_file}
+use Rattle.al_session_folder.specs.Folder.{without_file}
 use Rattle.al_session_folder.specs.declared.kept.Calls.{Calls}
 use Rattle.al_session_folder.specs.declared.kept.KeptFile.{KeptFile}
 use Rattle.al_lint.specs.declared.lint.Target.{Target}
@@ -47,7 +48,8 @@ pub record AreCalls (ts : List Target) (calls : Calls) : Type 0 where
   pub candidates : (c : List ℕ) → contains_text calls.candidates c ≡ is_candidate ts c
 
 -- A kept file is one that the linter accepts, and its parts are computed from its bytes.
-pub record IsKept {U I : Type 0} (m : Meaning I) (is_unit : U → List ℕ → List ℕ → Type 0) (path : List ℕ)
+pub record IsKept {U I : Type 0} (m : Meaning I) (is_unit : U → List ℕ → List ℕ
+    → Type 0) (path : List ℕ)
     (file : KeptFile U I) : Type 0 where
   pub valid : path_fault_of path ≡ None
   pub accepted : m.accepts path ≡ true
@@ -57,7 +59,8 @@ pub record IsKept {U I : Type 0} (m : Meaning I) (is_unit : U → List ℕ → L
   pub iface : file.iface ≡ m.interface path file.bytes.items
   pub calls : AreCalls (m.calls path file.bytes.items) file.calls
 
-abbrev pub AllKept : {U I : Type 0} → Meaning I → (U → List ℕ → List ℕ → Type 0) → Files U I → Type 0
+abbrev pub AllKept : {U I : Type 0} → Meaning I → (U → List ℕ → List ℕ → Type 0)
+    → Files U I → Type 0
 AllKept m is_unit files = AllByRecursion (λ e. IsKept m is_unit (string_bytes e.0) e.1) files
 
 -- The index of callers: for a candidate, present or not, the paths of the files that call it.
@@ -77,7 +80,8 @@ abbrev pub IsCallerIndex : {S R I : Type 0} → Meaning I → Folder → Callers
 IsCallerIndex m f callers = (c q : List ℕ) → is_caller callers c q ≡ calls_at m f c q
 
 -- Kept files: in order of path, each computed from its bytes.
-pub record AreKept {U I : Type 0} (m : Meaning I) (is_unit : U → List ℕ → List ℕ → Type 0) (files : Files U I) : Type 0 where
+pub record AreKept {U I : Type 0} (m : Meaning I) (is_unit : U → List ℕ → List ℕ
+    → Type 0) (files : Files U I) : Type 0 where
   pub ordered : IsStrictlySortedBy (slice_cmp nat_cmp) (paths_of (folder_of files))
   pub few : length files ≤ most_files
   pub kept : AllKept m is_unit files
@@ -91,19 +95,23 @@ with_bytes_at f p (Some b) = with_file f p b
 
 -- the folder of kept files with another file, or none, at a path
 abbrev pub next_folder : {U I : Type 0} → Files U I → List ℕ → Option (KeptFile U I) → Folder
-next_folder files p now = with_bytes_at (folder_of files) p (option_map (λ file. file.bytes.items) now)
+next_folder files p now =
+    with_bytes_at (folder_of files) p (option_map (λ file. file.bytes.items) now)
 
 -- the file at q if p has this one, or none
-abbrev pub file_after : {U I : Type 0} → Files U I → List ℕ → Option (KeptFile U I) → List ℕ → Option (KeptFile U I)
+abbrev pub file_after : {U I : Type 0} → Files U I → List ℕ → Option (KeptFile U I) → List ℕ
+    → Option (KeptFile U I)
 file_after files p now q = cond (bytes_eq q p) now (file_at files q)
 
 -- the file that a path will have, if any, is kept
-abbrev pub IsKeptIf : {U I : Type 0} → Meaning I → (U → List ℕ → List ℕ → Type 0) → List ℕ → Option (KeptFile U I) → Type 0
+abbrev pub IsKeptIf : {U I : Type 0} → Meaning I → (U → List ℕ → List ℕ → Type 0) → List ℕ
+    → Option (KeptFile U I) → Type 0
 IsKeptIf m is_unit p None = Unit {0}
 IsKeptIf m is_unit p (Some file) = IsKept m is_unit p file
 
 -- What a view shows: the kept files, and the file that one path will have, if any.
-pub record IsView {U I : Type 0} (m : Meaning I) (is_unit : U → List ℕ → List ℕ → Type 0) (files : Files U I) (p : List ℕ)
+pub record IsView {U I : Type 0} (m : Meaning I) (is_unit : U → List ℕ → List ℕ
+    → Type 0) (files : Files U I) (p : List ℕ)
     (now : Option (KeptFile U I)) : Type 0 where
   pub kept : AreKept m is_unit files
   pub next : IsKeptIf m is_unit p now

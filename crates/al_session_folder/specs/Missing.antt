@@ -21,4 +21,5 @@ absent_candidates f ts = filter (is_absent f) (flat_map candidates ts)
 
 -- those of all files, in order of path, each once
 unfoldable pub missing_in : {I : Type 0} → Meaning I → Folder → List (List ℕ)
-missing_in m f = in_order (slice_cmp nat_cmp) (flat_map (λ e. absent_candidates f (m.calls e.0 e.1)) f)
+missing_in m f =
+    in_order (slice_cmp nat_cmp) (flat_map (λ e. absent_candidates f (m.calls e.0 e.1)) f)

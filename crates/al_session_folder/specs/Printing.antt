@@ -1,5 +1,6 @@
 -- The faults that a report lists of each file, and that they can be printed.
-use Rattle.std.specs.Prelude.{◌≡◌, ℕ, ◌≤◌, ◌<◌, ◌==◌, cond, List, [], ◌++◌, length, slice_get, slice_index_or}
+use Rattle.std.specs.Prelude.{◌≡◌, ℕ, ◌≤◌, ◌<◌, ◌==◌, cond, List, [], ◌++◌, length, slice_get}
+use Rattle.std.specs.Prelude.{slice_index_or}
 use Rattle.std.specs.Prelude.{Some, String, Vec, string_bytes}
 use Rattle.std.specs.Borrow.{Bor}
 use Rattle.std.specs.Global.{Global}
@@ -32,7 +33,8 @@ pub record IsPrintable {U I : Type 0} (file : KeptFile U I) (faults : List Fault
 
 -- what a report lists of each file can be printed
 abbrev pub ArePrintable : {U I : Type 0} → Meaning I → Files U I → Type 0
-ArePrintable {U} {I} m files = (i : ℕ) (e : String Global × KeptFile U I) → slice_get files i ≡ Some e →
+ArePrintable {U} {I} m files =
+    (i : ℕ) (e : String Global × KeptFile U I) → slice_get files i ≡ Some e →
     IsPrintable e.1 (report_faults m (folder_of files) i (string_bytes e.0) e.1.bytes.items)
 
 -- There are this many elements, and each satisfies P with its number.
@@ -42,15 +44,19 @@ pub record AreNumbered {X : Type 0} (P : ℕ → X → Type 0) (count : ℕ) (al
 
 -- the faults of the calls of the file with this number that are on a call cycle
 abbrev pub IsCycleFaults : {I : Type 0} → Meaning I → Folder → ℕ → Vec Fault Global → Type 0
-IsCycleFaults m f i faults = (p b : List ℕ) → slice_get f i ≡ Some (p, b) → faults.items ≡ call_cycle_faults m f i p b
+IsCycleFaults m f i faults =
+    (p b : List ℕ) → slice_get f i ≡ Some (p, b) → faults.items ≡ call_cycle_faults m f i p b
 
 abbrev pub AreCycleFaults : {I : Type 0} → Meaning I → Folder → List (Vec Fault Global) → Type 0
 AreCycleFaults m f all = AreNumbered (IsCycleFaults m f) (length f) all
 
 -- the listed faults of the file with this number are those that a report lists
 abbrev pub IsListed : {U I : Type 0} → Meaning I → Files U I → ℕ → Vec (Bor Fault) Global → Type 0
-IsListed {U} {I} m files i joined = (e : String Global × KeptFile U I) → slice_get files i ≡ Some e →
-    joined_or_own e.1 joined.items ≡ report_faults m (folder_of files) i (string_bytes e.0) e.1.bytes.items
+IsListed {U} {I} m files i joined =
+    (e : String Global × KeptFile U I) → slice_get files i ≡ Some e →
+    joined_or_own e.1 joined.items
+    ≡ report_faults m (folder_of files) i (string_bytes e.0) e.1.bytes.items
 
-abbrev pub AreListed : {U I : Type 0} → Meaning I → Files U I → List (Vec (Bor Fault) Global) → Type 0
+abbrev pub AreListed : {U I : Type 0} → Meaning I → Files U I
+    → List (Vec (Bor Fault) Global) → Type 0
 AreListed m files all = AreNumbered (IsListed m files) (length files) all

@@ -40,7 +40,8 @@ impl<'a, L: Lint> Model for PlannedChange<'a, L> {
 
     ghost view = { λ c. change_of c.files.now.entries c.path.now (option_copied c.next) };
 
-    ghost invariant = { λ c. IsChange L.meaning L.is_unit c.files.now.entries c.path.now (option_copied c.next) };
+    ghost invariant = { λ c. IsChange L.meaning L.is_unit c.files.now.entries c.path.now
+        (option_copied c.next) };
 }
 
 // Whether two answers are the same.

@@ -1,6 +1,7 @@
 //! The index of callers: which files call a path, whether or not the path has a file.
 
-ghost use Rattle.std.specs.Prelude.{◌≡◌, ℕ, List, [], ◌∷◌, Bool, true, not, ◌&&◌, ◌||◌, bytes_eq, cond, IfOk, OnOk, OnErr};
+ghost use Rattle.std.specs.Prelude.{◌≡◌, ℕ, List, [], ◌∷◌, Bool, true, not, ◌&&◌, ◌||◌, bytes_eq};
+ghost use Rattle.std.specs.Prelude.{cond, IfOk, OnOk, OnErr};
 ghost use Rattle.indexmap.specs.IndexSet.{contains_text};
 ghost use Rattle.al_lint.specs.Meaning.{is_candidate};
 ghost use Rattle.al_session_folder.specs.Kept.{is_caller};

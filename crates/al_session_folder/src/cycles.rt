@@ -1,6 +1,7 @@
 //! Call cycles.
 
-ghost use Rattle.std.specs.Prelude.{◌≡◌, ◌<◌, ◌++◌, ◌==◌, [], ◌∷◌, ℕ, List, None, Some, Contains, cond, length, not};
+ghost use Rattle.std.specs.Prelude.{◌≡◌, ◌<◌, ◌++◌, ◌==◌, [], ◌∷◌, ℕ, List, None, Some, Contains};
+ghost use Rattle.std.specs.Prelude.{cond, length, not};
 ghost use Rattle.std.specs.Prelude.{nat_eq, slice_get, slice_index_or};
 ghost use Rattle.std.specs.Prelude.{IfOk, IfSome, OnOk};
 ghost use Rattle.std.specs.List.{filter_map, list_any};
@@ -8,7 +9,8 @@ ghost use Rattle.std.specs.Option.{option_eq};
 ghost use Rattle.al_graph.specs.Graphs.{edges_of};
 ghost use Rattle.al_session_folder.specs.Kept.{AreKept, folder_of};
 ghost use Rattle.al_session_folder.specs.Cycles as cycles;
-ghost use Rattle.al_session_folder.specs.CallGraphs.{AreLinked, IsCallGraph, IsCalledBy, TellCycles};
+ghost use Rattle.al_session_folder.specs.CallGraphs.{AreLinked, IsCallGraph, IsCalledBy};
+ghost use Rattle.al_session_folder.specs.CallGraphs.{TellCycles};
 ghost use Rattle.al_lint.specs.Sites.{site_fault};
 
 use crate::kept::Files;
@@ -155,13 +157,15 @@ impl<'a, L: Lint> Model for LinkedFiles<'a, L> {
 
     ghost view = { λ l. folder_of l.files.now.entries };
 
-    ghost invariant = { λ l. AreLinked L.meaning L.is_unit l.files.now.entries l.calls.now.graph.items l.calls.now.labels.items };
+    ghost invariant = { λ l. AreLinked L.meaning L.is_unit l.files.now.entries
+        l.calls.now.graph.items l.calls.now.labels.items };
 }
 
 impl<'a, L: Lint> LinkedFiles<'a, L> {
     /// These files with the graph of their calls.
     pub fn new(files: &'a Files<L::Unit, L::Iface>, calls: &'a CallGraph) -> LinkedFiles<'a, L>
-        requires { AreLinked L.meaning L.is_unit files.now.entries calls.now.graph.items calls.now.labels.items }
+        requires { AreLinked L.meaning L.is_unit files.now.entries calls.now.graph.items
+            calls.now.labels.items }
         ensures { result ≡ folder_of files.now.entries }
     {
         LinkedFiles { files, calls }

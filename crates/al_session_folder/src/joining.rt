@@ -18,7 +18,8 @@ fn join_faults<'a>(
     own: &'a [Fault],
     call_cycle_faults: &'a [Fault],
 ) -> Result<Vec<&'a Fault>, AllocError>
-    ensures { IfOk result (λ joined. referents joined.items ≡ joined_faults own.now call_cycle_faults.now) }
+    ensures { IfOk result (λ joined. referents joined.items
+        ≡ joined_faults own.now call_cycle_faults.now) }
 {
     if call_cycle_faults.is_empty() {
         return Ok(Vec::new(alloc));
@@ -60,7 +61,8 @@ pub fn join_files<'a, L: Lint>(
     call_cycle_faults: &'a [Vec<Fault>],
 ) -> Result<Vec<Vec<&'a Fault>>, AllocError>
     requires checked { AllChecked L.meaning (folder_of files.now.entries) files.now.entries }
-    requires call_cycle_faults { AreCycleFaults L.meaning (folder_of files.now.entries) call_cycle_faults.now }
+    requires call_cycle_faults { AreCycleFaults L.meaning (folder_of files.now.entries)
+        call_cycle_faults.now }
     ensures { IfOk result (λ joined. AreListed L.meaning files.now.entries joined.items) }
 {
     let alloc = *files.allocator();

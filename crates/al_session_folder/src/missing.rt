@@ -8,7 +8,8 @@ ghost use Rattle.al_base.specs.InOrder.{in_order};
 ghost use Rattle.al_session_folder.specs.Affected.{is_among};
 ghost use Rattle.al_session_folder.specs.Kept.{AreKept, folder_of, referents};
 ghost use Rattle.al_lint.specs.Meaning.{candidates};
-ghost use Rattle.al_session_folder.specs.Missing.{is_absent, is_missing, absent_candidates, missing_in};
+ghost use Rattle.al_session_folder.specs.Missing.{is_absent, is_missing, absent_candidates};
+ghost use Rattle.al_session_folder.specs.Missing.{missing_in};
 
 use crate::kept::Files;
 use crate::place::file_number;

@@ -7,7 +7,8 @@ ghost use Rattle.std.specs.Option.{option_copied, option_map};
 ghost use Rattle.al_lint.specs.Meaning.{IsUpTo};
 ghost use Rattle.al_base.specs.Counted.{count_after};
 ghost use Rattle.al_session_folder.specs.Folder.{answer, bytes_at, interface_in};
-ghost use Rattle.al_session_folder.specs.Kept.{next_folder, faults_of, folder_of, AreKept, IsKept, IsView};
+ghost use Rattle.al_session_folder.specs.Kept.{next_folder, faults_of, folder_of, AreKept, IsKept};
+ghost use Rattle.al_session_folder.specs.Kept.{IsView};
 
 use crate::kept::{Files, KeptFile};
 use al_base::{Fault, Path};
@@ -32,9 +33,11 @@ impl<'a, L: Lint> Model for FolderView<'a, L> {
 
     ghost Value = { Folder };
 
-    ghost view = { λ v. folder_in_view v.files.now.entries (option_copied v.path) (option_copied v.next) };
+    ghost view = { λ v. folder_in_view v.files.now.entries (option_copied v.path)
+        (option_copied v.next) };
 
-    ghost invariant = { λ v. IsViewIf L.meaning L.is_unit v.files.now.entries (option_copied v.path) (option_copied v.next) };
+    ghost invariant = { λ v. IsViewIf L.meaning L.is_unit v.files.now.entries (option_copied v.path)
+        (option_copied v.next) };
 }
 
 impl<'a, L: Lint> FolderView<'a, L> {

@@ -4,9 +4,9 @@ ghost use Rattle.std.specs.Prelude.{◌≡◌, ◌≤◌, length, true};
 
 use al_text::limits::LARGEST_FILE;
 use al_text::{
-    Args, CallCode, Caller, Code, ExpressionCode, Fault, Format, Input, KeyCode, Lines, Output, Path,
-    PathFault, RuleCode, Span, Stop, WriteFault, YamlCode, kind, location_of, path_fault, position,
-    write_fault_at, write_faults,
+    Args, CallCode, Caller, Code, ExpressionCode, Fault, Format, Input, KeyCode, Lines, Output,
+    Path, PathFault, RuleCode, Span, Stop, WriteFault, YamlCode, kind, location_of, path_fault,
+    position, write_fault_at, write_faults,
 };
 use std::alloc::{AllocError, Global};
 

@@ -18,5 +18,6 @@ message code args = let row = code_row code in
 -- PATH:LINE:COL: MESSAGE [KIND]
 abbrev pub fault_line : List ℕ → List ℕ → Fault → List ℕ
 fault_line path bytes fault =
-    path ++ codes ":" ++ decimal (line_at bytes fault.span.start) ++ codes ":" ++ decimal (column_at bytes fault.span.start) ++ codes ": "
+    path ++ codes ":" ++ decimal (line_at bytes fault.span.start) ++ codes ":"
+    ++ decimal (column_at bytes fault.span.start) ++ codes ": "
     ++ message fault.code fault.args ++ (codes " [" ++ (code_row fault.code).kind ++ codes "]\n")

@@ -59,7 +59,8 @@ pub record CodeRow : Type 0 where
   pub tail : List ℕ
 
 abbrev pub row : Text → Text → Text → Text → CodeRow
-row kind head middle tail = record { kind = codes kind; head = codes head; middle = codes middle; tail = codes tail }
+row kind head middle tail =
+    record { kind = codes kind; head = codes head; middle = codes middle; tail = codes tail }
 
 abbrev pub syntax : Text → Text → Text → CodeRow
 syntax = row "syntax-check"
@@ -107,7 +108,8 @@ code_row (C.Rule UnknownEvent) = row "events" "unknown event \"" "\"" ""
 code_row (C.Rule UnknownActivity) = row "events" "unknown activity type \"" "\"" ""
 code_row (C.Rule WrongPattern) = row "glob" "wrong filter pattern \"" "\"" ""
 code_row (C.Rule WrongSchedule) = row "events" "wrong schedule \"" "\"" ""
-code_row (C.Rule ScheduleTooOften) = row "events" "schedule \"" "\" runs more often than every 5 minutes" ""
+code_row (C.Rule ScheduleTooOften) =
+    row "events" "schedule \"" "\" runs more often than every 5 minutes" ""
 code_row (C.Rule WrongId) = row "id" "wrong id \"" "\"" ""
 code_row (C.Rule RepeatedId) = row "id" "id \"" "\" is repeated" ""
 code_row (C.Rule UndefinedJob) = row "job-needs" "job \"" "\" is not defined" ""

@@ -25,7 +25,9 @@ has_value k n = is_some (value_at k n)
 
 -- a scalar under a path of keys has this text, null or not
 abbrev pub says : List (List ℕ) → List ℕ → Node → Bool
-says ks text n = option_map_or (λ v. option_map_or (λ s. bytes_eq (text_of s) text) (scalar_in v) false) (value_below ks n) false
+says ks text n =
+    option_map_or (λ v. option_map_or (λ s. bytes_eq (text_of s) text) (scalar_in v) false)
+    (value_below ks n) false
 
 abbrev pub is_composite : Node → Bool
 is_composite = says (codes "runs" ∷ codes "using" ∷ []) (codes "composite")

@@ -71,19 +71,24 @@ scalar_fault AnyScalar s = None
 scalar_fault NoScalar s = Some WrongKind
 scalar_fault NotNull s = then_some (is_null s) WrongType
 scalar_fault Bools s = then_some (not (has_class class.Bool s || has_chunk (text_of s))) WrongType
-scalar_fault Numbers s = then_some (not (has_class class.Int s || has_class class.Float s || has_chunk (text_of s))) WrongType
+scalar_fault Numbers s =
+    then_some (not (has_class class.Int s || has_class class.Float s || has_chunk (text_of s)))
+    WrongType
 scalar_fault Chunks s = then_some (not (has_chunk (text_of s))) WrongKind
 
 -- the shape of `runs`, by `using`; if that is unknown, only `using` is checked
 abbrev pub runs_of : List ℕ → Shape
 runs_of using =
-    if among (codes "node12" ∷ codes "node16" ∷ codes "node20" ∷ codes "node24" ∷ []) using then NodeRuns
+    if among (codes "node12" ∷ codes "node16" ∷ codes "node20" ∷ codes "node24" ∷ []) using then
+    NodeRuns
     else (if bytes_eq using (codes "composite") then CompositeRuns
     else (if bytes_eq using (codes "docker") then DockerRuns
     else Runs))
 
 abbrev pub mapping_shape : Shape → List (Scalar × Node) → Shape
-mapping_shape Runs es = option_map_or (λ s. runs_of (text_of s)) (option_and_then scalar_in (value_in (codes "using") es)) Runs
+mapping_shape Runs es =
+    option_map_or (λ s. runs_of (text_of s))
+    (option_and_then scalar_in (value_in (codes "using") es)) Runs
 mapping_shape s es = s
 
 -- every key except `on`, `jobs` and that of a job accepts null
@@ -135,7 +140,8 @@ abbrev pub standing : Keys → (List ℕ → Bool) → (List ℕ → Bool) → L
 standing no_keys seen all k = ignored
 standing (free s) seen all k = if seen k then repeated else expected s None
 standing (keys others fs) seen all k =
-    option_map_or (λ f. if seen k then repeated else expected f.shape (clash_with f.clash seen all)) (find (λ f. bytes_eq f.key k) fs)
+    option_map_or (λ f. if seen k then repeated else expected f.shape (clash_with f.clash seen all))
+    (find (λ f. bytes_eq f.key k) fs)
     (other_standing others seen all k)
 
 abbrev pub beside_faults : Option (List ℕ) → Scalar → List Fault
@@ -162,9 +168,11 @@ abbrev mutual
   pub faults : Shape → Bool → List ℕ → Node → List Fault
   faults shape null above (scalar s) =
       if is_null s && null then []
-      else option_map_or (λ k. one_fault k s.span above) (option_and_then (λ r. scalar_fault r.scalars s) (rule shape)) []
+      else option_map_or (λ k. one_fault k s.span above)
+      (option_and_then (λ r. scalar_fault r.scalars s) (rule shape)) []
   faults shape null above (sequence ns at) =
-      option_map_or (λ r. option_map_or (λ s. items_faults s above ns) r.items (one_fault WrongKind at above)) (rule shape) []
+      option_map_or (λ r. option_map_or (λ s. items_faults s above ns) r.items
+      (one_fault WrongKind at above)) (rule shape) []
   faults shape null above (mapping es at) =
       let all = among (keys_in (entries es)) in
       option_map_or (λ r. keyed_faults r.keys_of above all at (λ ks. entries_faults ks [] all es))
@@ -179,12 +187,15 @@ abbrev mutual
   pub entries_faults : Keys → List (List ℕ) → (List ℕ → Bool) → Entries → List Fault
   entries_faults ks seen all no_entries = []
   entries_faults ks seen all (entry k v es) =
-      entry_faults (standing ks (among seen) all (text_of k)) k (λ s. faults s (takes_null s) (text_of k) v)
+      entry_faults (standing ks (among seen) all (text_of k)) k
+      (λ s. faults s (takes_null s) (text_of k) v)
       ++ entries_faults ks (seen ++ text_of k ∷ []) all es
 
 -- an empty node: nothing was written
 abbrev pub is_empty_node : Node → Bool
-is_empty_node n = option_map_or (λ s. styles.ghosts.eq s.style style.Plain && (length s.cells == 0)) (scalar_in n) false
+is_empty_node n =
+    option_map_or (λ s. styles.ghosts.eq s.style style.Plain && (length s.cells == 0))
+    (scalar_in n) false
 
 -- the faults of a file's root
 abbrev pub root_faults : Shape → Node → List Fault

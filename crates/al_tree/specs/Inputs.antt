@@ -15,4 +15,5 @@ input_named t = if bytes_eq t (codes "boolean") then input.Boolean
     else if bytes_eq t (codes "number") then input.Number else input.String
 
 abbrev pub input_of : Node → InputType
-input_of n = option_map_or (λ s. input_named (text_of s)) (text_at_key (codes "type") n) input.String
+input_of n =
+    option_map_or (λ s. input_named (text_of s)) (text_at_key (codes "type") n) input.String

@@ -25,7 +25,8 @@ is_before n place = option_map_or (λ i. nat_lt i n) place false
 -- which keys the first entries have
 unfoldable pub has_first : KeyIndex → ℕ → List ℕ → Bool
 has_first x n k =
-    option_map_or (λ p. is_before n (text_position p k)) x.positions (among (keys_in (map entry_view (take n x.entries.now))) k)
+    option_map_or (λ p. is_before n (text_position p k)) x.positions
+    (among (keys_in (map entry_view (take n x.entries.now))) k)
 
 -- whether the entry at a position, which has this key, repeats an earlier one by the index
 unfoldable pub repeats : KeyIndex → ℕ → List ℕ → Bool
@@ -36,7 +37,8 @@ abbrev pub IsIndexOf : KeyIndex → List Entry → Type 0
 IsIndexOf x es =
     let ks = keys_in (map entry_view es) in
     (x.entries.now ≡ es) × (has_first x ≡ λ n. among (keys_in (map entry_view (take n es))))
-    × ((i : ℕ) → i < length es → repeats x i (slice_index_or ks i []) ≡ has_first x i (slice_index_or ks i []))
+    × ((i : ℕ) → i < length es → repeats x i (slice_index_or ks i [])
+    ≡ has_first x i (slice_index_or ks i []))
 
 -- which keys a set holds
 abbrev pub holds : KeySet → List ℕ → Bool

@@ -74,7 +74,9 @@ not_beside other = field optional (beside (codes other))
 
 -- two keys that exclude each other, where the later one is at fault
 abbrev pub either : String → String → Shape → List Field
-either one other shape = field optional (after (codes other)) one shape ∷ field optional (after (codes one)) other shape ∷ []
+either one other shape =
+    field optional (after (codes other)) one shape
+    ∷ field optional (after (codes one)) other shape ∷ []
 
 abbrev pub takes : ScalarSet → Option Shape → Keys → Option Rule
 takes set item ks = Some (record { scalars = set; items = item; keys_of = ks })
@@ -102,58 +104,79 @@ rule TextOrMap = takes AnyScalar None (free Text)
 rule AnyMap = map_of Any
 rule Env = takes Chunks None (free Text)
 rule Workflow = section (
-    may "name" Text ∷ may "run-name" Text ∷ must "on" (On Events) ∷ may "permissions" TextOrMap ∷ may "env" Env ∷ may "defaults" Defaults
+    may "name" Text ∷ may "run-name" Text ∷ must "on" (On Events) ∷ may "permissions" TextOrMap
+    ∷ may "env" Env ∷ may "defaults" Defaults
     ∷ may "concurrency" Concurrency ∷ must "jobs" Jobs ∷ [])
 rule (On Events) = takes NotNull (Some Text) (keys events (
-    may "schedule" (On Schedule) ∷ may "workflow_dispatch" (On Dispatch) ∷ may "workflow_call" (On Call) ∷ may "image_version" Any ∷ []))
+    may "schedule" (On Schedule) ∷ may "workflow_dispatch" (On Dispatch)
+    ∷ may "workflow_call" (On Call) ∷ may "image_version" Any ∷ []))
 rule (On Schedule) = list_of (On Cron)
 rule (On Cron) = section (must "cron" Text ∷ may "timezone" Text ∷ [])
 rule (On Dispatch) = section (may "inputs" (On DispatchInputs) ∷ [])
 rule (On DispatchInputs) = map_of (On DispatchInput)
 rule (On DispatchInput) = section (
-    may "description" Text ∷ may "required" Flag ∷ may "default" Text ∷ may "type" Text ∷ may "options" TextList
+    may "description" Text ∷ may "required" Flag ∷ may "default" Text ∷ may "type" Text
+    ∷ may "options" TextList
     ∷ may "deprecationMessage" Text ∷ [])
-rule (On Call) = section (may "inputs" (On CallInputs) ∷ may "secrets" (On CallSecrets) ∷ may "outputs" (On CallOutputs) ∷ [])
+rule (On Call) =
+    section (may "inputs" (On CallInputs) ∷ may "secrets" (On CallSecrets)
+    ∷ may "outputs" (On CallOutputs) ∷ [])
 rule (On CallInputs) = map_of (On CallInput)
 rule (On CallInput) = section (
-    may "description" Text ∷ may "required" Flag ∷ may "default" Text ∷ must "type" Text ∷ may "deprecationMessage" Text ∷ [])
+    may "description" Text ∷ may "required" Flag ∷ may "default" Text ∷ must "type" Text
+    ∷ may "deprecationMessage" Text ∷ [])
 rule (On CallSecrets) = map_of (On CallSecret)
 rule (On CallSecret) = section (may "description" Text ∷ may "required" Flag ∷ [])
 rule (On CallOutputs) = map_of (On CallOutput)
 rule (On CallOutput) = section (may "description" Text ∷ must "value" Text ∷ [])
 rule (On Event) = section (
-    may "types" Texts ∷ may "workflows" Texts ∷ either "branches" "branches-ignore" Texts ++ either "tags" "tags-ignore" Texts
+    may "types" Texts ∷ may "workflows" Texts ∷ either "branches" "branches-ignore" Texts
+    ++ either "tags" "tags-ignore" Texts
     ++ either "paths" "paths-ignore" Texts)
 rule Defaults = section (may "run" RunDefaults ∷ [])
 rule RunDefaults = section (may "shell" Text ∷ may "working-directory" Text ∷ [])
-rule Concurrency = takes AnyScalar None (keys wrong (must "group" Text ∷ may "cancel-in-progress" Flag ∷ []))
+rule Concurrency =
+    takes AnyScalar None (keys wrong (must "group" Text ∷ may "cancel-in-progress" Flag ∷ []))
 rule Jobs = map_of Job
 rule Job = takes NoScalar None (keys (wrong_beside (codes "uses")) (
     may "name" Text ∷ may "permissions" TextOrMap ∷ may "needs" Texts ∷ may "if" Text
-    ∷ field (unless (codes "uses")) (beside (codes "uses")) "runs-on" RunsOn ∷ not_beside "uses" "environment" Any
-    ∷ may "concurrency" Concurrency ∷ not_beside "uses" "outputs" TextMap ∷ not_beside "uses" "env" Env
-    ∷ not_beside "uses" "defaults" Defaults ∷ not_beside "uses" "steps" Steps ∷ not_beside "uses" "timeout-minutes" Number
-    ∷ may "strategy" Strategy ∷ not_beside "uses" "continue-on-error" Flag ∷ not_beside "uses" "container" Container
-    ∷ not_beside "uses" "services" Any ∷ may "uses" Text ∷ may "with" TextMap ∷ may "secrets" TextOrMap ∷ not_beside "uses" "snapshot" Any
+    ∷ field (unless (codes "uses")) (beside (codes "uses")) "runs-on" RunsOn
+    ∷ not_beside "uses" "environment" Any
+    ∷ may "concurrency" Concurrency ∷ not_beside "uses" "outputs" TextMap
+    ∷ not_beside "uses" "env" Env
+    ∷ not_beside "uses" "defaults" Defaults ∷ not_beside "uses" "steps" Steps
+    ∷ not_beside "uses" "timeout-minutes" Number
+    ∷ may "strategy" Strategy ∷ not_beside "uses" "continue-on-error" Flag
+    ∷ not_beside "uses" "container" Container
+    ∷ not_beside "uses" "services" Any ∷ may "uses" Text ∷ may "with" TextMap
+    ∷ may "secrets" TextOrMap ∷ not_beside "uses" "snapshot" Any
     ∷ []))
 rule RunsOn = takes AnyScalar (Some Text) (keys wrong (may "group" Text ∷ may "labels" Texts ∷ []))
-rule Strategy = takes Chunks None (keys wrong (may "matrix" Any ∷ may "fail-fast" Flag ∷ may "max-parallel" Number ∷ []))
+rule Strategy =
+    takes Chunks None (keys wrong (may "matrix" Any ∷ may "fail-fast" Flag
+    ∷ may "max-parallel" Number ∷ []))
 rule Container = takes AnyScalar None (keys wrong (
-    may "image" Text ∷ may "credentials" Any ∷ may "env" Env ∷ may "ports" Any ∷ may "volumes" Any ∷ may "options" Text ∷ []))
+    may "image" Text ∷ may "credentials" Any ∷ may "env" Env ∷ may "ports" Any ∷ may "volumes" Any
+    ∷ may "options" Text ∷ []))
 rule Steps = list_of Step
 rule Step = section (
-    may "id" Text ∷ may "if" Text ∷ may "name" Text ∷ field optional (after (codes "run")) "uses" Text
-    ∷ field (unless (codes "uses")) (after (codes "uses")) "run" Text ∷ may "working-directory" Text ∷ may "shell" Text ∷ may "with" TextMap
+    may "id" Text ∷ may "if" Text ∷ may "name" Text
+    ∷ field optional (after (codes "run")) "uses" Text
+    ∷ field (unless (codes "uses")) (after (codes "uses")) "run" Text ∷ may "working-directory" Text
+    ∷ may "shell" Text ∷ may "with" TextMap
     ∷ may "env" Env ∷ may "continue-on-error" Flag ∷ may "timeout-minutes" Number ∷ [])
 rule Action = section (
-    must "name" Text ∷ may "author" Text ∷ must "description" Text ∷ may "inputs" AnyMap ∷ may "outputs" AnyMap ∷ must "runs" Runs
+    must "name" Text ∷ may "author" Text ∷ must "description" Text ∷ may "inputs" AnyMap
+    ∷ may "outputs" AnyMap ∷ must "runs" Runs
     ∷ may "branding" Any ∷ [])
 rule Runs = takes NoScalar None (keys unchecked (must "using" Text ∷ []))
 rule NodeRuns = section (
-    must "using" Text ∷ must "main" Text ∷ may "pre" Text ∷ may "pre-if" Text ∷ may "post" Text ∷ may "post-if" Text ∷ [])
+    must "using" Text ∷ must "main" Text ∷ may "pre" Text ∷ may "pre-if" Text ∷ may "post" Text
+    ∷ may "post-if" Text ∷ [])
 rule CompositeRuns = section (must "using" Text ∷ must "steps" Steps ∷ [])
 rule DockerRuns = section (
-    must "using" Text ∷ must "image" Text ∷ may "env" TextMap ∷ may "entrypoint" Text ∷ may "pre-entrypoint" Text
+    must "using" Text ∷ must "image" Text ∷ may "env" TextMap ∷ may "entrypoint" Text
+    ∷ may "pre-entrypoint" Text
     ∷ may "post-entrypoint" Text ∷ may "args" Any ∷ may "pre-if" Text ∷ may "post-if" Text ∷ [])
 
 -- the meaning of the program's rows and rules
@@ -168,7 +191,8 @@ clash_of (rust_clash.TheVariants.After k) = after k.now
 clash_of (rust_clash.TheVariants.Beside k) = beside k.now
 
 abbrev pub field_view : Row → Field
-field_view r = record { key = r.key.now; shape = r.shape; need = need_of r.need; clash = clash_of r.clash }
+field_view r =
+    record { key = r.key.now; shape = r.shape; need = need_of r.need; clash = clash_of r.clash }
 
 abbrev pub others_of : rust_others.Others → Others
 others_of rust_others.TheVariants.Wrong = wrong

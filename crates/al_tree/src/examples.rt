@@ -22,7 +22,8 @@ pub fn rows()
     ensures composite_without_steps { root_faults Action file.composite_without_steps
         ≡ key_fault Missing (at 0 0) (codes "description" ∷ [])
         ∷ key_fault Missing (at 16 16) (codes "steps" ∷ []) ∷ [] }
-    ensures empty_file { root_faults Workflow file.empty_file ≡ key_fault EmptyFile (at 0 0) [] ∷ [] }
+    ensures empty_file { root_faults Workflow file.empty_file ≡ key_fault EmptyFile (at 0 0) []
+        ∷ [] }
     ensures root_is_a_list { root_faults Workflow file.root_is_a_list
         ≡ key_fault WrongKind (at 0 2) (codes "file" ∷ []) ∷ [] }
     ensures root_is_null { root_faults Workflow file.root_is_null

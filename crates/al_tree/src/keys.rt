@@ -104,7 +104,8 @@ impl<'a> KeyIndex<'a> {
         requires index { IsIndexOf self.now self.now.entries.now }
         requires within { i < length self.now.entries.now }
         ensures seen { holds result.seen ≡ has_first self.now i }
-        ensures key { result.key.now ≡ slice_index_or (keys_in (map entry_view self.now.entries.now)) i [] }
+        ensures key { result.key.now
+            ≡ slice_index_or (keys_in (map entry_view self.now.entries.now)) i [] }
     {
         let key = key_of(&self.entries[i]);
         EntryKey {

@@ -1,6 +1,7 @@
 //! The keys of a matrix that aren't rows, and the names of the events.
 
-ghost use Rattle.al_tree.specs.Names.{event_names as names, is_combination_key as combination_key, is_event as event};
+ghost use Rattle.al_tree.specs.Names.{event_names as names, is_combination_key as combination_key};
+ghost use Rattle.al_tree.specs.Names.{is_event as event};
 ghost use Rattle.std.specs.Prelude.{◌≡◌, map};
 
 use al_base::is_among;

@@ -177,7 +177,8 @@ pub fn key_texts<'a>(alloc: Global, members: &[Member<'a>]) -> Result<Vec<&'a [u
 ///
 /// `AllocError` if memory runs out.
 pub fn member_positions(alloc: Global, members: &[Member<'_>]) -> Result<NamePositions, AllocError>
-    ensures position { IfOk result (λ p. name_position p ≡ name_place (keys_in (map member_of members.now))) }
+    ensures position { IfOk result
+        (λ p. name_position p ≡ name_place (keys_in (map member_of members.now))) }
     ensures first { let ks = keys_in (map member_of members.now) in
         IfOk result (λ p. TellsFirsts (name_place ks) ks (is_first_name p)) }
 {

@@ -66,7 +66,8 @@ abbrev mutual
   fuse_type Bool' Bool' = Bool'
   fuse_type (ArrayOf a) (ArrayOf b) = ArrayOf (fuse_type a b)
   fuse_type (ObjectOf at rest all) (ObjectOf bt other both) =
-      ObjectOf (λ n. fuse_optional (at n) (bt n)) (fuse_optional rest other) (fuse_optional all both)
+      ObjectOf (λ n. fuse_optional (at n) (bt n)) (fuse_optional rest other)
+      (fuse_optional all both)
   fuse_type a b = if is_plain a && is_plain b then String else Any
 
   pub fuse_optional : Optional → Optional → Optional

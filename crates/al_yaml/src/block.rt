@@ -151,7 +151,9 @@ fn enter(
     requires has { IsOpenAt file.now.bytes.now inside.begun.start.column inside.at inside.has }
     ensures fault { IfErr result (IsStopInside (size file.now)) }
     ensures within { IfOk result (λ r. IsEntered file.now.bytes.now inside.at r) }
-    ensures is { (bound turns depth : ℕ) → Enters file.now.bytes.now bound turns depth inside.begun.start.at inside.begun.start.column
+    ensures is { (bound turns depth : ℕ)
+        → Enters file.now.bytes.now bound turns depth inside.begun.start.at
+        inside.begun.start.column
         (block_rest (suc turns) bound depth inside.begun.start.at inside.begun.start.column
         (block_open_of file.now.bytes.now inside.has)
         (left_at file.now inside.at)) (state_of state.old) result (state_of state.new) }

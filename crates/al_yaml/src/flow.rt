@@ -89,7 +89,8 @@ fn resume_outer(
     requires at { frame.inner.at < size file.now }
     ensures fault { IfErr result (IsStopInside (size file.now)) }
     ensures is { (depth : ℕ) (whole : NodeAnswer) (outer : List frame_code.FlowFrame)
-        → AfterNode file.now.bytes.now depth whole (map (frame_of file.now.bytes.now) (frame ∷ outer))
+        → AfterNode file.now.bytes.now depth whole
+        (map (frame_of file.now.bytes.now) (frame ∷ outer))
         (state_of state.old) part
         → Answers file.now.bytes.now depth whole outer result (state_of state.new) }
     ensures opening { IfOk result (λ collection. collection.opening ≡ frame.opening) }

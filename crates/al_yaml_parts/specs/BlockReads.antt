@@ -50,7 +50,8 @@ spot_of (spot.Compact tab) = block.compact tab
 spot_of spot.AfterKey = block.after_key
 
 abbrev pub slot_of : Slot → block.Slot
-slot_of s = record { spot = spot_of s.spot; within = s.within; in_mapping = s.in_mapping; empty = s.empty }
+slot_of s =
+    record { spot = spot_of s.spot; within = s.within; in_mapping = s.in_mapping; empty = s.empty }
 
 -- the tab before a compact collection is in the file
 abbrev pub IsTabInside : ℕ → Spot → Type 0

@@ -33,7 +33,12 @@ with_state s (Err e) = Err e
 with_state s (Ok x) = Ok (x, s)
 
 abbrev pub state_after : {A : Type 0} → State → Outcome A → State
-state_after s o = record { nodes = s.nodes + nodes_listed o.starts; text = s.text + text_listed o.starts; known = o.known }
+state_after s o =
+    record {
+      nodes = s.nodes + nodes_listed o.starts;
+      text = s.text + text_listed o.starts;
+      known = o.known;
+    }
 
 abbrev pub run_outcome : {A : Type 0} → State → Outcome A → Result (A × State) FaultAt
 run_outcome s o = with_state (state_after s o) (within_limits s.nodes s.text o)
@@ -103,7 +108,9 @@ pub record IsPartAfter (bytes : List ℕ) (at : ℕ) (p : code.Part) : Type 0 wh
 
 -- the node that the alias at the beginning of the lines refers to, and where the alias ends
 abbrev pub alias_part : ℕ → List Line → Reading (Part tree.Node)
-alias_part depth ls = alias (anchor_name ls) (start ls) depth >>= (λ n. gives (part n (start (after_name ls)) (after_name ls)))
+alias_part depth ls =
+    alias (anchor_name ls) (start ls) depth
+    >>= (λ n. gives (part n (start (after_name ls)) (after_name ls)))
 
 -- the definition's result is this fault, unless memory runs out
 abbrev pub Refuses : {B : Type 0} → Result B FaultAt → ReadError → Type 0

@@ -69,7 +69,8 @@ pub fn has_colon(bytes: &[u8], at: usize) -> bool
 /// the line.
 pub fn after_flow_colon(bytes: &[u8], at: usize, after_quote: bool) -> Option<usize>
     requires { at ≤ length bytes.now }
-    ensures { IsColon (flow.after_colon_in_flow after_quote (lines_at bytes.now at)) bytes.now at result }
+    ensures { IsColon (flow.after_colon_in_flow after_quote (lines_at bytes.now at)) bytes.now at
+        result }
 {
     // a colon right after a quoted key needs no blank after it
     if after_quote && begins(bytes, at, b':') {

@@ -29,7 +29,8 @@ impl Model for Stack {
 
     ghost Value = { OpenCollections };
 
-    ghost coded = { code_by (List FlowFrame × List BlockFrame) (Prim.hlevel (codes, block.the_row.coded, flow.the_row.coded))
+    ghost coded = { code_by (List FlowFrame × List BlockFrame)
+        (Prim.hlevel (codes, block.the_row.coded, flow.the_row.coded))
         (λ o. (o.flows, o.blocks)) (λ p. record { flows = p.0; blocks = p.1 }) (λ _. refl) };
 
     ghost view = { λ s. record { flows = reverse s.flows.items; blocks = reverse s.blocks.items } };

@@ -94,7 +94,8 @@ pub fn sums_of(alloc: Global, node: &Node) -> Result<Sums, AllocError>
 fn count<'a>(next: Uncounted<'a>, left: &mut Vec<Uncounted<'a>>) -> Result<Sums, AllocError>
     ensures own { IfOk result (IsOwn (uncounted_view next.entry)) }
     ensures left { IfOk result (λ sums. map uncounted_view left.new.items
-        ≡ map uncounted_view left.old.items ++ within sums.levels (inside (node_view (next.entry).node))) }
+        ≡ map uncounted_view left.old.items
+        ++ within sums.levels (inside (node_view (next.entry).node))) }
 {
     match next.node {
         KeyOrNode::Key(scalar) => Ok(Sums::of_scalar(scalar, next.levels)),

@@ -82,7 +82,8 @@ abbrev pub rest_node : BlockReader → Slot → ℕ → ℕ → List Line → Li
 rest_node node slot depth column ls rest =
     let left = blanks_dropped rest in
     if is_skipped (first_text rest) then node_below node slot depth (whole_lines rest)
-    else node (record slot { spot = spot_after (first_text rest) slot.spot }) depth (column + characters (start left) (first_text ls)) left
+    else node (record slot { spot = spot_after (first_text rest) slot.spot }) depth
+    (column + characters (start left) (first_text ls)) left
 
 -- The rest of a collection in the column, given what was read of it so far: more reads from its
 -- next line on, and a line with less indent closes it.
@@ -128,7 +129,8 @@ mapping_entries node collection zero column depth done key = fails yaml.Unexpect
 mapping_entries node collection (suc turns) column depth done key = do
   x ← rest_node node (value_slot column (start key.after)) depth 0 key.after key.after
   rest_below column (part (with_entry done key.read.scalar x.value) x.end x.left) (λ now left.
-      entry_key collection depth left >>= (λ k. mapping_entries node collection turns column depth now.value k))
+      entry_key collection depth left
+      >>= (λ k. mapping_entries node collection turns column depth now.value k))
 
 -- a node with nothing after it on its line, and the whole lines left
 abbrev pub ending_line : Part Node → Reading (Part Node)
@@ -141,7 +143,8 @@ abbrev pub scalar_node_at : ℕ → List Line → Reading (Part Node)
 scalar_node_at within ls =
     starting_scalar (start ls) (do
       r ← of_result (scalar_at (block within) ls)
-      (if is_block_start (first_text ls) then gives else ending_line) (part (scalar_node r) r.scalar.span.end r.left))
+      (if is_block_start (first_text ls) then gives else ending_line)
+          (part (scalar_node r) r.scalar.span.end r.left))
 
 -- a flow collection in block context: a colon after it would make it a key, and is a fault
 abbrev pub flow_at : CollectionReader → Spot → ℕ → List Line → Reading (Part Node)
@@ -155,7 +158,8 @@ block_sequence node collection turns slot depth column ls =
     let at = start ls in
     if is_after_key slot.spot then fails yaml.UnexpectedCharacter at
     else unless_tab (tab_before slot.spot) (with_start (start_of at 1 depth) (
-    with_span sequence at (sequence_entries node collection turns slot.in_mapping column (depth + 1) no_nodes ls)))
+    with_span sequence at (sequence_entries node collection turns slot.in_mapping column (depth + 1)
+    no_nodes ls)))
 
 -- a mapping whose first key was read
 abbrev pub block_mapping : BlockReader → CollectionReader → ℕ → Spot → ℕ → ℕ → List Line → Key
@@ -176,15 +180,20 @@ block_content node collection turns slot depth column ls =
     else unless_code (block_fault (first_text ls)) at (
     if is_property (first_text ls) then fails yaml.UnexpectedCharacter at
     else (if is_flow_start (first_text ls) then flow_at collection slot.spot depth ls
-    else (if is_block_start (first_text ls) || is_after_key slot.spot then scalar_node_at slot.within ls
+    else (if is_block_start (first_text ls) || is_after_key slot.spot then
+    scalar_node_at slot.within ls
     else (do
       found ← of_result (key_here ls)
-      elim found [ None ↦ scalar_node_at slot.within ls | Some key ↦ block_mapping node collection turns slot.spot depth column ls key ]))))
+      elim found [
+        | None ↦ scalar_node_at slot.within ls
+        | Some key ↦ block_mapping node collection turns slot.spot depth column ls key
+      ]))))
 
 -- an alias, or an anchor and its node, not on a key
 unfoldable pub block_property : BlockReader → BlockReader
 block_property content slot depth column ls =
-    property (not (is_after_key slot.spot) && is_on_key ls) ending_line (rest_node content slot depth column ls) depth ls
+    property (not (is_after_key slot.spot) && is_on_key ls) ending_line
+    (rest_node content slot depth column ls) depth ls
 
 -- Nodes with a depth of nesting below the bound, each with fewer parts than the bound; the file's
 -- length plus one is always enough.

@@ -2,7 +2,8 @@
 -- and what a node's first character forbids (5.3).
 use Rattle.std.specs.Bool.{then_some}
 use Rattle.std.specs.List.{prefix_len}
-use Rattle.std.specs.Prelude.{ℕ, ◌+◌, List, [], ◌∷◌, length, map, drop, take, Bool, true, false, ◌&&◌, not}
+use Rattle.std.specs.Prelude.{ℕ, ◌+◌, List, [], ◌∷◌, length, map, drop, take, Bool, true, false}
+use Rattle.std.specs.Prelude.{◌&&◌, not}
 use Rattle.std.specs.Prelude.{◌||◌, ◌==◌, nat_le}
 use Rattle.std.specs.Prelude.{if◌then◌else◌, Option, Some, None, Result, Ok}
 use Rattle.std.specs.Option.{option_or}
@@ -11,7 +12,8 @@ use Rattle.al_base.specs.declared.codes.YamlCode.TheVariants as yaml
 use Rattle.al_base.specs.Ascii.{ascii}
 use Rattle.al_base.specs.Limits.{longest_key}
 use Rattle.al_base.specs.Positions.{begins_char}
-use Rattle.al_scalar.specs.Line.{Cell, Line, start, place, past, is_blank, after_spaces, indent, is_empty, is_all_blank}
+use Rattle.al_scalar.specs.Line.{Cell, Line, start, place, past, is_blank, after_spaces, indent}
+use Rattle.al_scalar.specs.Line.{is_empty, is_all_blank}
 use Rattle.al_scalar.specs.Line.{begins, begins_blank}
 use Rattle.al_scalar.specs.Line.{is_blank_or_end, is_comment, is_document_marker, blanks_dropped}
 use Rattle.al_scalar.specs.Line.{spaces_dropped}
@@ -102,13 +104,15 @@ block_fault (c ∷ cs) = start_fault c.0 (is_blank_or_end cs)
 abbrev pub is_flow_misplaced : ℕ → Bool → Bool → Bool
 is_flow_misplaced b alone closed =
     if (b == ascii "|") || (b == ascii ">") || (b == ascii "#") then true
-    else (if b == ascii "-" then alone || closed else ((b == ascii "?") || (b == ascii ":")) && closed)
+    else (if b == ascii "-" then alone
+    || closed else ((b == ascii "?") || (b == ascii ":")) && closed)
 
 abbrev pub flow_fault : List Cell → Option YamlCode
 flow_fault [] = None
 flow_fault (c ∷ cs) =
     let misplaced = is_flow_misplaced c.0 (is_blank_or_end cs) (begins_flow_indicator cs) in
-    option_or (start_fault c.0 (is_blank_or_end cs)) (if misplaced then Some yaml.UnexpectedCharacter else None)
+    option_or (start_fault c.0 (is_blank_or_end cs)) (if misplaced then
+    Some yaml.UnexpectedCharacter else None)
 
 -- continues if the first character is allowed
 abbrev pub unless_code : {A : Type 0} → Option YamlCode → ℕ → Reading A → Reading A

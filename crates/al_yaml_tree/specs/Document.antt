@@ -2,7 +2,8 @@
 use Rattle.std.specs.Prelude.{ℕ, suc, List, length, false, if◌then◌else◌, Result, Ok}
 use Rattle.al_base.specs.declared.codes.YamlCode.TheVariants as yaml
 use Rattle.al_base.specs.Ascii.{ascii}
-use Rattle.al_scalar.specs.Line.{Line, start, begins, is_marker, blanks_dropped, spaces_dropped, past}
+use Rattle.al_scalar.specs.Line.{Line, start, begins, is_marker, blanks_dropped, spaces_dropped}
+use Rattle.al_scalar.specs.Line.{past}
 use Rattle.al_scalar.specs.Places.{first_text}
 use Rattle.al_scalar.specs.Taken.{fault}
 use Rattle.al_scalar.specs.declared.faults.FaultAt.{FaultAt}

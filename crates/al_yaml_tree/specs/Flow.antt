@@ -74,7 +74,8 @@ flow_items node (suc turns) opening depth done ls =
     else (if begins (ascii "]") (first_text ls) then gives (part done (start ls + 1) (past 1 ls))
     else (do
       x ← node (record { opening = opening; empty = None }) depth ls
-      rest_after (ascii "]") (λ left. flow_items node turns opening depth (with_item done x.value) left) opening
+      rest_after (ascii "]") (λ left.
+          flow_items node turns opening depth (with_item done x.value) left) opening
           (with_item done x.value) x.left))
 
 -- The lines after a key's colon, if there is one on its line. After a quoted key, anything may
@@ -92,7 +93,10 @@ abbrev pub flow_value : FlowReader → FlowSlot → ℕ → List Line → Readin
 flow_value node slot depth ls =
     if is_file_end ls then fails yaml.UnclosedFlow slot.opening
     else (if begins (ascii ",") (first_text ls) || begins (ascii "}") (first_text ls)
-    then elim slot.empty [ None ↦ fails yaml.UnexpectedCharacter (start ls) | Some at ↦ empty_node at ls ]
+    then elim slot.empty [
+      | None ↦ fails yaml.UnexpectedCharacter (start ls)
+      | Some at ↦ empty_node at ls
+    ]
     else node slot depth ls)
 
 -- A key, and the lines after its colon if it has one.
@@ -135,7 +139,8 @@ unfoldable pub flow_entry_value : FlowReader → ℕ → ℕ → FlowKey → Rea
 flow_entry_value node opening depth key =
     elim key.after [
       | None ↦ empty_node key.read.scalar.span.end key.read.left
-      | Some left ↦ flow_value node (record { opening = opening; empty = Some (start left) }) depth (gap false left)
+      | Some left ↦ flow_value node (record { opening = opening; empty = Some (start left) }) depth
+          (gap false left)
     ]
 
 -- Entries after those done, from the first character of an entry or the closer.
@@ -182,7 +187,8 @@ property on_key ending node depth ls =
 
 unfoldable pub flow_property : CollectionReader → FlowSlot → ℕ → List Line → Reading (Part Node)
 flow_property collection slot depth ls =
-    property false gives (λ rest. flow_value (flow_content collection) slot depth (gap false rest)) depth ls
+    property false gives (λ rest. flow_value (flow_content collection) slot depth (gap false rest))
+    depth ls
 
 -- a node in a flow collection
 abbrev pub flow_node_over : CollectionReader → FlowReader
@@ -202,4 +208,5 @@ flow_collection (suc bound) depth ls =
     with_start (start_of at 1 depth) (
     if begins (ascii "[") (first_text ls)
     then with_span sequence at (flow_items node (suc bound) at (depth + 1) no_nodes inside)
-    else with_span mapping at (flow_entries node collection (suc bound) at (depth + 1) no_entries inside))
+    else with_span mapping at (flow_entries node collection (suc bound) at (depth + 1)
+    no_entries inside))

@@ -33,7 +33,11 @@ with_lines rest (l ∷ ls) = cut (first_text rest) l ls
 
 -- the part of a plain scalar that is on its first line
 abbrev pub plain_on_line : List Line → Result ScalarRead FaultAt
-plain_on_line ls = elim (scalar_at (block 0) (one_line ls)) [ Ok r ↦ Ok (record r { left = with_lines r.left ls }) | Err f ↦ Err f ]
+plain_on_line ls =
+    elim (scalar_at (block 0) (one_line ls)) [
+      | Ok r ↦ Ok (record r { left = with_lines r.left ls })
+      | Err f ↦ Err f
+    ]
 
 -- the scalar that may be a key: a plain one on its first line only, a quoted one whole
 abbrev pub key_scalar : List Line → Result ScalarRead FaultAt
@@ -61,7 +65,9 @@ abbrev pub begins_key : List Line → Bool
 begins_key ls = elim (key_here ls) [ Ok (Some key) ↦ same_line ls key.read.left | _ ↦ false ]
 
 abbrev pub is_key_start : List Cell → Bool
-is_key_start cs = not (is_skipped cs || is_dash cs || is_property cs || is_block_start cs || is_flow_start cs || is_some (block_fault cs))
+is_key_start cs =
+    not (is_skipped cs || is_dash cs || is_property cs || is_block_start cs || is_flow_start cs
+    || is_some (block_fault cs))
 
 -- Keys have no anchors and are no aliases here, though YAML allows both (6.9.2, 7.1). Whether an
 -- anchor or alias is on a key: the alias itself, or what follows the anchor on its line.
@@ -107,7 +113,8 @@ entry_key collection depth ls =
     let at = start ls in
     unless_code (block_fault (first_text ls)) at (
     if is_property (first_text ls) then fails (property_fault ls) at
-    else (if is_dash (first_text ls) || is_block_start (first_text ls) then fails yaml.UnexpectedCharacter at
+    else (if is_dash (first_text ls) || is_block_start (first_text ls) then
+    fails yaml.UnexpectedCharacter at
     else (if is_flow_start (first_text ls) then (do
       x ← collection depth ls
       fails (collection_fault x.left) at)

@@ -18,7 +18,8 @@ broken_limit nodes text (s ∷ ss) =
     let below = broken_limit (nodes + s.nodes) (text + s.text) ss in
     if nat_lt most_nodes (nodes + s.nodes) || nat_lt most_alias_text (text + s.text)
     then Some (record { code = yaml.TooManyNodes; at = s.at })
-    else (if nat_lt deepest_collection s.depth then Some (record { code = yaml.NestingTooDeep; at = s.at }) else below)
+    else (if nat_lt deepest_collection s.depth then
+    Some (record { code = yaml.NestingTooDeep; at = s.at }) else below)
 
 abbrev pub nodes_listed : List Start → ℕ
 nodes_listed [] = 0

@@ -106,7 +106,13 @@ deepest depth (suc levels) = depth + levels
 -- are counted from there.
 abbrev pub alias_start : ℕ → ℕ → Node → Start
 alias_start at depth n =
-    record { at = at; nodes = nodes_in n; text = text_size n; depth = deepest depth (levels_in n); alias = true }
+    record {
+      at = at;
+      nodes = nodes_in n;
+      text = text_size n;
+      depth = deepest depth (levels_in n);
+      alias = true;
+    }
 
 -- an alias of an anchor that was found, or of none (7.1)
 abbrev pub alias_of : Option Anchor → ℕ → ℕ → Reading Node

@@ -1,5 +1,6 @@
 -- The faults of a call by itself, and the faults of names for all calls of a file together.
-use Rattle.std.specs.Prelude.{◌≡◌, ◌⊎◌, List, [], ◌∷◌, ◌++◌, Bool, true, false, ◌&&◌, not, Contains, map}
+use Rattle.std.specs.Prelude.{◌≡◌, ◌⊎◌, List, [], ◌∷◌, ◌++◌, Bool, true, false, ◌&&◌, not, Contains}
+use Rattle.std.specs.Prelude.{map}
 use Rattle.std.specs.Prelude.{ℕ, Option, None, option_map, if◌then◌else◌}
 use Rattle.std.specs.List.{AllByRecursion, cons_option, flat_map}
 use Rattle.std.specs.Option.{option_map_or}
@@ -23,8 +24,10 @@ use Rattle.al_check_interfaces.specs.declared.interfaces.ParameterKind.TheVarian
 use Rattle.al_check_interfaces.specs.declared.interfaces.Signature.{Signature}
 use Rattle.al_check_interfaces.specs.Uses.{Call, site_caller}
 use Rattle.al_check_calls.specs.Answers.{Answered, Typing, values_in}
-use Rattle.al_check_calls.specs.CallFaults.{Given, call_fault, callable_signature, called_name, given_by, given_type, is_inherit, missing_code}
-use Rattle.al_check_calls.specs.CallFaults.{missing_name, names_against, undefined_name, uses_faults, wrong_input}
+use Rattle.al_check_calls.specs.CallFaults.{Given, call_fault, callable_signature, called_name}
+use Rattle.al_check_calls.specs.CallFaults.{given_by, given_type, is_inherit, missing_code}
+use Rattle.al_check_calls.specs.CallFaults.{missing_name, names_against, undefined_name}
+use Rattle.al_check_calls.specs.CallFaults.{uses_faults, wrong_input}
 
 -- ---- the faults of a call, by what they are about
 
@@ -36,7 +39,8 @@ is_compared Secret Job n = not (is_inherit n)
 
 abbrev pub signature_for : ParameterKind → Call → Option Interface → Option Signature
 signature_for k c answer =
-    if is_compared k (site_caller c.site) c.site.node then callable_signature (site_caller c.site) answer else None
+    if is_compared k (site_caller c.site) c.site.node then
+    callable_signature (site_caller c.site) answer else None
 
 abbrev pub names_of_kind : ParameterKind → Call → Option Interface → List Fault
 names_of_kind k c answer = option_map_or (names_against k c) (signature_for k c answer) []
@@ -47,11 +51,13 @@ values_against Step c values o = []
 values_against Job c values o = option_map_or (λ s. flat_map (wrong_input c s.inputs) values) o []
 
 abbrev pub value_faults : Call → List Given → Option Interface → List Fault
-value_faults c values answer = values_against (site_caller c.site) c values (callable_signature (site_caller c.site) answer)
+value_faults c values answer =
+    values_against (site_caller c.site) c values (callable_signature (site_caller c.site) answer)
 
 -- all faults except those of names
 abbrev pub faults_but_names : Typing → Answered → List Fault
-faults_but_names typing a = uses_faults a.call a.answer ++ value_faults a.call (values_in typing a.call) a.answer
+faults_but_names typing a =
+    uses_faults a.call a.answer ++ value_faults a.call (values_in typing a.call) a.answer
 
 -- C4 of a value that a call passes
 abbrev pub wrong_value : Typing → Call → List Parameter → Scalar × Node → List Fault
@@ -82,14 +88,19 @@ abbrev pub name_faults_of : Comparison → List Fault
 name_faults_of q = names_against q.kind q.call q.signature
 
 abbrev pub undefined_of : Comparison → List Fault
-undefined_of q = flat_map (undefined_name q.kind q.call q.signature) (given_by q.kind q.call.site.node)
+undefined_of q =
+    flat_map (undefined_name q.kind q.call q.signature) (given_by q.kind q.call.site.node)
 
 abbrev pub missing_of : Comparison → List Fault
-missing_of q = flat_map (missing_name q.kind q.call q.signature) (mandatory_of (parameters_of q.kind q.signature))
+missing_of q =
+    flat_map (missing_name q.kind q.call q.signature)
+    (mandatory_of (parameters_of q.kind q.signature))
 
 -- calls with the same caller and text have the same signature
 abbrev pub HaveOneSignature : Comparison → Comparison → Type 0
-HaveOneSignature q r = site_caller q.call.site ≡ site_caller r.call.site → q.call.text ≡ r.call.text → q.signature ≡ r.signature
+HaveOneSignature q r =
+    site_caller q.call.site ≡ site_caller r.call.site → q.call.text ≡ r.call.text → q.signature
+    ≡ r.signature
 
 abbrev pub TellSignatures : List Comparison → Type 0
 TellSignatures qs = (q r : Comparison) → Contains qs q → Contains qs r → HaveOneSignature q r
@@ -103,7 +114,8 @@ pub record AreToldByUses (found : List Answered) : Type 0 where
 abbrev pub call_alike : Comparison → Comparison → Bool
 call_alike q r =
     kinds.ghosts.eq q.kind r.kind
-    && (caller.ghosts.eq (site_caller q.call.site) (site_caller r.call.site) && bytes_eq q.call.text r.call.text)
+    && (caller.ghosts.eq (site_caller q.call.site) (site_caller r.call.site)
+    && bytes_eq q.call.text r.call.text)
 
 pub record CallAlike (q r : Comparison) : Type 0 where
   pub kind : q.kind ≡ r.kind
@@ -132,7 +144,8 @@ TellSignaturesBy ns = (n m : GivenName) → Contains ns n → Contains ns m → 
 -- the same name at the same position, given by such calls
 abbrev pub is_same_name_given : GivenName → GivenName → Bool
 is_same_name_given n m =
-    call_alike n.by m.by && (bytes_eq (key_of n.entry) (key_of m.entry) && span.ghosts.eq n.entry.0.span m.entry.0.span)
+    call_alike n.by m.by && (bytes_eq (key_of n.entry) (key_of m.entry)
+    && span.ghosts.eq n.entry.0.span m.entry.0.span)
 
 abbrev pub AreThere : List Fault → List Fault → Type 0
 AreThere faults all = (f : Fault) → Contains faults f → Contains all f
@@ -147,7 +160,8 @@ abbrev pub gives : Comparison → Parameter → Bool
 gives q p = named_among (keys_in (given_by q.kind q.call.site.node)) p.name
 
 abbrev pub missing_fault : Comparison → Parameter → Fault
-missing_fault q p = call_fault (missing_code q.kind) q.call q.call.at (p.name ∷ called_name q.call q.signature ∷ [])
+missing_fault q p =
+    call_fault (missing_code q.kind) q.call q.call.at (p.name ∷ called_name q.call q.signature ∷ [])
 
 abbrev pub fault_unless_given : Comparison → Parameter → List Fault
 fault_unless_given q = missing_name q.kind q.call q.signature
@@ -161,4 +175,5 @@ mandatory_for q = mandatory_of (parameters_of q.kind q.signature)
 -- Each mandatory parameter is left to look up, or is reported as missing at this `uses`.
 pub record IsSaid (q : Comparison) (left : List Parameter) (out : List Fault) : Type 0 where
   pub among : (p : Parameter) → Contains left p → Contains (mandatory_for q) p
-  pub said : (p : Parameter) → Contains (mandatory_for q) p → Contains left p ⊎ Contains out (missing_fault q p)
+  pub said : (p : Parameter) → Contains (mandatory_for q) p → Contains left p
+      ⊎ Contains out (missing_fault q p)

@@ -35,10 +35,14 @@ e_yml = codes "./.github/workflows/e.yml"
 --     steps:
 --       - uses: ./a
 abbrev pub step_calls_a : Node
-step_calls_a = mapping (entry (key (codes "on") 0) (word (codes "push") 4) (entry (key (codes "jobs") 9)
-    (mapping (entry (key (codes "a") 17) (mapping (entry (key (codes "runs-on") 24) (word (codes "ubuntu-latest") 33)
-    (entry (key (codes "steps") 51) (sequence (item (mapping (entry (key (codes "uses") 66) (word (codes "./a") 72) no_entries)
-    (at 66 75)) no_nodes) (at 64 75)) no_entries)) (at 24 75)) no_entries) (at 17 75)) no_entries)) (at 0 75)
+step_calls_a =
+    mapping (entry (key (codes "on") 0) (word (codes "push") 4) (entry (key (codes "jobs") 9)
+    (mapping (entry (key (codes "a") 17)
+    (mapping (entry (key (codes "runs-on") 24) (word (codes "ubuntu-latest") 33)
+    (entry (key (codes "steps") 51)
+    (sequence (item (mapping (entry (key (codes "uses") 66) (word (codes "./a") 72) no_entries)
+    (at 66 75)) no_nodes) (at 64 75)) no_entries)) (at 24 75)) no_entries) (at 17 75)) no_entries))
+    (at 0 75)
 
 -- name: A
 -- description: d
@@ -49,28 +53,35 @@ step_calls_a = mapping (entry (key (codes "on") 0) (word (codes "push") 4) (entr
 --   using: node20
 --   main: m.js
 abbrev pub action_requiring_who : Node
-action_requiring_who = mapping (entry (key (codes "name") 0) (word (codes "A") 6) (entry (key (codes "description") 8)
+action_requiring_who =
+    mapping (entry (key (codes "name") 0) (word (codes "A") 6) (entry (key (codes "description") 8)
     (word (codes "d") 21) (entry (key (codes "inputs") 23)
     (mapping (entry (key (codes "who") 33)
-    (mapping (entry (key (codes "required") 42) (plain BoolClass (codes "true") 52) no_entries) (at 42 56)) no_entries) (at 33 56))
-    (entry (key (codes "runs") 57) (mapping (entry (key (codes "using") 65) (word (codes "node20") 72)
-    (entry (key (codes "main") 81) (word (codes "m.js") 87) no_entries)) (at 65 91)) no_entries)))) (at 0 91)
+    (mapping (entry (key (codes "required") 42) (plain BoolClass (codes "true") 52) no_entries)
+    (at 42 56)) no_entries) (at 33 56))
+    (entry (key (codes "runs") 57)
+    (mapping (entry (key (codes "using") 65) (word (codes "node20") 72)
+    (entry (key (codes "main") 81) (word (codes "m.js") 87) no_entries)) (at 65 91)) no_entries))))
+    (at 0 91)
 
 -- on: push
 -- jobs:
 --   a:
 --     uses: ./.github/workflows/d.yml
 abbrev pub job_calls_d : Node
-job_calls_d = mapping (entry (key (codes "on") 0) (word (codes "push") 4) (entry (key (codes "jobs") 9)
+job_calls_d =
+    mapping (entry (key (codes "on") 0) (word (codes "push") 4) (entry (key (codes "jobs") 9)
     (mapping (entry (key (codes "a") 17)
-    (mapping (entry (key (codes "uses") 24) (word (codes "./.github/workflows/d.yml") 30) no_entries) (at 24 55)) no_entries)
+    (mapping (entry (key (codes "uses") 24) (word (codes "./.github/workflows/d.yml") 30)
+    no_entries) (at 24 55)) no_entries)
     (at 17 55)) no_entries)) (at 0 55)
 
 -- on: push
 -- jobs: {}
 abbrev pub not_callable : Node
 not_callable = mapping
-    (entry (key (codes "on") 0) (word (codes "push") 4) (entry (key (codes "jobs") 9) (mapping no_entries (at 15 17)) no_entries))
+    (entry (key (codes "on") 0) (word (codes "push") 4)
+    (entry (key (codes "jobs") 9) (mapping no_entries (at 15 17)) no_entries))
     (at 0 17)
 
 -- on:
@@ -80,10 +91,13 @@ not_callable = mapping
 --         type: boolean
 -- jobs: {}
 abbrev pub takes_boolean_x : Node
-takes_boolean_x = mapping (entry (key (codes "on") 0) (mapping (entry (key (codes "workflow_call") 6)
+takes_boolean_x =
+    mapping (entry (key (codes "on") 0) (mapping (entry (key (codes "workflow_call") 6)
     (mapping (entry (key (codes "inputs") 25)
-    (mapping (entry (key (codes "x") 39) (mapping (entry (key (codes "type") 50) (word (codes "boolean") 56) no_entries)
-    (at 50 63)) no_entries) (at 39 63)) no_entries) (at 25 63)) no_entries) (at 6 63)) (entry (key (codes "jobs") 64)
+    (mapping (entry (key (codes "x") 39)
+    (mapping (entry (key (codes "type") 50) (word (codes "boolean") 56) no_entries)
+    (at 50 63)) no_entries) (at 39 63)) no_entries) (at 25 63)) no_entries) (at 6 63))
+    (entry (key (codes "jobs") 64)
     (mapping no_entries (at 70 72)) no_entries)) (at 0 72)
 
 -- on: push
@@ -94,10 +108,13 @@ takes_boolean_x = mapping (entry (key (codes "on") 0) (mapping (entry (key (code
 --       x: 3
 --       y: 1
 abbrev pub job_gives_x_and_y : Node
-job_gives_x_and_y = mapping (entry (key (codes "on") 0) (word (codes "push") 4) (entry (key (codes "jobs") 9)
+job_gives_x_and_y =
+    mapping (entry (key (codes "on") 0) (word (codes "push") 4) (entry (key (codes "jobs") 9)
     (mapping (entry (key (codes "a") 17) (mapping (entry (key (codes "uses") 24) (word e_yml 30)
-    (entry (key (codes "with") 60) (mapping (entry (key (codes "x") 72) (plain Int (codes "3") 75) (entry (key (codes "y") 83)
-    (plain Int (codes "1") 86) no_entries)) (at 72 87)) no_entries)) (at 24 87)) no_entries) (at 17 87)) no_entries)) (at 0 87)
+    (entry (key (codes "with") 60)
+    (mapping (entry (key (codes "x") 72) (plain Int (codes "3") 75) (entry (key (codes "y") 83)
+    (plain Int (codes "1") 86) no_entries)) (at 72 87)) no_entries)) (at 24 87)) no_entries)
+    (at 17 87)) no_entries)) (at 0 87)
 
 -- on:
 --   workflow_call:
@@ -109,7 +126,8 @@ abbrev pub requires_token : Node
 requires_token = mapping (entry (key (codes "on") 0) (mapping (entry (key (codes "workflow_call") 6)
     (mapping (entry (key (codes "secrets") 25)
     (mapping (entry (key (codes "token") 40)
-    (mapping (entry (key (codes "required") 55) (plain BoolClass (codes "true") 65) no_entries) (at 55 69)) no_entries)
+    (mapping (entry (key (codes "required") 55) (plain BoolClass (codes "true") 65) no_entries)
+    (at 55 69)) no_entries)
     (at 40 69)) no_entries) (at 25 69)) no_entries) (at 6 69)) (entry (key (codes "jobs") 70)
     (mapping no_entries (at 76 78)) no_entries)) (at 0 78)
 
@@ -120,9 +138,11 @@ requires_token = mapping (entry (key (codes "on") 0) (mapping (entry (key (codes
 --     secrets:
 --       key: k
 abbrev pub job_gives_key : Node
-job_gives_key = mapping (entry (key (codes "on") 0) (word (codes "push") 4) (entry (key (codes "jobs") 9)
+job_gives_key =
+    mapping (entry (key (codes "on") 0) (word (codes "push") 4) (entry (key (codes "jobs") 9)
     (mapping (entry (key (codes "a") 17) (mapping (entry (key (codes "uses") 24) (word e_yml 30)
-    (entry (key (codes "secrets") 60) (mapping (entry (key (codes "key") 75) (word (codes "k") 80) no_entries)
+    (entry (key (codes "secrets") 60)
+    (mapping (entry (key (codes "key") 75) (word (codes "k") 80) no_entries)
     (at 75 81)) no_entries)) (at 24 81)) no_entries) (at 17 81)) no_entries)) (at 0 81)
 
 -- on: push
@@ -131,9 +151,11 @@ job_gives_key = mapping (entry (key (codes "on") 0) (word (codes "push") 4) (ent
 --     uses: ./.github/workflows/e.yml
 --     secrets: inherit
 abbrev pub job_inherits : Node
-job_inherits = mapping (entry (key (codes "on") 0) (word (codes "push") 4) (entry (key (codes "jobs") 9)
+job_inherits =
+    mapping (entry (key (codes "on") 0) (word (codes "push") 4) (entry (key (codes "jobs") 9)
     (mapping (entry (key (codes "a") 17) (mapping (entry (key (codes "uses") 24) (word e_yml 30)
-    (entry (key (codes "secrets") 60) (word (codes "inherit") 69) no_entries)) (at 24 76)) no_entries) (at 17 76)) no_entries))
+    (entry (key (codes "secrets") 60) (word (codes "inherit") 69) no_entries)) (at 24 76))
+    no_entries) (at 17 76)) no_entries))
     (at 0 76)
 
 abbrev pub shown_by : FileKind → Node → List (Option Interface)

@@ -21,4 +21,6 @@ way_in walk = map way_step_view walk.way.steps.items
 -- All keys of conditions end in `if`. Any other scalar without `${{` has no expression, and what
 -- isn't a scalar may have some.
 abbrev pub may_have_expression : Scalar × Node → Bool
-may_have_expression e = option_map_or (λ s. ends_with nat_eq (key_of e) (codes "if") || has_chunk (text_of s)) (scalar_in e.1) true
+may_have_expression e =
+    option_map_or (λ s. ends_with nat_eq (key_of e) (codes "if") || has_chunk (text_of s))
+    (scalar_in e.1) true

@@ -14,11 +14,14 @@ use Rattle.al_cli.specs.declared.ending.Ending.{Ending}
 use Rattle.al_cli.specs.declared.ending.Ending.TheVariants as ending
 
 -- the output of a script with this status was flushed, or that failed
-abbrev pub FlushEnds : {W : Type 0} → (W → Option (List ℕ)) → Output W → Output W → ℕ → Ending → Type 0
+abbrev pub FlushEnds : {W : Type 0} → (W → Option (List ℕ)) → Output W → Output W → ℕ
+    → Ending → Type 0
 FlushEnds contents wrote now status (ending.Answered said) = (said ≡ status)
-    × Keeps (bytes_written contents wrote) (bytes_written contents now) × (write_failures now ≡ write_failures wrote)
+    × Keeps (bytes_written contents wrote) (bytes_written contents now)
+    × (write_failures now ≡ write_failures wrote)
 FlushEnds contents wrote now status (ending.Stopped stop) = (stop ≡ WriteFault)
-    × Keeps (bytes_written contents wrote) (bytes_written contents now) × HasRisen (write_failures wrote) (write_failures now)
+    × Keeps (bytes_written contents wrote) (bytes_written contents now)
+    × HasRisen (write_failures wrote) (write_failures now)
 FlushEnds contents wrote now status (ending.Reported said) = ⊥
 FlushEnds contents wrote now status (ending.Unread why) = ⊥
 FlushEnds contents wrote now status (ending.NoRun said) = ⊥

@@ -1,5 +1,6 @@
 -- The files that each step of a run takes.
-use Rattle.std.specs.Prelude.{◌≡◌, ◌⊎◌, ℕ, true, if◌then◌else◌, List, [], ◌∷◌, ◌++◌, Option, None, Some, slice_get, string_bytes, String}
+use Rattle.std.specs.Prelude.{◌≡◌, ◌⊎◌, ℕ, true, if◌then◌else◌, List, [], ◌∷◌, ◌++◌, Option, None}
+use Rattle.std.specs.Prelude.{Some, slice_get, string_bytes, String}
 use Rattle.std.specs.Global.{Global}
 use Rattle.std.specs.List.{AllByRecursion}
 use Rattle.al_session.specs.Affected.{is_among}
@@ -37,7 +38,8 @@ pub record KeepsHeld (holding : Option Holding) (old new : List (List ℕ × Lis
 
 -- the file at the path is taken, or nothing changes
 abbrev pub IsTakenIfThere : List ℕ → List (List ℕ × List ℕ) → List (List ℕ × List ℕ) → Type 0
-IsTakenIfThere path old new = (new ≡ old) ⊎ ((bytes : List ℕ) × (new ≡ with_entry old (path, bytes)))
+IsTakenIfThere path old new =
+    (new ≡ old) ⊎ ((bytes : List ℕ) × (new ≡ with_entry old (path, bytes)))
 
 -- the calls of a file, if there is one
 abbrev pub calls_of_entry : Option (List ℕ × List ℕ) → List Target
@@ -54,7 +56,8 @@ AreAmong paths texts = AllByRecursion (λ text. is_among (string_bytes text) pat
 
 -- The files after the first ones are each called by a file before them, and each pending text is a
 -- candidate of a call of these files.
-pub record IsCalling (first : List (List ℕ × List ℕ)) (files : List (List ℕ × List ℕ)) (texts : List (String Global)) : Type 0 where
+pub record IsCalling (first : List (List ℕ × List ℕ)) (files : List (List ℕ × List ℕ))
+    (texts : List (String Global)) : Type 0 where
   pub after : List (List ℕ × List ℕ)
   pub all : files ≡ first ++ after
   pub called : AreCalled first after

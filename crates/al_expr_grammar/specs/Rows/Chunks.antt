@@ -16,4 +16,5 @@ closed places = record { chunks = map span_of places; fault = None }
 
 -- the same with a fault that has this span
 abbrev pub cut_off : List (ℕ × ℕ) → ExpressionCode → ℕ × ℕ → Chunked
-cut_off places code place = record { chunks = map span_of places; fault = Some (expression_fault code (span_of place) []) }
+cut_off places code place =
+    record { chunks = map span_of places; fault = Some (expression_fault code (span_of place) []) }

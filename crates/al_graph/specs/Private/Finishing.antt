@@ -38,7 +38,8 @@ SeesEdges graph seen f = (k : ℕ) → Edge graph f.0 k → Marked seen k ⊎ Co
 
 -- The invariant of the search, apart from `looked`: `seen` marks the nodes that are on the stack of
 -- `frames` or finished in `order`.
-pub record IsBegun (graph : List (List ℕ)) (seen : List Bool) (frames : List (ℕ × List ℕ)) (order : List ℕ) : Type 0 where
+pub record IsBegun (graph : List (List ℕ)) (seen : List Bool) (frames : List (ℕ × List ℕ))
+    (order : List ℕ) : Type 0 where
   pub size : length seen ≡ length graph
   pub listed : (k : ℕ) → Marked seen k → Contains order k ⊎ Contains (nodes_of frames) k
   pub entered : (k : ℕ) → Contains (nodes_of frames) k → Marked seen k
@@ -53,7 +54,8 @@ pub record IsBegun (graph : List (List ℕ)) (seen : List Bool) (frames : List (
       Walk graph k (node_at order c)
   pub nested : Nested graph order
 
-pub record IsSearch (graph : List (List ℕ)) (seen : List Bool) (frames : List (ℕ × List ℕ)) (order : List ℕ) : Type 0 where
+pub record IsSearch (graph : List (List ℕ)) (seen : List Bool) (frames : List (ℕ × List ℕ))
+    (order : List ℕ) : Type 0 where
   pub begun : IsBegun graph seen frames order
   pub looked : AllByRecursion (SeesEdges graph seen) frames
 

@@ -22,7 +22,8 @@ pub record IsBackward (graph : List (List ℕ)) (order : List ℕ) : Type 0 wher
 
 -- The nodes of the list were labelled: each has a label now. Those that had none got this one and
 -- were appended to the waiting nodes.
-pub record Labels (nodes : List ℕ) (label : ℕ) (old new : List (Option ℕ)) (before after : List ℕ) : Type 0 where
+pub record Labels (nodes : List ℕ) (label : ℕ) (old new : List (Option ℕ)) (before after : List ℕ) :
+    Type 0 where
   pub size : length new ≡ length old
   pub all : (k : ℕ) → Contains nodes k → (l : ℕ) × (label_at new k ≡ Some l)
   pub kept : (k l : ℕ) → label_at old k ≡ Some l → label_at new k ≡ Some l
@@ -41,7 +42,8 @@ LeadsUp graph order k l = (b : ℕ) × (b ≤ l) × (node_at order b ≡ k)
 
 -- The invariant of labelling from the end of the order down to `at`. The waiting nodes have label
 -- `at`, and their edges are still to be followed.
-pub record IsLabelling (graph : List (List ℕ)) (order : List ℕ) (labels : List (Option ℕ)) (at : ℕ) (waiting : List ℕ) : Type 0 where
+pub record IsLabelling (graph : List (List ℕ)) (order : List ℕ) (labels : List (Option ℕ)) (at : ℕ)
+    (waiting : List ℕ) : Type 0 where
   pub size : length labels ≡ length graph
   pub low : (k l : ℕ) → label_at labels k ≡ Some l → at ≤ l
   pub high : (k l : ℕ) → label_at labels k ≡ Some l → l < length order

@@ -18,7 +18,8 @@ cells_from i [] = []
 cells_from i (b ∷ bs) = (b, i) ∷ cells_from (i + 1) bs
 
 abbrev pub key : List ℕ → ℕ → Scalar
-key text i = record { style = Plain; class = Str; cells = cells_from i text; span = at i (i + length text) }
+key text i =
+    record { style = Plain; class = Str; cells = cells_from i text; span = at i (i + length text) }
 
 abbrev pub word : List ℕ → ℕ → Node
 word text i = scalar (key text i)
@@ -26,7 +27,12 @@ word text i = scalar (key text i)
 -- a text in single quotes, from the first of them on
 abbrev pub quoted : List ℕ → ℕ → Node
 quoted text i =
-    scalar (record { style = SingleQuoted; class = Str; cells = cells_from (i + 1) text; span = at i (i + length text + 2) })
+    scalar (record {
+      style = SingleQuoted;
+      class = Str;
+      cells = cells_from (i + 1) text;
+      span = at i (i + length text + 2);
+    })
 
 -- on: pus
 -- jobs: {}
@@ -45,7 +51,9 @@ wrong_activity =
     mapping
     (entry (key (codes "on") 0) (mapping
     (entry (key (codes "issues") 6) (mapping
-    (entry (key (codes "types") 18) (sequence (item (word (codes "opened") 26) (item (word (codes "close") 34) no_nodes)) (at 25 40))
+    (entry (key (codes "types") 18)
+    (sequence (item (word (codes "opened") 26) (item (word (codes "close") 34) no_nodes))
+    (at 25 40))
     no_entries) (at 18 40))
     no_entries) (at 6 40))
     (entry (key (codes "jobs") 41) (mapping no_entries (at 47 49)) no_entries)) (at 0 49)
@@ -60,7 +68,9 @@ wrong_patterns =
     mapping
     (entry (key (codes "on") 0) (mapping
     (entry (key (codes "push") 6) (mapping
-    (entry (key (codes "branches") 16) (sequence (item (quoted (codes "a[b") 27) (item (quoted (codes "!") 34) no_nodes)) (at 26 38))
+    (entry (key (codes "branches") 16)
+    (sequence (item (quoted (codes "a[b") 27) (item (quoted (codes "!") 34) no_nodes))
+    (at 26 38))
     (entry (key (codes "paths") 43) (sequence (item (quoted (codes "!./x") 51) no_nodes) (at 50 58))
     no_entries)) (at 16 58))
     no_entries) (at 6 58))
@@ -77,9 +87,12 @@ schedules =
     mapping
     (entry (key (codes "on") 0) (mapping
     (entry (key (codes "schedule") 6) (sequence
-    (item (mapping (entry (key (codes "cron") 22) (word (codes "0 0 * * 7") 28) no_entries) (at 22 37))
-    (item (mapping (entry (key (codes "cron") 44) (quoted (codes "*/4 * * * *") 50) no_entries) (at 44 63))
-    (item (mapping (entry (key (codes "cron") 70) (word (codes "0,59 * * * *") 76) no_entries) (at 70 88))
+    (item (mapping (entry (key (codes "cron") 22) (word (codes "0 0 * * 7") 28) no_entries)
+    (at 22 37))
+    (item (mapping (entry (key (codes "cron") 44) (quoted (codes "*/4 * * * *") 50) no_entries)
+    (at 44 63))
+    (item (mapping (entry (key (codes "cron") 70) (word (codes "0,59 * * * *") 76) no_entries)
+    (at 70 88))
     no_nodes))) (at 20 88))
     no_entries) (at 6 88))
     (entry (key (codes "jobs") 89) (mapping no_entries (at 95 97)) no_entries)) (at 0 97)
@@ -96,7 +109,8 @@ input_types =
     (entry (key (codes "on") 0) (mapping
     (entry (key (codes "workflow_dispatch") 6) (mapping
     (entry (key (codes "inputs") 29) (mapping
-    (entry (key (codes "level") 43) (mapping (entry (key (codes "type") 58) (word (codes "text") 64) no_entries) (at 58 68))
+    (entry (key (codes "level") 43)
+    (mapping (entry (key (codes "type") 58) (word (codes "text") 64) no_entries) (at 58 68))
     no_entries) (at 43 68))
     no_entries) (at 29 68))
     no_entries) (at 6 68))
@@ -115,9 +129,12 @@ ids =
     mapping
     (entry (key (codes "on") 0) (word (codes "push") 4)
     (entry (key (codes "jobs") 9) (mapping
-    (entry (key (codes "1st") 17) (mapping (entry (key (codes "runs-on") 26) (word (codes "u") 35) no_entries) (at 26 36))
-    (entry (key (codes "a") 39) (mapping (entry (key (codes "runs-on") 46) (word (codes "u") 55) no_entries) (at 46 56))
-    (entry (key (codes "A") 59) (mapping (entry (key (codes "runs-on") 66) (word (codes "u") 75) no_entries) (at 66 76))
+    (entry (key (codes "1st") 17) (mapping
+    (entry (key (codes "runs-on") 26) (word (codes "u") 35) no_entries) (at 26 36))
+    (entry (key (codes "a") 39) (mapping
+    (entry (key (codes "runs-on") 46) (word (codes "u") 55) no_entries) (at 46 56))
+    (entry (key (codes "A") 59) (mapping
+    (entry (key (codes "runs-on") 66) (word (codes "u") 75) no_entries) (at 66 76))
     no_entries))) (at 17 76))
     no_entries)) (at 0 76)
 
@@ -141,7 +158,8 @@ needs =
     (entry (key (codes "needs") 24) (word (codes "B") 31)
     (entry (key (codes "runs-on") 37) (word (codes "u") 46) no_entries)) (at 24 47))
     (entry (key (codes "b") 50) (mapping
-    (entry (key (codes "needs") 57) (sequence (item (word (codes "a") 65) (item (word (codes "x") 68) no_nodes)) (at 64 70))
+    (entry (key (codes "needs") 57)
+    (sequence (item (word (codes "a") 65) (item (word (codes "x") 68) no_nodes)) (at 64 70))
     (entry (key (codes "runs-on") 75) (word (codes "u") 84) no_entries)) (at 57 85))
     (entry (key (codes "c") 88) (mapping
     (entry (key (codes "needs") 95) (word (codes "a") 102)
@@ -197,9 +215,11 @@ settings =
     (entry (key (codes "permissions") 9) (mapping
     (entry (key (codes "content") 24) (word (codes "read") 33)
     (entry (key (codes "issues") 40) (word (codes "all") 48) no_entries)) (at 24 51))
-    (entry (key (codes "env") 52) (mapping (entry (key (codes "A B") 59) (word (codes "x") 64) no_entries) (at 59 65))
+    (entry (key (codes "env") 52) (mapping
+    (entry (key (codes "A B") 59) (word (codes "x") 64) no_entries) (at 59 65))
     (entry (key (codes "defaults") 66) (mapping
-    (entry (key (codes "run") 78) (mapping (entry (key (codes "shell") 87) (word (codes "zsh") 94) no_entries) (at 87 97))
+    (entry (key (codes "run") 78) (mapping
+    (entry (key (codes "shell") 87) (word (codes "zsh") 94) no_entries) (at 87 97))
     no_entries) (at 78 97))
     (entry (key (codes "jobs") 98) (mapping no_entries (at 104 106)) no_entries))))) (at 0 106)
 
@@ -219,7 +239,8 @@ password =
     (entry (key (codes "runs-on") 24) (word (codes "u") 33)
     (entry (key (codes "container") 39) (mapping
     (entry (key (codes "credentials") 56) (mapping
-    (entry (key (codes "password") 77) (word (codes "p ${{ secrets.P }}") 87) no_entries) (at 77 105))
+    (entry (key (codes "password") 77) (word (codes "p ${{ secrets.P }}") 87) no_entries)
+    (at 77 105))
     no_entries) (at 56 105))
     no_entries)) (at 24 105))
     no_entries) (at 17 105))
@@ -242,7 +263,8 @@ step =
     (entry (key (codes "steps") 39) (sequence
     (item (mapping
     (entry (key (codes "if") 54) (word (codes "${{ true }} x") 58)
-    (entry (key (codes "run") 80) (word (codes "echo ::set-output name=a") 85) no_entries)) (at 54 109))
+    (entry (key (codes "run") 80) (word (codes "echo ::set-output name=a") 85) no_entries))
+    (at 54 109))
     no_nodes) (at 52 109))
     no_entries)) (at 24 109))
     no_entries) (at 17 109))
@@ -255,7 +277,8 @@ abbrev pub using_is_unknown : Node
 using_is_unknown =
     mapping
     (entry (key (codes "name") 0) (word (codes "a") 6)
-    (entry (key (codes "runs") 8) (mapping (entry (key (codes "using") 16) (word (codes "node18") 23) no_entries) (at 16 29))
+    (entry (key (codes "runs") 8) (mapping
+    (entry (key (codes "using") 16) (word (codes "node18") 23) no_entries) (at 16 29))
     no_entries)) (at 0 29)
 
 -- name: a
@@ -271,11 +294,13 @@ composite =
     mapping
     (entry (key (codes "name") 0) (word (codes "a") 6)
     (entry (key (codes "outputs") 8) (mapping
-    (entry (key (codes "o") 19) (mapping (entry (key (codes "description") 26) (word (codes "d") 39) no_entries) (at 26 40))
+    (entry (key (codes "o") 19) (mapping
+    (entry (key (codes "description") 26) (word (codes "d") 39) no_entries) (at 26 40))
     no_entries) (at 19 40))
     (entry (key (codes "runs") 41) (mapping
     (entry (key (codes "using") 49) (word (codes "composite") 56)
     (entry (key (codes "steps") 68) (sequence
-    (item (mapping (entry (key (codes "run") 81) (word (codes "make") 86) no_entries) (at 81 90)) no_nodes) (at 79 90))
+    (item (mapping (entry (key (codes "run") 81) (word (codes "make") 86) no_entries) (at 81 90))
+    no_nodes) (at 79 90))
     no_entries)) (at 49 90))
     no_entries))) (at 0 90)

@@ -27,7 +27,8 @@ last_row None = None
 last_row (Some l) = Some (row_like l.spaced (l.at ∷ []))
 
 -- the header's indicators were read; what follows them is still to be checked
-pub record Indicates (bytes : List ℕ) (at : ℕ) (asked : Result Header FaultAt) (h : Header) : Type 0 where
+pub record Indicates (bytes : List ℕ) (at : ℕ) (asked : Result Header FaultAt) (h : Header) :
+    Type 0 where
   pub given : asked ≡ block.header_end h (text_at bytes h.end)
   pub on_line : OnLine bytes at h.end
 
@@ -39,7 +40,8 @@ EndsHeader bytes at (Some place) = (h : Header) → block.header_end h (text_at 
     ≡ Err (record { code = WrongBlockHeader; at = place })
 
 -- the row of the line from `at` is its text from `s.from`, on the same line
-pub record RowAt (bytes : List ℕ) (at : ℕ) (asked : Option (List Cell)) (s : RowStart) : Type 0 where
+pub record RowAt (bytes : List ℕ) (at : ℕ) (asked : Option (List Cell)) (s : RowStart) :
+    Type 0 where
   pub row : asked ≡ Some (text_at bytes s.from)
   pub blank : is_all_blank (text_at bytes at) ≡ s.is_blank
   pub on_line : OnLine bytes at s.from
@@ -61,7 +63,11 @@ abbrev pub rest : Bool → Chomping → Option ℕ → Bool → Option BlockLine
     → List Line → Taken
 rest is_literal k m found last empties end ls =
     let rs = block.rows_at m found ls in
-    record { text = block.text_after is_literal k last empties rs.rows; end = block.rows_end end rs.rows; left = rs.left }
+    record {
+      text = block.text_after is_literal k last empties rs.rows;
+      end = block.rows_end end rs.rows;
+      left = rs.left;
+    }
 
 abbrev pub rest_of : BlockStyle → Bool → Option BlockLine → List ℕ → ℕ → List Line → Taken
 rest_of style found last empties end ls =
@@ -73,7 +79,8 @@ abbrev pub AddsRow : Bool → List Cell → RowState → List Cell → List ℕ 
     → RowState → Type 0
 AddsRow is_literal old was text break new is =
     (k : Chomping) (rs : List BlockLine) →
-    old ++ block.text_after is_literal k (last_row was.last) was.empties.items (record { text = text; break = break } ∷ rs)
+    old ++ block.text_after is_literal k (last_row was.last) was.empties.items
+    (record { text = text; break = break } ∷ rs)
     ≡ new ++ block.text_after is_literal k (last_row is.last) is.empties.items rs
 
 abbrev pub EndsRow : RowState → List Cell → RowState → Type 0

@@ -36,7 +36,12 @@ quote_len _ = 0
 
 abbrev pub scalar_of : scalar.ScalarForm → Scalar
 scalar_of (scalar.TheVariants.Short t style class) =
-    record { style = style; class = class; cells = short_cells t; span = short_span (quote_len style) t }
+    record {
+      style = style;
+      class = class;
+      cells = short_cells t;
+      span = short_span (quote_len style) t;
+    }
 scalar_of (scalar.TheVariants.Long t style class at) =
     record { style = style; class = class; cells = t.value; span = at }
 

@@ -48,12 +48,14 @@ read_after_break quotes bytes end escaped quote =
 
 abbrev pub GivesMark : Quotes → List ℕ → ℕ → Mark → Type 0
 GivesMark quotes bytes at mark.Quote = (at < length bytes)
-    × ((quote : ℕ) → quoted_in quotes quote (lines_at bytes at) ≡ Ok (record { text = []; end = at + 1; left = lines_at bytes (at + 1) }))
+    × ((quote : ℕ) → quoted_in quotes quote (lines_at bytes at)
+    ≡ Ok (record { text = []; end = at + 1; left = lines_at bytes (at + 1) }))
 GivesMark quotes bytes at (mark.Character c next) =
     (at < next) × (next ≤ length bytes) × ReadsOn quotes bytes at (character_cells at c) next
 GivesMark quotes bytes at (mark.Break end escaped) =
     (at ≤ end) × (end < length bytes) × IsLineEnd bytes end
-    × ((quote : ℕ) → quoted_in quotes quote (lines_at bytes at) ≡ read_after_break quotes bytes end escaped quote)
+    × ((quote : ℕ) → quoted_in quotes quote (lines_at bytes at)
+    ≡ read_after_break quotes bytes end escaped quote)
 GivesMark quotes bytes at mark.WrongEscape =
     (quote : ℕ) → quoted_in quotes quote (lines_at bytes at)
     ≡ Err (record { code = yaml.WrongEscape; at = at })

@@ -17,4 +17,5 @@ bytes_of_fragments fragments = flat_map fragment_bytes fragments
 -- PATH:LINE:COLUMN: MESSAGE [KIND] and a line feed, from these parts
 abbrev pub line_of : List ℕ → List ℕ → List ℕ → List ℕ → List ℕ → List ℕ
 line_of path line column message kind =
-    path ++ codes ":" ++ line ++ codes ":" ++ column ++ codes ": " ++ message ++ (codes " [" ++ kind ++ codes "]\n")
+    path ++ codes ":" ++ line ++ codes ":" ++ column ++ codes ": " ++ message
+    ++ (codes " [" ++ kind ++ codes "]\n")

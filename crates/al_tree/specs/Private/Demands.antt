@@ -20,5 +20,6 @@ demanded_faults demand n = faults demand.shape demand.takes_null demand.above.no
 abbrev pub mapping_faults : rust.Demand → Span → List (Scalar × Node) → List Fault
 mapping_faults demand at es =
     let all = among (keys_in es) in
-    option_map_or (λ r. keyed_faults r.keys_of demand.above.now all at (λ ks. entries_faults ks [] all (entries_of es)))
+    option_map_or (λ r. keyed_faults r.keys_of demand.above.now all at
+    (λ ks. entries_faults ks [] all (entries_of es)))
     (rule (mapping_shape demand.shape es)) []

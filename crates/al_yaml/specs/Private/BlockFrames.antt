@@ -47,9 +47,11 @@ pub data BlockWaiting : Type 0 where
 -- is still read.
 abbrev pub block_rest : ℕ → ℕ → ℕ → ℕ → ℕ → BlockOpen → List Line → Reading (Part Node)
 block_rest turns bound depth start column (items in_mapping done) ls =
-    with_span sequence start (sequence_entries (block_node bound) (flow_collection (suc bound)) turns in_mapping column depth done ls)
+    with_span sequence start (sequence_entries (block_node bound) (flow_collection (suc bound))
+    turns in_mapping column depth done ls)
 block_rest turns bound depth start column (entries done key) ls =
-    with_span mapping start (mapping_entries (block_node bound) (flow_collection (suc bound)) turns column depth done key)
+    with_span mapping start (mapping_entries (block_node bound) (flow_collection (suc bound)) turns
+    column depth done key)
 
 -- what is on the next line of a sequence, and of a mapping, in its column
 
@@ -63,7 +65,8 @@ more_items node collection turns in_mapping column depth now left =
 abbrev pub more_entries : BlockReader → CollectionReader → ℕ → ℕ → ℕ → Part Entries → List Line
     → Reading (Part Entries)
 more_entries node collection turns column depth now left =
-    entry_key collection depth left >>= (λ key. mapping_entries node collection turns column depth now.value key)
+    entry_key collection depth left
+    >>= (λ key. mapping_entries node collection turns column depth now.value key)
 
 -- the same from after the node that it waited for
 abbrev pub block_waits : ℕ → ℕ → ℕ → ℕ → ℕ → BlockWaiting → Part Node → Reading (Part Node)
@@ -71,7 +74,8 @@ block_waits turns bound depth start column (item in_mapping done) x =
     with_span sequence start (rest_below column (part (with_item done x.value) x.end x.left)
     (more_items (block_node bound) (flow_collection (suc bound)) turns in_mapping column depth))
 block_waits turns bound depth start column (value done k) x =
-    with_span mapping start (rest_below column (part (with_entry done k.scalar x.value) x.end x.left)
+    with_span mapping start (rest_below column
+    (part (with_entry done k.scalar x.value) x.end x.left)
     (more_entries (block_node bound) (flow_collection (suc bound)) turns column depth))
 
 -- ---- as the code has them
@@ -134,12 +138,14 @@ Begins bytes bound depth reading before (Ok (task.Read p)) after =
 Begins bytes bound depth reading before (Ok (task.Inside x)) after =
     run before reading
     ≡ noting (mark_of bytes x.begun.anchor)
-    (run after (block_rest (suc bound) bound (depth + 1) x.begun.start.at x.begun.start.column (block_open_of bytes x.has)
+    (run after (block_rest (suc bound) bound (depth + 1) x.begun.start.at x.begun.start.column
+    (block_open_of bytes x.has)
     (lines_at bytes x.at)))
 Begins bytes bound depth reading before (Ok (task.Node x)) after =
     run before reading
     ≡ noting (mark_of bytes x.anchor)
-    (run after (node_reader (suc bound) x.anchor (slot_of x.slot) depth x.start.column (lines_at bytes x.start.at)))
+    (run after (node_reader (suc bound) x.anchor (slot_of x.slot) depth x.start.column
+    (lines_at bytes x.start.at)))
 Begins bytes bound depth reading before (Ok (task.Found r)) after =
     run before reading ≡ Ok (part_of bytes r.part, after)
 Begins bytes bound depth reading before (Err e) after = FailsWith reading before e
@@ -159,7 +165,8 @@ abbrev pub FindsBlock : List ℕ → BlockReader → Option ℕ → ℕ → Read
     → Result task_type.BlockTask ReadError → State →
     Type 0
 FindsBlock bytes node anchor depth reading before (Ok (task.Node x)) after =
-    (x.anchor ≡ anchor) × (run before reading ≡ run after (node (slot_of x.slot) depth x.start.column (lines_at bytes x.start.at)))
+    (x.anchor ≡ anchor) × (run before reading
+    ≡ run after (node (slot_of x.slot) depth x.start.column (lines_at bytes x.start.at)))
 FindsBlock bytes node anchor depth reading before (Ok (task.Found r)) after =
     noting (mark_of bytes anchor) (run before reading) ≡ Ok (part_of bytes r.part, after)
 FindsBlock bytes node anchor depth reading before (Ok (task.Read p)) after = ⊥
@@ -195,11 +202,13 @@ abbrev pub EntersWith : List ℕ → ℕ → ℕ → ℕ → ℕ → ℕ → Rea
     → State → Type 0
 EntersWith bytes bound turns depth start column reading before w (task.Node x) after =
     (x.anchor ≡ None) × (run before reading
-    ≡ then_read (run after (block_node bound (slot_of x.slot) depth x.start.column (lines_at bytes x.start.at)))
+    ≡ then_read (run after (block_node bound (slot_of x.slot) depth x.start.column
+    (lines_at bytes x.start.at)))
     (block_waits turns bound depth start column (block_waiting_of bytes w)))
 EntersWith bytes bound turns depth start column reading before w (task.Found r) after =
     run before reading
-    ≡ run after (block_waits turns bound depth start column (block_waiting_of bytes w) (part_of bytes r.part))
+    ≡ run after (block_waits turns bound depth start column (block_waiting_of bytes w)
+    (part_of bytes r.part))
 EntersWith bytes bound turns depth start column reading before w (task.Read p) after = ⊥
 EntersWith bytes bound turns depth start column reading before w (task.Inside x) after = ⊥
 
@@ -215,7 +224,8 @@ abbrev pub ResumesBlock : List ℕ → ℕ → ℕ → ℕ → ℕ → ℕ → O
 ResumesBlock bytes bound turns depth start column mark w x before (Ok (task.Inside i)) after =
     (i.begun.start.at ≡ start) × (i.begun.start.column ≡ column) × (i.begun.anchor ≡ mark)
     × (run before (block_waits turns bound depth start column w x)
-    ≡ run after (block_rest turns bound depth start column (block_open_of bytes i.has) (lines_at bytes i.at)))
+    ≡ run after (block_rest turns bound depth start column (block_open_of bytes i.has)
+    (lines_at bytes i.at)))
 ResumesBlock bytes bound turns depth start column mark w x before (Ok (task.Found r)) after =
     noting (mark_of bytes mark) (run before (block_waits turns bound depth start column w x))
     ≡ Ok (part_of bytes r.part, after)

@@ -25,11 +25,14 @@ flow_goes depth bound turns outside f o =
 abbrev pub Inside : List ℕ → ℕ → NodeAnswer → List Frame → State → ℕ → Open → ℕ → Type 0
 Inside bytes depth whole fs n opening has at =
     IsInnermost (flow_goes depth) (length bytes) whole fs at
-    (λ bound turns. run n (open_rest (flow_collection bound) turns (depth + length fs + 1) opening has (lines_at bytes at)))
+    (λ bound turns. run n (open_rest (flow_collection bound) turns (depth + length fs + 1) opening
+    has (lines_at bytes at)))
 
 -- A node was read in the innermost collection on the stack.
 abbrev pub AfterNode : List ℕ → ℕ → NodeAnswer → List Frame → State → code.Part → Type 0
-AfterNode bytes depth whole fs n p = IsInnermost (flow_goes depth) (length bytes) whole fs p.next (λ bound turns. Ok (part_of bytes p, n))
+AfterNode bytes depth whole fs n p =
+    IsInnermost (flow_goes depth) (length bytes) whole fs p.next
+    (λ bound turns. Ok (part_of bytes p, n))
 
 -- What comes next in the innermost collection.
 abbrev pub Keeps : List ℕ → ℕ → NodeAnswer → List FlowFrame → State → ℕ → Open → After → Type 0

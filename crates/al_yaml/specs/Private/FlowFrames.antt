@@ -45,7 +45,12 @@ waiting_of bytes at (open_code.Entries m) =
     mapping_waiting bytes at (entries_of (map entry_view m.entries.items)) m.waits
 
 abbrev pub frame_of : List ℕ → FlowFrame → frames.Frame
-frame_of bytes f = record { opening = f.opening; mark = mark_of bytes f.inner.anchor; waiting = waiting_of bytes f.inner.at f.has }
+frame_of bytes f =
+    record {
+      opening = f.opening;
+      mark = mark_of bytes f.inner.anchor;
+      waiting = waiting_of bytes f.inner.at f.has;
+    }
 
 -- the collection that was read from its bracket up to the end of its closer
 abbrev pub closed_of : ℕ → frames.Open → ℕ → tree.Node
@@ -81,7 +86,8 @@ GoesOn bytes depth opening now has (after.Closes end) s =
 abbrev pub Opens : List ℕ → ℕ → ℕ → State → frames.Open → After → State → Type 0
 Opens bytes depth at s has (after.GoesOn inside) t =
     (bound : ℕ) → run s (flow.flow_collection (suc bound) depth (lines_at bytes at))
-    ≡ run t (open_rest (flow.flow_collection bound) (suc bound) (depth + 1) at has (lines_at bytes inside))
+    ≡ run t (open_rest (flow.flow_collection bound) (suc bound) (depth + 1) at has
+    (lines_at bytes inside))
 Opens bytes depth at s has (after.Closes end) t = ⊥
 
 abbrev pub Steps : List ℕ → ℕ → ℕ → (CollectionReader → ℕ → Reading (Part tree.Node)) → State → Open
@@ -98,7 +104,8 @@ Steps bytes depth opening reading before has (Err e) s =
 abbrev pub Resumes : List ℕ → ℕ → ℕ → frames.Waiting → Part tree.Node → State → frames.Open
     → Result After ReadError → Type 0
 Resumes bytes depth opening w x s has (Ok next) =
-    GoesOn bytes depth opening (λ c turns. run s (waiting_rest c turns depth opening w x)) has next s
+    GoesOn bytes depth opening (λ c turns. run s (waiting_rest c turns depth opening w x)) has next
+    s
 Resumes bytes depth opening w x s has (Err e) =
     (c : CollectionReader) (turns : ℕ) → FailsWith (waiting_rest c turns depth opening w x) s e
 

@@ -52,18 +52,21 @@ abbrev pub open_rest : CollectionReader → ℕ → ℕ → ℕ → Open → Lis
 open_rest collection turns depth opening (items done) ls =
     with_span sequence opening (flow_items (flow_node_over collection) turns opening depth done ls)
 open_rest collection turns depth opening (entries done) ls =
-    with_span mapping opening (flow_entries (flow_node_over collection) collection turns opening depth done ls)
+    with_span mapping opening (flow_entries (flow_node_over collection) collection turns opening
+    depth done ls)
 
 -- the same from after the node that it waited for
 abbrev pub waiting_rest : CollectionReader → ℕ → ℕ → ℕ → Waiting → Part Node → Reading (Part Node)
 waiting_rest collection turns depth opening (item done) x =
     with_span sequence opening
     (rest_after (ascii "]")
-    (λ left. flow_items (flow_node_over collection) turns opening depth (with_item done x.value) left) opening
+    (λ left. flow_items (flow_node_over collection) turns opening depth (with_item done x.value)
+    left) opening
     (with_item done x.value) x.left)
 waiting_rest collection turns depth opening (value done k) x =
     with_span mapping opening
-    (rest_after (ascii "}") (λ left. flow_entries (flow_node_over collection) collection turns opening depth
+    (rest_after (ascii "}") (λ left.
+    flow_entries (flow_node_over collection) collection turns opening depth
     (with_entry done k.scalar x.value) left) opening
     (with_entry done k.scalar x.value) x.left)
 waiting_rest collection turns depth opening (key at) x = fails yaml.WrongKey at

@@ -30,7 +30,8 @@ AreEnough size at (f ∷ fs) [] = ⊥
 AreEnough size at (f ∷ fs) (t ∷ ts) = (size < t + at) × AreEnough size at fs ts
 
 -- The innermost of these collections, read from an offset on, answers so under two bounds.
-pub record IsInnermost {F : Type 0} (goes : Goes F) (size : ℕ) (whole : NodeAnswer) (fs : List F) (at : ℕ)
+pub record IsInnermost {F : Type 0} (goes : Goes F) (size : ℕ) (whole : NodeAnswer)
+    (fs : List F) (at : ℕ)
     (answer : ℕ → ℕ → NodeAnswer) : Type 0 where
   pub bound : ℕ
   pub turns : ℕ
