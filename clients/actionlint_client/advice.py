@@ -42,12 +42,12 @@ class FirstFixes:
         from .actions_on_disk import actions_below
         from .files import Files
         from .project import Project
-        from .reader import Reader
+        from .reader import Reader, Started
 
         folder = os.fsencode(root or ".")
         self._program, self._left, self._named = program, MAX_TRIED, files
         self._seconds_left = SECONDS_OF_A_REPORT
-        reader = Reader(program, SECONDS_OF_AN_ANSWER)
+        reader = Reader(Started(program, SECONDS_OF_AN_ANSWER))
         self._files = Files(folder, lambda _: None, reader, False)
         self._project = Project(reader, self._files.read, lambda: list(self._files.wanted), lambda: actions_below(folder))
 

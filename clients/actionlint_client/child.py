@@ -6,7 +6,7 @@ import select
 import signal
 import subprocess
 import time
-from typing import Iterator, NoReturn
+from typing import NoReturn
 
 from .limit import LIMIT
 from .program import cannot_start
@@ -61,25 +61,23 @@ class Child:
             os.killpg(self._child.pid, signal.SIGKILL)
             return self._child.wait()
 
-    def _line(self, max_bytes: int | None = None) -> bytes | None:
-        """The next line of the output, without its line feed. None if it has more bytes than allowed: then it was read and dropped."""
-        blocks, size = [], 0
-        for block in self._blocks():
-            size += len(block)
-            if max_bytes is None or size <= max_bytes:
-                blocks.append(block)
-            else:
-                blocks = []
-        return None if max_bytes is not None and size > max_bytes else b"".join(blocks)
+    def has_ended(self) -> bool:
+        """Whether it is known to have ended."""
+        return self._child.returncode is not None
 
-    def _blocks(self) -> Iterator[bytes]:
-        """The next line of the output, without its line feed, piece by piece. All of it has to be taken before the next line."""
-        block, self._unread = self._unread, b""
-        while b"\n" not in block:
-            yield block
+    def _line(self, max_bytes: int) -> bytes | None:
+        """The next line of the output, without its line feed. None if it has more bytes than allowed: then it was read and dropped."""
+        parts: list[bytes] = []
+        size, block = 0, self._unread
+        while True:
+            part, end, self._unread = block.partition(b"\n")
+            size += len(part)
+            parts.append(part)
+            if size > max_bytes:
+                parts.clear()
+            if end:
+                return b"".join(parts) if size <= max_bytes else None
             block = self._read()
-        last, self._unread = block.split(b"\n", 1)
-        yield last
 
     def _read(self) -> bytes:
         if not _is_ready(self._stdout.fileno(), select.POLLIN, self._timeout):

@@ -25,7 +25,7 @@ from .output import STANDARD_OUTPUT, report_output
 from .paths import path_of_word
 from .problems import Problem, problem_of
 from .program import WHICH, find_program, missing_facts
-from .reader import Reader
+from .reader import Reader, Started
 from .report import BadReport
 from .sarif import Sarif, left_out_line
 from .terminal import WIDTH, Text, has_color
@@ -172,7 +172,7 @@ def _notes(options: argparse.Namespace, unread: set[str], outcome: Outcome) -> I
 
         yield from notes(options.program, root, files, options.notes == COUNT, outcome.say)
     if options.shellcheck:
-        reader = Reader(options.program, SECONDS_OF_AN_ANSWER)
+        reader = Reader(Started(options.program, SECONDS_OF_AN_ANSWER))
         yield from shellcheck.notes(reader, root, files, unread, outcome.say)
 
 

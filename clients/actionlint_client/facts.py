@@ -10,11 +10,7 @@ from .facts_tree import CodedFault, Json, Node, Place, read_fault, read_node, re
 from .limit import LIMIT
 
 MAX_ANSWER_BYTES = 64 * 1_048_576
-# The answers for which only the first faults of a file are held, and how much these may take.
-MAX_FAULTS_BYTES = 1_024 * 1_048_576
 MAX_FIRST_FAULTS_BYTES = 32 * 1_048_576
-# What is between two faults, and never in a text, whose quotes are escaped.
-BETWEEN_FAULTS = b'},{"code"'
 SHOWN_OF_AN_ANSWER = 200
 
 
@@ -76,17 +72,9 @@ class Facts(Child):
         return [read_fault(one) for one in self._asked("faults", "faults", path)]
 
     def first_faults(self, path: str, most: int) -> tuple[list[CodedFault], int]:
-        """The first faults of a file, at most so many, and how many more it has, which are only counted. Raises `NoAnswer` if they take
-        too many bytes."""
-        first = FirstFaults(most)
-        with LIMIT.uninterrupted():
-            self._send(f"faults {path}\n".encode())
-            for block in self._blocks():
-                first.take(block)
-        if first.is_too_long():
-            raise NoAnswer("the faults of a file take too many bytes")
-        found = self._member(self._object(bytes(first.held)), "faults")
-        return [read_fault(one) for one in found[:most]], first.more + len(found[most:])
+        """The first faults of a file, at most so many, and how many more it has. Raises `NoAnswer` if they take too many bytes."""
+        answer = self._answer_to(f"first {path} {most}\n".encode(), max_bytes=MAX_FIRST_FAULTS_BYTES)
+        return [read_fault(one) for one in self._member(answer, "faults")], self._member(answer, "more")
 
     def report(self, max_bytes: int = MAX_ANSWER_BYTES) -> dict[str, list[CodedFault]]:
         """The faults of the files that have some. Raises `NoAnswer` if the answer has more bytes."""
@@ -110,6 +98,10 @@ class Facts(Child):
     def expressions(self, path: str) -> list[Place]:
         return [read_place(one) for one in self._asked("expressions", "expressions", path)]
 
+    def of_bytes(self, question: str, path: str, data: bytes) -> Any:
+        """What a question about a file would have for an answer if it had these bytes. Raises `NoTree`."""
+        return self._told(question, self._answer_to(f"bytes {question} {path} {len(data)}\n".encode(), data, b"\n"))
+
     def tables(self) -> dict[str, Any]:
         """What the linter accepts, its codes and its limits."""
         return self._answer_to(b"tables\n")
@@ -121,9 +113,11 @@ class Facts(Child):
         return list(self._member(answer, "rechecked"))
 
     def _asked(self, question: str, key: str, path: str | None = None, max_bytes: int | None = None) -> Any:
-        """What the answer to a question has under a key, if it isn't the fault of a file without a tree."""
         words = question if path is None else f"{question} {path}"
-        answer = self._answer_to(f"{words}\n".encode(), max_bytes=max_bytes)
+        return self._told(key, self._answer_to(f"{words}\n".encode(), max_bytes=max_bytes))
+
+    def _told(self, key: str, answer: Json) -> Any:
+        """What an answer has under a key, if it isn't the fault of a file without a tree."""
         if key != "faults" and "faults" in answer:
             raise NoTree(read_fault(answer["faults"][0]))
         return self._member(answer, key)
@@ -153,45 +147,6 @@ class Facts(Child):
         if key not in answer:
             self._fail(f"it answered without {key}")
         return answer[key]
-
-
-class FirstFaults:
-    """Holds the beginning of an answer with faults, as long as it has no more than so many, and counts the others."""
-
-    def __init__(self, most: int):
-        self.held, self.more = bytearray(), 0
-        self._most, self._size = most, 0
-        # How many faults end in what is held, up to where this was searched, and the last bytes of what isn't held.
-        self._ended, self._searched, self._tail = 0, 0, b""
-
-    def take(self, block: bytes) -> None:
-        """Takes the next part of the answer."""
-        self._size += len(block)
-        if self.is_too_long():
-            return
-        if self._ended < self._most:
-            self.held += block
-            self._search()
-        else:
-            self._count(block)
-
-    def is_too_long(self) -> bool:
-        return len(self.held) > MAX_FIRST_FAULTS_BYTES or self._size > MAX_FAULTS_BYTES
-
-    def _search(self) -> None:
-        while (at := self.held.find(BETWEEN_FAULTS, self._searched)) >= 0:
-            self._ended, self._searched = self._ended + 1, at + 1
-            if self._ended == self._most:
-                rest = bytes(self.held[at:])
-                self.held[at:] = b"}]}"
-                self._count(rest)
-                return
-        self._searched = max(self._searched, len(self.held) - len(BETWEEN_FAULTS) + 1)
-
-    def _count(self, block: bytes) -> None:
-        text = self._tail + block
-        self.more += text.count(BETWEEN_FAULTS)
-        self._tail = text[-len(BETWEEN_FAULTS) + 1:]
 
 
 def _by_file(files: Iterable[Json]) -> dict[str, list[CodedFault]]:

@@ -14,6 +14,7 @@ from .facts import EditRefused, Facts, NoAnswer
 from .facts_tree import CodedFault
 from .faults import MAX_FAULTS, FileFaults, faults_of
 from .files import Files
+from .limit import LIMIT
 from .linter_limits import MAX_FILE_BYTES, MAX_FILES, MAX_PATH_BYTES
 from .paths import is_workflow
 from .program import find_facts, missing_linter
@@ -92,7 +93,7 @@ class Folder:
     def __init__(self, root: bytes, program: Program, say: Callable[[str], None], keeps_calls: bool = False):
         """`keeps_calls` is that of `Files`."""
         self._program, self._say = program, say
-        self.reader = Reader(program.words[0], program.timeout)
+        self.reader = Reader(self._started_for_reading)
         self._files = Files(root, say, self.reader, keeps_calls)
         self._facts: Facts | None = None
         self._put_files: dict[str, PutFile] = {}
@@ -156,7 +157,6 @@ class Folder:
         return put.data if put else b""
 
     def close(self) -> None:
-        self.reader.close()
         self._end_linter()
 
     def _end_linter(self) -> None:
@@ -167,6 +167,7 @@ class Folder:
     def _refresh(self) -> Result:
         if self._files.is_stale():
             self._update_files()
+        self._notice_end()
         self._send_changes()
         while self._is_edited or self._rechecked:
             self._read_cycles()
@@ -192,6 +193,20 @@ class Folder:
             self._facts = Facts([find_facts(linter)], self._program.timeout)
             self._missing = ""
         return self._facts
+
+    def _started_for_reading(self) -> Facts:
+        """The linter, which has the folder too. If it has ended, the next `refresh` puts all files again."""
+        with LIMIT.uninterrupted():
+            self._notice_end()
+            if self.delay() > 0:
+                raise LinterEnded("it ended too often")
+            return self._started()
+
+    def _notice_end(self) -> None:
+        """Forgets a linter that ended while it read a text."""
+        if self._facts is not None and self._facts.has_ended():
+            self._forget_linter()
+            self._say("the linter stopped and is started again: it ended while it read a text")
 
     def _forget_linter(self) -> None:
         self._end_linter()

@@ -18,7 +18,7 @@ from typing import Callable, NamedTuple, TypedDict
 
 from .child import LinterEnded
 from .problems import Problem
-from .reader import Reader
+from .reader import Reader, Started
 from .report import Fault
 from .shellcheck import ShellcheckFailed, notes_of_text, problem_of_note
 from .shellcheck_run import PROGRAM
@@ -202,7 +202,7 @@ def main(words: list[str]) -> int:
     signal.signal(signal.SIGTERM, stop)
     os.nice(NICENESS)
     unchecked: list[WrittenNote] = []
-    reader = Reader(words[0], SECONDS_OF_AN_ANSWER)
+    reader = Reader(Started(words[0], SECONDS_OF_AN_ANSWER))
     try:
         found = notes_of_text(reader, words[1], sys.stdin.buffer.read(), lambda fault: unchecked.append(written(fault, UNCHECKED, "note")))
         notes = [written(one.fault, one.code, one.level) for one in found]

@@ -178,7 +178,7 @@ def children(pid: int) -> list[int]:
 
 
 def linters(pid: int) -> list[int]:
-    """The runs of actionlint-facts by a server: one for each folder, and where calls or trees were looked at, another that reads texts."""
+    """The runs of actionlint-facts by a server: one for each folder."""
     return [child for child in children(pid) if b"facts" in Path(f"/proc/{child}/cmdline").read_bytes()]
 
 

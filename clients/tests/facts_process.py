@@ -15,15 +15,15 @@ from pathlib import Path
 from typing import Iterator
 
 from cases import Cases
-from repositories import ACTION, CALLED, CLIENTS, FILE, FILES, write
+from repositories import ACTION, CALLED, CLIENTS, FILE, FILES, WRONG, write
 
 from actionlint_client import facts as module
 from actionlint_client.child import LinterEnded, LinterMissing, LinterSilent
 from actionlint_client.facts import EditRefused, Facts, NoAnswer, NoTree
 from actionlint_client.facts_tree import Chain, Path as Dotted, Word, walk
-from actionlint_client.limit import TooSlow
+from actionlint_client.folder import Folder, Program
 from actionlint_client.program import FACTS, find_facts
-from actionlint_client.reader import Reader
+from actionlint_client.reader import Reader, Started
 
 CASES = Cases("facts-process")
 SECONDS = 60.0
@@ -119,18 +119,18 @@ def wrong_programs(_: str) -> None:
 @CASES.case
 def a_reader_whose_program_ends(program: str) -> None:
     """Another program answers. One that ends at a text is asked twice, and one that isn't there or hangs once."""
-    text = FILES[CALLED].encode()
-    reader = Reader(program, SECONDS)
+    text, started = FILES[CALLED].encode(), Started(program, SECONDS)
+    reader = Reader(started)
     for path in (CALLED, FILE):
         assert reader.calls(path, text) == frozenset(("a/action.yml", "a/action.yaml")) and reader.tree(path, text)
-        os.kill(reader._facts._child.pid, signal.SIGKILL)
+        os.kill(started()._child.pid, signal.SIGKILL)
         assert not fails_with(reader, LinterEnded, path, text)
-    reader.close()
+    started().stop()
     with tempfile.TemporaryDirectory(prefix="actionlint-test-") as folder:
         begun = Path(folder) / "begun"
         for end, kind, times in (("exit 3", LinterEnded, 2), ("exec sleep 600", LinterSilent, 1)):
             begun.write_text("", encoding="utf-8")
-            reader = Reader(program, 0.5)
+            reader = Reader(Started(program, 0.5))
             with using(fake(folder, f"echo >> {begun}; {end}")[0]):
                 assert fails_with(reader, kind) and len(begun.read_text(encoding="utf-8")) == times, end
         with using(folder + "/absent"):
@@ -138,22 +138,26 @@ def a_reader_whose_program_ends(program: str) -> None:
 
 
 @CASES.case
-def a_reader_that_is_cut_short(program: str) -> None:
-    """A text whose put was the last that there was time for has no part in later answers."""
-    reader = Reader(program, SECONDS)
-    reader.tree(ACTION, b"name: a\n")
-    put = reader._facts.put
-
-    def cut_short(path: str, data: bytes) -> None:
-        put(path, data)
-        raise TooSlow
-    reader._facts.put = cut_short
-    try:
-        reader.calls(CALLED, FILES[CALLED].encode())
-        raise AssertionError("it wasn't cut short")
-    except TooSlow:
-        assert reader.calls(FILE, FILES[FILE].encode()) == frozenset()
-    reader.close()
+def a_folder_whose_program_reads(program: str) -> None:
+    """One program has the folder and reads other texts, which have no part in the faults. One that ends at a text is followed by another
+    one, which gets the folder."""
+    with tempfile.TemporaryDirectory(prefix="actionlint-test-") as root:
+        write(root, {FILE: WRONG, CALLED: FILES[CALLED]})
+        folder = Folder(os.fsencode(root), Program([program], SECONDS), print)
+        before = folder.refresh()
+        assert before and set(before.faults) == {FILE}, before
+        running = folder._facts
+        for path, data in ((FILE, b"name: a\n"), (CALLED, b"a: ["), (ACTION, b"name: a\n")):
+            assert (folder.reader.tree(path, data) is None) == (data == b"a: ["), path
+        folder.edit(CALLED, WRONG.encode())
+        after = folder.refresh()
+        assert running is folder._facts and after and set(after.faults) == {FILE, CALLED} and after.changed == {CALLED}, after
+        assert running and after.faults[FILE] == before.faults[FILE]
+        os.kill(running._child.pid, signal.SIGKILL)
+        assert folder.reader.tree(FILE, b"name: a\n") and folder._facts is not running
+        again = folder.refresh()
+        assert again and again.faults == after.faults, again
+        folder.close()
 
 
 @contextmanager

@@ -67,7 +67,7 @@ def a_folder_is_let_go(program: str) -> None:
     editor.open(FILE, WRONG)
     editor.close(FILE)
     editor.settle()
-    assert len(linters(editor.child.pid)) == 2 and editor.texts(FILE) == [UNDEFINED], "a folder of the workspace stays"
+    assert len(linters(editor.child.pid)) == 1 and editor.texts(FILE) == [UNDEFINED], "a folder of the workspace stays"
     end(editor)
 
 
@@ -182,7 +182,7 @@ def two_uris_of_one_path(program: str) -> None:
         editor.close_uri(other)
         editor.settle()
         assert len(editor.shown[one]["diagnostics"]) == 1, "closed by the other URI"
-    assert len(linters(editor.child.pid)) == 2
+    assert len(linters(editor.child.pid)) == 1
     end(editor)
 
 
@@ -213,7 +213,7 @@ def a_root_path(program: str) -> None:
     editor = start(program, FILES, root_path="{}/.github/../")
     editor.open(FILE, RIGHT)
     editor.settle()
-    assert editor.texts(FILE) == [] and editor.texts(CALLED) and len(linters(editor.child.pid)) == 2, editor.diagnostics()
+    assert editor.texts(FILE) == [] and editor.texts(CALLED) and len(linters(editor.child.pid)) == 1, editor.diagnostics()
     end(editor)
 
 

@@ -181,7 +181,7 @@ def asks(editor: Editor, method: str, line: int, character: int, **more) -> dict
 
 @CASES.case
 def requests_that_never_end(program: str) -> None:
-    """They are answered with an error, wherever they were; the server goes on, with its linter and the one that reads texts."""
+    """They are answered with an error, wherever they were; the server goes on, with its linter."""
     with tempfile.TemporaryDirectory(prefix="actionlint-test-") as folder:
         for module, function, method, more in (
                 ("hover", "explanation", "textDocument/hover", {}),
@@ -194,7 +194,7 @@ def requests_that_never_end(program: str) -> None:
             editor.change(FILE, WRONG)
             editor.settle()
             assert editor.texts(FILE) == [UNDEFINED], module
-            assert len(linters(editor.child.pid)) == 2, module
+            assert len(linters(editor.child.pid)) == 1, module
             end(editor)
 
 

@@ -6,11 +6,9 @@ here; the work is counted. bench/clients.py has the times.
 """
 from __future__ import annotations
 
-import json
 import os
 import random
 import shutil
-import subprocess
 import sys
 import tempfile
 from typing import Any
@@ -256,8 +254,8 @@ def many_missing_inputs(program: str) -> None:
 @CASES.case
 def a_report_that_is_too_long(program: str) -> None:
     """A file with too many faults is left out until it changes, with a message; the others are shown."""
-    most = facts.MAX_FAULTS_BYTES
-    facts.MAX_FAULTS_BYTES = 20_000
+    most = facts.MAX_FIRST_FAULTS_BYTES
+    facts.MAX_FIRST_FAULTS_BYTES = 20_000
     root = tempfile.mkdtemp(prefix="actionlint-test-")
     write(root, {FILE: WRONG, CALLED: HEAD + "".join(f"      - run: echo ${{{{ github.a{number} }}}}\n" for number in range(1_000))})
     folder = Folder(os.fsencode(root), Program([program], 20.0), print)
@@ -270,32 +268,22 @@ def a_report_that_is_too_long(program: str) -> None:
         result = folder.refresh()
         assert len(result.faults[CALLED].faults) == 1 and result.refused == {}
     finally:
-        facts.MAX_FAULTS_BYTES = most
+        facts.MAX_FIRST_FAULTS_BYTES = most
         folder.close()
     shutil.rmtree(root)
 
 
 @CASES.case
 def the_first_faults(program: str) -> None:
-    """However an answer comes in pieces, the first faults are those of the whole, and the others are counted; what looks like the end of a
-    fault in a text is none."""
-    chance = random.Random(5)
-    for count in (0, 1, 2, 3, 4, 50):
-        text = "on: push\njobs: {}\n" + "".join("'a%d },{\"code\" },{': 1\n" % number for number in range(count))
-        script = f"put {FILE} {len(text)}\n{text}\nfaults {FILE}\n".encode()
-        done = subprocess.run([find_facts(program)], input=script, stdout=subprocess.PIPE, check=True)
-        answer = done.stdout.split(b"\n")[1]
-        found = json.loads(answer)["faults"]
-        assert len(found) == count
-        for most in (1, 2, 3, 60):
-            first, at = facts.FirstFaults(most), 0
-            while at < len(answer):
-                size = chance.choice((1, 2, 9, 30, 500))
-                first.take(answer[at:at + size])
-                at += size
-            whole = json.dumps({"faults": found[:most]}, separators=(",", ":")).encode()
-            assert bytes(first.held) == whole, (count, most, first.held)
-            assert first.more == max(count - most, 0), (count, most, first.more)
+    """They are those of all, and the others are only counted."""
+    one = facts.Facts([find_facts(program)], 20.0)
+    for count in (0, 1, 2, 50):
+        one.put(FILE, ("on: push\njobs: {}\n" + "".join(f"a{number}: 1\n" for number in range(count))).encode())
+        found = one.faults(FILE)
+        assert [fault.code for fault in found] == ["K1"] * count, found
+        for most in (0, 1, 2, 60):
+            assert one.first_faults(FILE, most) == (found[:most], max(count - most, 0)), (count, most)
+    one.stop()
 
 
 @CASES.case

@@ -12,7 +12,7 @@ sys.path.insert(0, str(CLIENTS))
 from actionlint_client.facts import Facts
 from actionlint_client.faults import faults_of
 from actionlint_client.program import find_facts
-from actionlint_client.reader import Reader
+from actionlint_client.reader import Reader, Started
 from actionlint_client.report import Fault
 from actionlint_client.tree import Node
 
@@ -22,7 +22,7 @@ SECONDS = 60.0
 @lru_cache(maxsize=None)
 def reader() -> Reader:
     """The one beside the linter that the test is given."""
-    return Reader(os.path.abspath(sys.argv[1]), SECONDS)
+    return Reader(Started(os.path.abspath(sys.argv[1]), SECONDS))
 
 
 class Linter:
