@@ -3,7 +3,7 @@
 from __future__ import annotations
 
 import json
-from typing import Any, Iterable, Protocol
+from typing import Any, Iterable
 
 from .child import Child
 from .facts_tree import CodedFault, Json, Node, Place, read_fault, read_node, read_place
@@ -34,41 +34,18 @@ class NoAnswer(Exception):
     """A question has no answer: no file has this path, memory ran out, or the answer is too long."""
 
 
-class Answers(Protocol):
-    """What is asked about a folder."""
-
-    def put(self, path: str, data: bytes) -> list[str]:
-        """The paths of the files that were checked again. Raises `EditRefused`."""
-
-    def delete(self, path: str) -> list[str]:
-        """The paths of the files that were checked again. Raises `EditRefused`."""
-
-    def faults(self, path: str) -> list[CodedFault]:
-        """The faults of a file, in order, with those of call cycles."""
-
-    def lacks(self) -> list[str]:
-        """The paths that calls name and the folder doesn't have."""
-
-    def tree(self, path: str) -> Node:
-        """Raises `NoTree`."""
-
-    def expressions(self, path: str) -> list[Place]:
-        """The scalars of a file that have expressions. Raises `NoTree`."""
-
-
 class Facts(Child):
     """Not thread-safe. It raises the exceptions of `child`, after which the program is gone, and `NoAnswer`, after which it goes on."""
 
-    def __init__(self, program: list[str], timeout: float):
-        super().__init__(program, timeout)
-
     def put(self, path: str, data: bytes) -> list[str]:
+        """The paths of the files that were checked again. Raises `EditRefused`, as `delete` does."""
         return self._edited(b"put %s %d\n" % (path.encode("utf-8"), len(data)), data, b"\n")
 
     def delete(self, path: str) -> list[str]:
         return self._edited(b"delete %s\n" % path.encode("utf-8"))
 
     def faults(self, path: str) -> list[CodedFault]:
+        """The faults of a file, in order, with those of call cycles."""
         return [read_fault(one) for one in self._asked("faults", "faults", path)]
 
     def first_faults(self, path: str, most: int) -> tuple[list[CodedFault], int]:
@@ -85,17 +62,15 @@ class Facts(Child):
         return _by_file(self._asked("cycles", "files"))
 
     def lacks(self) -> list[str]:
+        """The paths that calls name and the folder doesn't have."""
         return list(self._asked("lacks", "lacks"))
 
     def tree(self, path: str) -> Node:
-        return read_node(self.answered_tree(path))
-
-    def answered_tree(self, path: str) -> Json:
-        """The tree as it is answered (docs/FACTS.md). Raises `NoTree`."""
-        root: Json = self._asked("tree", "tree", path)
-        return root
+        """Raises `NoTree`."""
+        return read_node(self._asked("tree", "tree", path))
 
     def expressions(self, path: str) -> list[Place]:
+        """The scalars of a file that have expressions. Raises `NoTree`."""
         return [read_place(one) for one in self._asked("expressions", "expressions", path)]
 
     def of_bytes(self, question: str, path: str, data: bytes) -> Any:

@@ -195,29 +195,6 @@ class FileRename(TypedDict):
     newUri: str
 
 
-class ShowMessageParams(TypedDict):
-    type: int
-    message: str
-
-
-class FileSystemWatcher(TypedDict):
-    globPattern: str
-
-
-class DidChangeWatchedFilesRegistrationOptions(TypedDict):
-    watchers: list[FileSystemWatcher]
-
-
-class Registration(TypedDict):
-    id: str
-    method: str
-    registerOptions: DidChangeWatchedFilesRegistrationOptions
-
-
-class RegistrationParams(TypedDict):
-    registrations: list[Registration]
-
-
 class ServerInfo(TypedDict):
     name: str
     version: str
@@ -230,12 +207,6 @@ Capabilities = dict[str, Any]
 class InitializeResult(TypedDict):
     capabilities: Capabilities
     serverInfo: ServerInfo
-
-
-class InitializationOptions(TypedDict, total=False):
-    """What an editor's settings can ask of this server. `docs/EDITORS.md` explains each."""
-
-    shellcheck: bool
 
 
 class Message(TypedDict, total=False):

@@ -11,7 +11,7 @@ from typing import Callable, Iterable, Iterator
 from ..child import LinterEnded
 from ..disk import Disk
 from ..entries import Entry
-from ..facts import Answers, EditRefused, Facts, NoAnswer, NoTree
+from ..facts import EditRefused, Facts, NoAnswer, NoTree
 from ..paths import ACTION_NAMES
 from ..positions import lines_of
 from ..problems import ERROR, NOTE, NOTE_KIND, Problem, snippet_of
@@ -29,7 +29,7 @@ LONGEST_LINE = 2_000
 class Folder:
     """The files that are noted, and those that they call, as actionlint-facts has them."""
 
-    def __init__(self, facts: Answers, read: Callable[[str], bytes | None], is_there: Callable[[str], bool]):
+    def __init__(self, facts: Facts, read: Callable[[str], bytes | None], is_there: Callable[[str], bool]):
         self._facts, self._read, self._is_there = facts, read, is_there
         self._data: dict[str, bytes] = {}
         self._deprecated: dict[str, dict[str, str]] = {}
