@@ -1,11 +1,11 @@
-"""Says what a change costs to prove: price.py [--check | --add] [CHANGE ..], after `rt ci` of the sources as they are.
+"""Says what a change costs to prove: price.py [--check | --write] [CHANGE ..], after `rt ci` of the sources as they are.
 
 CHANGEs, by default all, are the names of files in bench/changes. For each the change is made in a copy of the repository, and the kit's
 gate runs there (`rt ci`): on a machine that has proved the sources as they are, it proves only what changed and the crates above it, tries
 their edits, and builds and runs all tests and programs. Prints for each change how many crates were proved again, the processor minutes,
-and the minutes on at most four processors until the program was built and the tests had passed. --check only looks whether each change can
-be made. --add proves nothing: it adds up the noted seconds (tools/proof_seconds.txt) of the crates that change and of those above them,
-all of which the kit proves again.
+and the minutes on at most four processors until the program was built and the tests had passed. --write proves
+nothing: it adds up the noted seconds (tools/proof_seconds.txt) of the crates that change and of those above them, all of which the kit
+proves again, and writes the table of docs/PROVING.md. --check looks whether each change can be made and the table is that of these seconds.
 
 A change is a list of replacements, each of three parts: a pattern of paths, a text that occurs once in the files of those paths (`all:` if
 more often), and its new lines. Files that change get a comment with the time, since what was once proved is never proved again.
@@ -33,6 +33,8 @@ from crates import crates_of, with_below
 from schedule import schedule
 
 CHANGES = TOP / "bench/changes"
+PAGE = TOP / "docs/PROVING.md"
+TABLE = re.compile(r"(<!-- made by bench/price\.py: prices -->\n)(?:\|.*\n)*")
 REPLACEMENT = re.compile(r"file: (.+)\n(old|all): (.+)\n((?:new: .*\n)+)")
 # a crate, and the seconds of its proof, its tests and its edits
 SECONDS = re.compile(r"^(\w+): (\d+) (\d+) (\d+)$", re.MULTILINE)
@@ -88,15 +90,28 @@ def crates_again(name: str) -> set[str]:
     return {it for it in named if changed & set(with_below(named, it))}
 
 
-def add(names: list[str]) -> None:
-    """Prints the prices of changes by the noted seconds."""
+def prices(names: list[str]) -> str:
+    """The table of the prices of changes by the noted seconds, in minutes."""
     seconds = {it: took for it, *took in SECONDS.findall((TOP / "tools/proof_seconds.txt").read_text())}
-    print("| Change | Crates | Proofs | Tests | Edits | Together | Until the program is built |\n|---|--:|--:|--:|--:|--:|--:|")
+    lines = ["| Change | Crates | Proofs | Tests | Edits | Together | Until the program is built |", "|---|--:|--:|--:|--:|--:|--:|"]
     for name in names:
         again = crates_again(name)
         parts = [sum(int(seconds[it][part]) for it in again if it in seconds) / 60 for part in range(3)]
         built = schedule(TOP, again, PROCESSORS)["actionlint"] / 60
-        print("|", " | ".join([name, str(len(again)), *(f"{it:.0f}" for it in (*parts, sum(parts), built))]), "|")
+        lines.append(" | ".join([f"| {name}", str(len(again)), *(f"{it:.0f}" for it in (*parts, sum(parts), built))]) + " |")
+    return "".join(f"{it}\n" for it in lines)
+
+
+def check(names: list[str], is_written: bool) -> int:
+    """Looks whether all changes can be made, and whether the page has their prices, or writes these."""
+    text = PAGE.read_text(encoding="utf-8")
+    made = TABLE.sub(lambda it: it[1] + prices(names), text)
+    if is_written:
+        PAGE.write_text(made, encoding="utf-8")
+    elif made != text or not TABLE.search(text):
+        print("docs/PROVING.md doesn't have the prices by the noted seconds: python3 bench/price.py --write renews them")
+        return 1
+    return 0
 
 
 def minutes_of(steps: dict[tuple[str, str], Step]) -> tuple[int, float]:
@@ -129,16 +144,11 @@ def main() -> int:
     every = sorted(it.stem for it in CHANGES.glob("*.change"))
     parser = argparse.ArgumentParser(description="Says what changes cost to prove.")
     parser.add_argument("changes", nargs="*", metavar="CHANGE", default=every, help="one of " + ", ".join(every))
-    parser.add_argument("--check", action="store_true", help="looks whether each change can be made, and proves nothing")
-    parser.add_argument("--add", action="store_true", help="adds up the noted seconds of the crates that are proved again")
+    parser.add_argument("--check", action="store_true", help="looks whether the changes can be made, and at the table of prices")
+    parser.add_argument("--write", action="store_true", help="writes the table of prices by the noted seconds")
     given = parser.parse_args()
-    if given.add:
-        add(given.changes)
-        return 0
-    if given.check:
-        for name in given.changes:
-            changed_texts(name)
-        return 0
+    if given.check or given.write:
+        return check(every, given.write)
     os.sched_setaffinity(0, sorted(os.sched_getaffinity(0))[:PROCESSORS])
     print("| Change | Crates proved again | Processor minutes | Minutes |\n|---|--:|--:|--:|")
     return max(measure(name) for name in given.changes)
