@@ -1,8 +1,8 @@
 """Tests the program that answers questions about a folder: facts.py LINTER PROGRAM.
 
 Each block of docs/FACTS.md that is marked `facts` is run as a session: `> ` begins a line of the input, `< ` the next answer, or with
-`PATH = VALUE` a part of the same answer. Then commands that are cut in any place, wrong ones among right ones, and the tables. Prints a
-line for each case.
+`PATH = VALUE` a part of the same answer. Then commands that are cut in any place, wrong ones among right ones, questions about bytes, and
+the tables. Prints a line for each case.
 """
 
 import json
@@ -110,7 +110,9 @@ def wrong_commands(program):
     bad = [b"\n", b"Report\n", b"report \n", b"put\n", b"put a/action.yml\n", b"put a/action.yml 01\n", b"put a/action.yml 12345678\n",
            b"put a/action.yml -1\n", b"faults\n", b"faults \xff\n", b"x" * 2_049 + b"\n", b"x" * 200_000 + b"\n",
            b"put a/action.yml 2\nabc\n", b"put a/action.yml 2\nab report\n", b"tree nowhere\n", b"expressions nowhere\n",
-           b"faults nowhere\n"]
+           b"faults nowhere\n", b"calls nowhere\n", b"first nowhere 1\n", b"first a/action.yml\n", b"first a/action.yml 01\n",
+           b"bytes tree\n", b"bytes tree a/action.yml\n", b"bytes faults a/action.yml 0\n", b"bytes calls a/action.yml 2\nabc\n",
+           b"bytes tree a/action.yml 1048577\n" + b"#" * 1_048_577 + b"\n"]
     for number, command in enumerate(bad, 1):
         given, wrong = answers(program, command + b"lacks\n" + put("a/action.yml", b"") + command + b"report\n")
         kinds = ["error", "lacks", "rechecked", "error", "files"]
@@ -137,6 +139,26 @@ def as_the_linter(program, linter):
         alone, _ = answers(program, script + b"faults " + path.encode() + b"\n")
         listed = next((file["faults"] for file in given[-1]["files"] if file["path"] == path), [])
         report(f"faults-of-{path}", 0, [] if alone[-1] == {"faults": listed} else [f"{alone[-1]}"])
+        for most in (0, 1, len(listed), 9_999_999):
+            first, _ = answers(program, script + b"first %s %d\n" % (path.encode(), most))
+            wanted = {"faults": listed[:most], "more": len(listed[most:])}
+            report(f"first-{most}-of-{path}", 0, [] if first[-1] == wanted else [f"{first[-1]}"])
+
+
+def of_bytes(program):
+    """Questions about bytes are answered as if the folder had them, and leave it as it is."""
+    path, other = f"{WORKFLOWS}/c.yml", b"on: push\njobs: {a: {runs-on: x, steps: [{uses: ./b, with: {c: \"${{ github.ref }}\"}}]}}\n"
+    for question in ("tree", "expressions", "calls"):
+        asked = f"{question} {path}\n".encode()
+        there = b"bytes %s %s %d\n%s\n" % (question.encode(), path.encode(), len(other), other)
+        given, wrong = answers(program, put(path, CALLER) + asked + there + asked + b"lacks\n" + put(path, other) + asked)
+        wrong += [] if given[2] == given[6] and given[1] == given[3] and question in given[2] else [f"{given}"]
+        wrong += [] if given[4] == {"lacks": ["a/action.yaml", "a/action.yml"]} else [f"the folder lacks {given[4]}"]
+        report(f"bytes-{question}", 0, wrong + ([] if given[1] != given[2] else ["the same answer for other bytes"]))
+    for question in ("tree", "expressions", "calls"):
+        given, wrong = answers(program, b"bytes %s a/action.yml 2\n'a\n" % question.encode())
+        wrong += [] if [fault["code"] for fault in given[0]["faults"]] == ["Y5"] else [f"{given}"]
+        report(f"no-{question}-without-yaml", 0, wrong)
 
 
 def all_tables(program):
@@ -159,6 +181,7 @@ def main(linter, program):
     cut_anywhere(program)
     wrong_commands(program)
     as_the_linter(program, linter)
+    of_bytes(program)
     all_tables(program)
     return exit_status()
 

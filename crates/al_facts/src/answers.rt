@@ -1,11 +1,12 @@
 //! The answer to each command.
 
+use crate::calls::push_calls;
 use crate::commands::{Command, Question, Wrong};
 use al_check::Actions;
 use al_cli::number_of;
 use al_facts_tables::push_tables;
 use al_facts_trees::{Form, push_node, push_places};
-use al_json::{Json, push_joined};
+use al_json::{Json, push_first, push_joined};
 use al_session::{Edit, Refused, Session};
 use al_text::limits::{LARGEST_FILE, MOST_FILES};
 use al_text::{Args, Code, Fault, Path};
@@ -14,16 +15,19 @@ use al_yaml::{Node, YamlFault, read_yaml};
 use std::alloc::{AllocError, Global};
 
 /// The commands, as `help` lists them.
-static COMMANDS: [&str; 10] = [
+static COMMANDS: [&str; 13] = [
     "help",
     "put PATH LENGTH",
     "delete PATH",
     "faults PATH",
+    "first PATH COUNT",
     "report",
     "cycles",
     "lacks",
     "tree PATH",
     "expressions PATH",
+    "calls PATH",
+    "bytes QUESTION PATH LENGTH",
     "tables",
 ];
 
@@ -37,7 +41,7 @@ fn words_of(wrong: Wrong) -> &'static str {
         Wrong::Unknown => "unknown command",
         Wrong::NotUtf8 => "the line is not UTF-8",
         Wrong::LongLine => "the line has more than 2048 bytes",
-        Wrong::NoLength => "put needs a path and a length of at most seven digits",
+        Wrong::NoNumber => "the command needs a path and a number of at most seven digits",
         Wrong::NoLineFeed => "no line feed follows the bytes",
         Wrong::Cut => "the input ends before the command does",
     }
@@ -124,24 +128,24 @@ fn cycles_at<'a>(cycles: &'a [Vec<Fault>], number: Option<usize>) -> &'a [Fault]
     }
 }
 
-/// The faults of a file, those of call cycles included.
+/// The faults of a file, those of call cycles included: all of them, or the first ones.
 fn file_faults(
     alloc: Global,
-    session: &Session<Actions>,
+    session: &mut Session<Actions>,
     path: &str,
-    cycles: &[Vec<Fault>],
+    most: Option<usize>,
 ) -> Result<Json, AllocError> {
+    let cycles = session.call_cycle_faults()?;
+    let more = cycles_at(cycles.as_slice(), number_at(session, path));
     let (Some(bytes), Some(own)) = (session.bytes(path), session.faults(path)) else {
         return error(alloc, "no file has this path");
     };
     let mut json = Json::new(alloc);
     json.open('{')?;
-    push_joined(
-        &mut json,
-        bytes,
-        own,
-        cycles_at(cycles, number_at(session, path)),
-    )?;
+    match most {
+        Some(most) => push_first(&mut json, bytes, own, more, most)?,
+        None => push_joined(&mut json, bytes, own, more)?,
+    }
     json.close('}')?;
     Ok(json)
 }
@@ -215,53 +219,56 @@ fn push_yaml_fault(json: &mut Json, bytes: &[u8], fault: YamlFault) -> Result<()
     push_joined(json, bytes, &faults, &[])
 }
 
-// Writes what is asked about a tree.
+/// Bytes, and the path by which they are read.
+#[derive(Clone, Copy)]
+struct Source<'a> {
+    path: &'a str,
+    bytes: &'a [u8],
+}
+
+// Writes what is asked about bytes with this tree.
 fn push_answer(
     json: &mut Json,
     question: Question,
-    path: &str,
+    source: Source<'_>,
     root: &Node,
 ) -> Result<(), AllocError> {
     match question {
-        Question::Expressions => push_places(json, file_kind(path.as_bytes()), root),
-        _ => {
+        Question::Expressions => push_places(json, file_kind(source.path.as_bytes()), root),
+        Question::Calls => push_calls(json, &mut Actions::new(), source.path, source.bytes),
+        Question::Tree => {
             json.key("tree")?;
             push_node(json, Form::Answers, root, false)
         }
     }
 }
 
-// Writes what is asked about the tree of a file, or the fault because of which it has none.
-fn push_read(
-    json: &mut Json,
-    question: Question,
-    path: &str,
-    bytes: &[u8],
-) -> Result<(), AllocError> {
-    if bytes.len() > LARGEST_FILE {
-        return Ok(());
+/// What is asked about bytes, or the fault because of which they have no tree.
+fn read_source(alloc: Global, question: Question, source: Source<'_>) -> Result<Json, AllocError> {
+    if source.bytes.len() > LARGEST_FILE {
+        return error(alloc, "more than 1,048,576 bytes");
     }
-    match read_yaml(json.alloc(), bytes)? {
-        Ok(doc) => push_answer(json, question, path, &doc.root),
-        Err(fault) => push_yaml_fault(json, bytes, fault),
+    let mut json = Json::new(alloc);
+    json.open('{')?;
+    match read_yaml(alloc, source.bytes)? {
+        Ok(doc) => push_answer(&mut json, question, source, &doc.root)?,
+        Err(fault) => push_yaml_fault(&mut json, source.bytes, fault)?,
     }
+    json.close('}')?;
+    Ok(json)
 }
 
-/// What is asked about the tree of a file, or the fault because of which it has none.
+/// What is asked about a file of the folder.
 fn read_file(
     alloc: Global,
     session: &Session<Actions>,
     question: Question,
     path: &str,
 ) -> Result<Json, AllocError> {
-    let Some(bytes) = session.bytes(path) else {
-        return error(alloc, "no file has this path");
-    };
-    let mut json = Json::new(alloc);
-    json.open('{')?;
-    push_read(&mut json, question, path, bytes)?;
-    json.close('}')?;
-    Ok(json)
+    match session.bytes(path) {
+        Some(bytes) => read_source(alloc, question, Source { path, bytes }),
+        None => error(alloc, "no file has this path"),
+    }
 }
 
 fn tables(alloc: Global) -> Result<Json, AllocError> {
@@ -270,22 +277,6 @@ fn tables(alloc: Global) -> Result<Json, AllocError> {
     push_tables(&mut json)?;
     json.close('}')?;
     Ok(json)
-}
-
-/// The answer to a question about a file.
-fn file_answer(
-    alloc: Global,
-    session: &mut Session<Actions>,
-    question: Question,
-    path: &str,
-) -> Result<Json, AllocError> {
-    match question {
-        Question::Faults => {
-            let cycles = session.call_cycle_faults()?;
-            file_faults(alloc, session, path, cycles.as_slice())
-        }
-        Question::Tree | Question::Expressions => read_file(alloc, session, question, path),
-    }
 }
 
 fn listed(
@@ -307,10 +298,15 @@ pub fn answer(
         Command::Help => help(alloc),
         Command::Put(path, bytes) => edited(alloc, &session.put(path, bytes)),
         Command::Delete(path) => edited(alloc, &session.delete(path)),
+        Command::Faults(path) => file_faults(alloc, session, path, None),
+        Command::First(path, most) => file_faults(alloc, session, path, Some(most)),
         Command::Report => listed(alloc, session, Listing::All),
         Command::Cycles => listed(alloc, session, Listing::Cycles),
         Command::Lacks => lacks(alloc, session),
         Command::Tables => tables(alloc),
-        Command::Of(question, path) => file_answer(alloc, session, question, path),
+        Command::Of(question, path) => read_file(alloc, session, question, path),
+        Command::OfBytes(question, path, bytes) => {
+            read_source(alloc, question, Source { path, bytes })
+        }
     }
 }

@@ -12,20 +12,26 @@ pub enum Command<'a> {
     Put(&'a str, &'a [u8]),
     /// The path of the file to delete.
     Delete(&'a str),
+    /// The path of the file whose faults are asked for.
+    Faults(&'a str),
+    /// The same for its first faults, and how many of these at most.
+    First(&'a str, usize),
     Report,
     Cycles,
     Lacks,
     Tables,
     /// A question about the file with a path.
     Of(Question, &'a str),
+    /// A question about bytes that aren't put, and the path by which they are read.
+    OfBytes(Question, &'a str, &'a [u8]),
 }
 
-/// What is asked about a file.
+/// What is asked about a single file, whatever else is in the folder.
 #[derive(Clone, Copy)]
 pub enum Question {
-    Faults,
     Tree,
     Expressions,
+    Calls,
 }
 
 /// Why bytes aren't a command.
@@ -34,7 +40,7 @@ pub enum Wrong {
     Unknown,
     NotUtf8,
     LongLine,
-    NoLength,
+    NoNumber,
     NoLineFeed,
     Cut,
 }
@@ -50,12 +56,19 @@ pub enum Next<'a> {
     Pending,
 }
 
+// What the bytes after a line are for.
+#[derive(Clone, Copy)]
+enum Use {
+    Put,
+    Ask(Question),
+}
+
 // A command's line.
 #[derive(Clone, Copy)]
 enum Line<'a> {
     Whole(Command<'a>),
-    /// The path of a `put`, and the number of its bytes.
-    Put(&'a str, usize),
+    /// A path, and the number of the bytes after the line.
+    WithBytes(Use, &'a str, usize),
     Wrong(Wrong),
 }
 
@@ -82,13 +95,23 @@ fn command_at(bytes: &[u8], end: usize) -> Next<'_>
 {
     match read_line(&bytes[..end]) {
         Line::Whole(command) => Next::Whole(command, end + 1),
-        Line::Put(path, length) => next_put(bytes, end, path, length),
+        Line::WithBytes(purpose, path, length) => {
+            next_with_bytes(bytes, end, (purpose, path), length)
+        }
         Line::Wrong(wrong) => Next::Wrong(wrong, end + 1),
     }
 }
 
-// The `put` whose line ends at `end`.
-fn next_put<'a>(bytes: &'a [u8], end: usize, path: &'a str, size: usize) -> Next<'a>
+// The command with these bytes.
+fn command_with<'a>(purpose: Use, path: &'a str, bytes: &'a [u8]) -> Command<'a> {
+    match purpose {
+        Use::Put => Command::Put(path, bytes),
+        Use::Ask(question) => Command::OfBytes(question, path, bytes),
+    }
+}
+
+// The command with a number of bytes whose line, with a path, ends at `end`.
+fn next_with_bytes<'a>(bytes: &'a [u8], end: usize, line: (Use, &'a str), size: usize) -> Next<'a>
     requires { end < length bytes.now }
 {
     let body = &bytes[end + 1..];
@@ -97,7 +120,11 @@ fn next_put<'a>(bytes: &'a [u8], end: usize, path: &'a str, size: usize) -> Next
     } else if body[size] != b'\n' {
         Next::Wrong(Wrong::NoLineFeed, end + 1 + size)
     } else {
-        Next::Whole(Command::Put(path, &body[..size]), end + 1 + size + 1)
+        let (purpose, path) = line;
+        Next::Whole(
+            command_with(purpose, path, &body[..size]),
+            end + 1 + size + 1,
+        )
     }
 }
 
@@ -125,29 +152,63 @@ fn read_word(word: &str) -> Line<'_> {
 
 // A command with a path.
 fn read_path<'a>(word: &str, path: &'a str) -> Line<'a> {
-    Line::Whole(match word {
-        "put" => return read_put(path),
-        "delete" => Command::Delete(path),
-        "faults" => Command::Of(Question::Faults, path),
-        "tree" => Command::Of(Question::Tree, path),
-        "expressions" => Command::Of(Question::Expressions, path),
-        _ => return Line::Wrong(Wrong::Unknown),
-    })
-}
-
-// The path and length of a `put`, which its last space separates.
-fn read_put(rest: &str) -> Line<'_> {
-    match rest.rsplit_once(' ') {
-        None => Line::Wrong(Wrong::NoLength),
-        Some((path, digits)) => match read_length(digits) {
-            None => Line::Wrong(Wrong::NoLength),
-            Some(length) => Line::Put(path, length),
-        },
+    if let Some(question) = question_named(word) {
+        return Line::Whole(Command::Of(question, path));
+    }
+    match word {
+        "put" => read_sized(Use::Put, path),
+        "delete" => Line::Whole(Command::Delete(path)),
+        "faults" => Line::Whole(Command::Faults(path)),
+        "first" => read_first(path),
+        "bytes" => read_bytes(path),
+        _ => Line::Wrong(Wrong::Unknown),
     }
 }
 
+fn question_named(word: &str) -> Option<Question> {
+    match word {
+        "tree" => Some(Question::Tree),
+        "expressions" => Some(Question::Expressions),
+        "calls" => Some(Question::Calls),
+        _ => None,
+    }
+}
+
+// The path and number of faults of a `first`.
+fn read_first(rest: &str) -> Line<'_> {
+    match read_numbered(rest) {
+        Some((path, most)) => Line::Whole(Command::First(path, most)),
+        None => Line::Wrong(Wrong::NoNumber),
+    }
+}
+
+// The question, path and length of a `bytes`.
+fn read_bytes(rest: &str) -> Line<'_> {
+    let Some((word, sized)) = rest.split_once(' ') else {
+        return Line::Wrong(Wrong::Unknown);
+    };
+    match question_named(word) {
+        Some(question) => read_sized(Use::Ask(question), sized),
+        None => Line::Wrong(Wrong::Unknown),
+    }
+}
+
+// The path and length of a command with bytes.
+fn read_sized(purpose: Use, rest: &str) -> Line<'_> {
+    match read_numbered(rest) {
+        Some((path, length)) => Line::WithBytes(purpose, path, length),
+        None => Line::Wrong(Wrong::NoNumber),
+    }
+}
+
+// A path and a number, which the last space separates.
+fn read_numbered(rest: &str) -> Option<(&str, usize)> {
+    let (path, digits) = rest.rsplit_once(' ')?;
+    Some((path, read_number(digits)?))
+}
+
 // The number with these digits, of which there are at most seven, and no needless zeros.
-fn read_length(digits: &str) -> Option<usize> {
+fn read_number(digits: &str) -> Option<usize> {
     if digits.len() > 7 || digits.len() > 1 && digits.starts_with('0') {
         return None;
     }
@@ -155,7 +216,7 @@ fn read_length(digits: &str) -> Option<usize> {
         return None;
     }
     match digits.parse::<u32>() {
-        Ok(length) => Some(length as usize),
+        Ok(number) => Some(number as usize),
         Err(_) => None,
     }
 }

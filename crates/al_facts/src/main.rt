@@ -2,6 +2,7 @@
 #![tactic(auto)]
 
 mod answers;
+mod calls;
 mod commands;
 mod developers;
 mod run;

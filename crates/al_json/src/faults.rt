@@ -131,3 +131,20 @@ pub fn push_joined(
     json.key("faults")?;
     push_faults(json, bytes, joined.as_slice())
 }
+
+/// Writes the key `faults` with at most so many of them, the first ones, and the key `more` with
+/// the number of the others.
+pub fn push_first(
+    json: &mut Json,
+    bytes: &[u8],
+    own: &[Fault],
+    more: &[Fault],
+    most: usize,
+) -> Result<(), AllocError> {
+    let joined = join(json.alloc(), own, more)?;
+    let (first, others) = joined.as_slice().split_at(most.min(joined.len()));
+    json.key("faults")?;
+    push_faults(json, bytes, first)?;
+    json.key("more")?;
+    json.number(others.len() as u64)
+}
