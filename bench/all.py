@@ -46,7 +46,8 @@ RUN = re.compile(r"(<!-- made by bench/all\.py: run -->\n)(?:.+\n)+")
 GATE = re.compile(r"(<!-- made by bench/all\.py: gate -->\n)(?:.+\n)+")
 TOTALS = re.compile(r"^The whole: ([\d.]+) processor minutes in ([\d.]+) minutes \((.*?)\)\. Proofs from nothing ([\d.]+), tests\n"
                     r"([\d.]+), edits ([\d.]+);", re.MULTILINE)
-CRATE = re.compile(r"^\| `(\w+)` \| [\d,]+ \| (\d+) \|", re.MULTILINE)
+# a crate, and the seconds of its proof, tests and edits
+CRATE = re.compile(r"^\| `(\w+)` \| [\d,]+ \| *(\d*) *\|[ \d,]*\| *(\d*) *\|[ \d,]*\|[ \d]*\| *(\d*) *\|", re.MULTILINE)
 # rows that a test compares with the program, and no script measures
 TESTED = ": a stack that suffices"
 LONGEST_LINE = 140
@@ -180,9 +181,9 @@ def write(run: dict) -> None:
     PAGE.write_text(with_figures(PAGE.read_text(encoding="utf-8"), run), encoding="utf-8")
 
 
-def crates_of_gate(log: str) -> dict[str, int]:
-    """The seconds of each crate's proof, from the output of bench/gate.py."""
-    return {name: int(took) for name, took in CRATE.findall(log)}
+def crates_of_gate(log: str) -> dict[str, list[int]]:
+    """The seconds of each crate's proof, tests and edits, from the output of bench/gate.py."""
+    return {name: [int(it or 0) for it in took] for name, *took in CRATE.findall(log)}
 
 
 def said_of_gate(log: str) -> str:
@@ -191,17 +192,18 @@ def said_of_gate(log: str) -> str:
     if not totals:
         sys.exit("all.py: the log has no totals of bench/gate.py")
     whole, minutes, lanes, proofs, tests, edits = totals.groups()
-    longest = sorted(crates_of_gate(log).items(), key=lambda it: -it[1])[:5]
+    longest = sorted(crates_of_gate(log).items(), key=lambda it: -it[1][0])[:5]
     return paragraph(f"Measured on {today()} at commit `{commit()}`: {minutes} minutes on {lanes}, {whole} processor minutes, of which "
                      f"{proofs} for proofs, {tests} for tests and {edits} for edits. The proofs that took longest: "
-                     f"{', '.join(f'`{name}` {took} s' for name, took in longest)}.")
+                     f"{', '.join(f'`{name}` {took[0]} s' for name, took in longest)}.")
 
 
 def write_gate(log: str) -> None:
-    """Writes what a run of the gate took into docs/PROVING.md, and the seconds of each crate, by which a build says how long it takes."""
+    """Writes what a run of the gate took into docs/PROVING.md, and the seconds of each crate."""
     PROVING.write_text(GATE.sub(lambda it: it[1] + said_of_gate(log), PROVING.read_text(encoding="utf-8")), encoding="utf-8")
-    head = f"# The seconds that the proof of each crate takes by itself, on {today()}. python3 bench/all.py --gate LOG writes them.\n"
-    SECONDS.write_text(head + "".join(f"{name}: {took}\n" for name, took in crates_of_gate(log).items()), encoding="utf-8")
+    head = f"# The processor seconds of each crate's proof, tests and edits, on {today()}. python3 bench/all.py --gate LOG writes them.\n"
+    rows = (f"{name}: {' '.join(map(str, took))}\n" for name, took in crates_of_gate(log).items())
+    SECONDS.write_text(head + "".join(rows), encoding="utf-8")
 
 
 def wrong_rows() -> Iterator[str]:

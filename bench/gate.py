@@ -154,11 +154,11 @@ def cell(steps, crate, step):
 
 def print_table(top, steps, elapsed):
     named = crates_of(top)
-    print("\n| Crate | Lines | From nothing, s | MB | Tests, s | MB | Edits |")
-    print("|---|--:|--:|--:|--:|--:|--:|")
+    print("\n| Crate | Lines | From nothing, s | MB | Tests, s | MB | Edits | Edits, s | MB |")
+    print("|---|--:|--:|--:|--:|--:|--:|--:|--:|")
     for crate in named:
         lines, edits = size_of(top, crate)
-        print(f"| `{crate}` | {lines:,} | {cell(steps, crate, 'proof')} | {cell(steps, crate, 'tests')} | {edits or ''} |")
+        print(f"| `{crate}` | {lines:,} | {cell(steps, crate, 'proof')} | {cell(steps, crate, 'tests')} | {edits or ''} | {cell(steps, crate, 'edits')} |")
     total = [sum(it.total() for (_, step), it in steps.items() if step == kind) / 60 for kind in STEPS]
     used = resource.getrusage(resource.RUSAGE_CHILDREN)
     whole = (used.ru_utime + used.ru_stime) / 60

@@ -1,10 +1,11 @@
-"""Measures what a change costs to prove: price.py [--check] [CHANGE ..], after `rt ci` of the sources as they are.
+"""Says what a change costs to prove: price.py [--check | --write] [CHANGE ..], after `rt ci` of the sources as they are.
 
 CHANGEs, by default all, are the names of files in bench/changes. For each the change is made in a copy of the repository, and the kit's
 gate runs there (`rt ci`): on a machine that has proved the sources as they are, it proves only what changed and the crates above it, tries
 their edits, and builds and runs all tests and programs. Prints for each change how many crates were proved again, the processor minutes,
-and the minutes on at most four processors until the program was built and the tests had passed. --check only looks whether each change can
-be made.
+and the minutes on at most four processors until the program was built and the tests had passed. --write proves
+nothing: it adds up the noted seconds (tools/proof_seconds.txt) of the crates that change and of those above them, all of which the kit
+proves again, and writes the table of docs/PROVING.md. --check looks whether each change can be made and the table is that of these seconds.
 
 A change is a list of replacements, each of three parts: a pattern of paths, a text that occurs once in the files of those paths (`all:` if
 more often), and its new lines. Files that change get a comment with the time, since what was once proved is never proved again.
@@ -26,10 +27,17 @@ from gate import Step, watch
 
 TOP = pathlib.Path(__file__).resolve().parent.parent
 sys.path.insert(0, str(TOP / "tests"))
+sys.path.insert(0, str(TOP / "tools"))
 from copying import commit, copy_files
+from crates import crates_of, with_below
+from schedule import schedule
 
 CHANGES = TOP / "bench/changes"
+PAGE = TOP / "docs/PROVING.md"
+TABLE = re.compile(r"(<!-- made by bench/price\.py: prices -->\n)(?:\|.*\n)*")
 REPLACEMENT = re.compile(r"file: (.+)\n(old|all): (.+)\n((?:new: .*\n)+)")
+# a crate, and the seconds of its proof, its tests and its edits
+SECONDS = re.compile(r"^(\w+): (\d+) (\d+) (\d+)$", re.MULTILINE)
 PROCESSORS = 4
 COMMENTS = {".rt": "//", ".antt": "--"}
 
@@ -75,6 +83,37 @@ def make(name: str, room: pathlib.Path) -> None:
         (room / file.relative_to(TOP)).write_text(f"{text}{COMMENTS[file.suffix]} {time.time_ns()}\n")
 
 
+def crates_again(name: str) -> set[str]:
+    """The crates that a change has proved again: those that change, and those above them."""
+    named = crates_of(TOP)
+    changed = {it.relative_to(TOP / "crates").parts[0] for it in changed_texts(name)}
+    return {it for it in named if changed & set(with_below(named, it))}
+
+
+def prices(names: list[str]) -> str:
+    """The table of the prices of changes by the noted seconds, in minutes."""
+    seconds = {it: took for it, *took in SECONDS.findall((TOP / "tools/proof_seconds.txt").read_text())}
+    lines = ["| Change | Crates | Proofs | Tests | Edits | Together | Until the program is built |", "|---|--:|--:|--:|--:|--:|--:|"]
+    for name in names:
+        again = crates_again(name)
+        parts = [sum(int(seconds[it][part]) for it in again if it in seconds) / 60 for part in range(3)]
+        built = schedule(TOP, again, PROCESSORS)["actionlint"] / 60
+        lines.append(" | ".join([f"| {name}", str(len(again)), *(f"{it:.0f}" for it in (*parts, sum(parts), built))]) + " |")
+    return "".join(f"{it}\n" for it in lines)
+
+
+def check(names: list[str], is_written: bool) -> int:
+    """Looks whether all changes can be made, and whether the page has their prices, or writes these."""
+    text = PAGE.read_text(encoding="utf-8")
+    made = TABLE.sub(lambda it: it[1] + prices(names), text)
+    if is_written:
+        PAGE.write_text(made, encoding="utf-8")
+    elif made != text or not TABLE.search(text):
+        print("docs/PROVING.md doesn't have the prices by the noted seconds: python3 bench/price.py --write renews them")
+        return 1
+    return 0
+
+
 def minutes_of(steps: dict[tuple[str, str], Step]) -> tuple[int, float]:
     """How many crates were proved, and the processor minutes of all steps."""
     return len({crate for crate, step in steps if step == "proof"}), sum(it.total() for it in steps.values()) / 60
@@ -103,14 +142,13 @@ def measure(name: str) -> int:
 
 def main() -> int:
     every = sorted(it.stem for it in CHANGES.glob("*.change"))
-    parser = argparse.ArgumentParser(description="Measures what changes cost to prove.")
+    parser = argparse.ArgumentParser(description="Says what changes cost to prove.")
     parser.add_argument("changes", nargs="*", metavar="CHANGE", default=every, help="one of " + ", ".join(every))
-    parser.add_argument("--check", action="store_true", help="looks whether each change can be made, and proves nothing")
+    parser.add_argument("--check", action="store_true", help="looks whether the changes can be made, and at the table of prices")
+    parser.add_argument("--write", action="store_true", help="writes the table of prices by the noted seconds")
     given = parser.parse_args()
-    if given.check:
-        for name in given.changes:
-            changed_texts(name)
-        return 0
+    if given.check or given.write:
+        return check(every, given.write)
     os.sched_setaffinity(0, sorted(os.sched_getaffinity(0))[:PROCESSORS])
     print("| Change | Crates proved again | Processor minutes | Minutes |\n|---|--:|--:|--:|")
     return max(measure(name) for name in given.changes)

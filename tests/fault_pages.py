@@ -11,6 +11,7 @@ import re
 import sys
 
 from fault_entries import cases_of_entries, entries, files_of, report_of
+from lists_page import one_line_each
 
 CODE = re.compile(r"/// ([YKGXC][0-9]+): .*\n\s+([A-Za-z0-9]+),")
 CODES = re.compile(r"^(\w+)_codes =\n((?: .*\n)+)", re.MULTILINE)  # the codes of a kind, in order
@@ -35,7 +36,7 @@ def tables(top):
     lists = CODES.findall((top / "crates/al_base/specs/Codes.antt").read_text())
     numbers = {(kind.capitalize(), variant): str(number)
                for kind, names in lists for number, variant in enumerate(re.findall(r"\w+", names), 1)}
-    text = (top / "crates/al_text/specs/Wordings.antt").read_text()
+    text = one_line_each((top / "crates/al_text/specs/Wordings.antt").read_text())
     every, of_calls = dict(EVERY_KIND.findall(text)), sorted(CALL_KIND.findall(text))
     rows = {}
     for group, variant, maker, words in ROW.findall(text):

@@ -90,6 +90,11 @@ def table_of(head, rows):
     return "".join(re.sub(r"\|  (?=\|)", "| ", line) for line in shown)
 
 
+def one_line_each(text):
+    """The text with each definition on a line of its own."""
+    return re.sub(r"\n +", " ", text)
+
+
 def names_of(text, name):
     """The names in a list of a file of definitions."""
     found = re.search(rf"^{name} =((?:\n? .+)+)", text, re.MULTILINE)
@@ -98,7 +103,7 @@ def names_of(text, name):
 
 def shape_table(crates):
     """The table of shapes, in which each section of `on` has its own name."""
-    text = (crates / SHAPES).read_text(encoding="utf-8").replace("(On Events)", "On")
+    text = one_line_each((crates / SHAPES).read_text(encoding="utf-8")).replace("(On Events)", "On")
     return re.sub(r"\(On (\w+)\)", r"\1", text)
 
 

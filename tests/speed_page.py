@@ -39,13 +39,14 @@ WRITTEN = (
 MARKED = ("a repository of 200 workflows", "reading a workflow, without checks", "10,000 jobs")
 SAID = ("Measured on 2026-12-01 at commit `0123abcd` on 2 processors (some); the machine was busy: beside `memory`, `clients` other "
         "programs used up\nto 1.2 processors. Rows with † are of earlier runs.\n\n")
-LOG = """| `al_base` | 1,438 | 105 | 1,628 |  |  |  |
-| `al_unit_tests` | 2,259 | 7 | 397 | 304 | 3,560 |  |
-| `al_cli` | 973 | 230 | 2,913 |  |  |  |
+LOG = """| `al_base` | 1,438 | 105 | 1,628 |  |  | 5 | 210 | 1,700 |
+| `al_unit_tests` | 2,259 | 7 | 397 | 304 | 3,560 |  |  |  |
+| `al_cli` | 973 | 230 | 2,913 |  |  | 8 | 412 | 2,950 |
 
 The whole: 133.4 processor minutes in 45.2 minutes (4 processors, RT_JOBS not set). Proofs from nothing 45.1, tests
 24.0, edits 64.2; linking, programs, cases and what the looks missed 0.1. The longest chain is
 """
+SECONDS = {"al_base": [105, 0, 210], "al_unit_tests": [7, 304, 0], "al_cli": [230, 0, 412]}
 OF_GATE = ("45.2 minutes on 4 processors, RT_JOBS not set, 133.4 processor minutes, of which 45.1 for proofs, 24.0 for tests and 64.2 for "
            "edits. The proofs that took longest: `al_cli` 230 s, `al_base` 105 s, `al_unit_tests` 7 s.")
 
@@ -66,6 +67,8 @@ def wrong(top):
     yield from (f"a line is too long: {it}" for it in bench.said_of_gate(LOG).splitlines() if len(it) > bench.LONGEST_LINE)
     if len({text.partition("## What a user asks")[2].count("\n") for text in (before, after)}) != 1:
         yield "lines are lost or added"
+    if bench.crates_of_gate(LOG) != SECONDS:
+        yield f"of the gate's log it takes the seconds {bench.crates_of_gate(LOG)}"
     if OF_GATE not in " ".join(bench.said_of_gate(LOG).split("\n")):
         yield f"of the gate's log it says: {bench.said_of_gate(LOG)}"
 

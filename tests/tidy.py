@@ -1,10 +1,11 @@
 """Checks the layout of the crates, and the words of the pages: tidy.py TOP WHAT.. [--write].
 
-WHAT is `src` or `specs` (no line is longer than 140 characters), `proofs` (none is longer than 200), `heads` (each module of lemmas says at
-its top what it is for), `kinds` (definitions use neither words of private contracts, `specs/Private`, nor worked examples, `specs/Rows`,
-and none of all these uses proofs, including those of `specs/Proofs`), `words` (pages, helps, messages and comments of the clients have none
-of some home-made terms), `pages` (no line of text on a page is longer than 140 characters, each table has a head and whole rows, and all
-pages together have at most so many lines) or `names` (each name that a `use` line imports occurs somewhere else in its file).
+WHAT is `src` or `specs` (no line is longer than 100 characters, except attributes, imports, ghost members and lines with a text), `proofs`
+(none is longer than 200), `heads` (each module of lemmas says at its top what it is for, and each edit of the gate what a user would meet),
+`kinds` (definitions use neither words of private contracts, `specs/Private`, nor worked examples, `specs/Rows`, and none of all these uses
+proofs, including those of `specs/Proofs`), `words` (pages, helps, messages and comments of the clients have none of some home-made terms),
+`pages` (no line of text on a page is longer than 140 characters, each table has a head and whole rows, and all pages together have at most
+so many lines) or `names` (each name that a `use` line imports occurs somewhere else in its file).
 `--write` removes the names that don't; then `rt fmt` and `rt check` have to be run in each changed crate.
 """
 
@@ -12,7 +13,9 @@ import pathlib
 import re
 import sys
 
-LONGEST = {"src": 140, "specs": 140, "proofs": 200}
+LONGEST = {"src": 100, "specs": 100, "proofs": 200}
+# lines of sources that aren't broken
+WHOLE_LINE = re.compile(r'.*"|\s*#\[|\s*use |\s*ghost \w+')
 ENDINGS = {"src": ".rt", "specs": ".antt", "proofs": ".antt"}
 # words that no user reads for something that has a name, outside of code
 UNUSUAL = {
@@ -66,8 +69,11 @@ def files_of(top, folder):
 def long_lines(top, folder):
     """The lines of such a folder that are too long."""
     for file in files_of(top, folder):
-        for number, line in enumerate(file.read_text(encoding="utf-8").splitlines(), 1):
-            if len(line) > LONGEST[folder]:
+        text = file.read_text(encoding="utf-8")
+        if folder == "src":
+            text = LITERAL.sub(lambda it: '"' + "\n" * it[0].count("\n") + '"', text)
+        for number, line in enumerate(text.splitlines(), 1):
+            if len(line) > LONGEST[folder] and not (folder == "src" and WHOLE_LINE.match(line)):
                 yield f"{file.relative_to(top)}:{number} has {len(line)} characters, of at most {LONGEST[folder]}"
 
 
@@ -127,7 +133,10 @@ def wrong_pages(top):
 
 
 def headless(top):
-    """The modules of lemmas that don't say at their top what they are for."""
+    """The modules of lemmas that don't say at their top what they are for, and the edits that don't say what a user would meet."""
+    for file in sorted(top.glob("crates/*/must-fail/*.edit")):
+        if not file.read_text(encoding="utf-8").startswith("# "):
+            yield f"{file.relative_to(top)} doesn't say what a user would meet"
     for file in sorted(it for it in top.glob("crates/*/proofs/*.antt") if it.stem != "Lib"):
         if not file.read_text(encoding="utf-8").startswith("--"):
             yield f"{file.relative_to(top)} doesn't say what it serves"

@@ -4,7 +4,8 @@ import re
 
 from crates import crates_of
 
-ROW = re.compile(r"^(\w+): (\d+)$", re.MULTILINE)
+# a crate, and the seconds of its proof, of its tests and of its must-fail edits
+ROW = re.compile(r"^(\w+): (\d+)\b", re.MULTILINE)
 UNKNOWN_SECONDS = 100
 
 

@@ -46,12 +46,12 @@ impl Actions {
         }
     }
 
-    /// A linter that has read and checked nothing, for one report on a folder. It checks a file that
-    /// calls no file in the folder when it reads it, and keeps no tree of it, but its faults, up to
-    /// 1,024. Of the first other files with at most 1,024 faults that depend on no other file it
-    /// keeps the trees, up to 2,097,152 bytes of files. Of all others it keeps only what a report
-    /// and their callers need, and reads them again to check them; these reads aren't counted.
-    /// Doesn't allocate.
+    /// A linter that has read and checked nothing, for one report on a folder. It checks a file
+    /// that calls no file in the folder when it reads it, and keeps no tree of it, but its faults,
+    /// up to 1,024. Of the first other files with at most 1,024 faults that depend on no other file
+    /// it keeps the trees, up to 2,097,152 bytes of files. Of all others it keeps only what a
+    /// report and their callers need, and reads them again to check them; these reads aren't
+    /// counted. Doesn't allocate.
     pub fn for_one_report() -> Actions
         ensures checks { result.checks ≡ 0 }
         ensures reads { result.reads ≡ 0 }

@@ -1,5 +1,5 @@
 -- The faults of a call are those of the call by itself and those of its names.
-use Rattle.std.proofs.Common.{◌≡◌, ◌∙◌, ◌++◌, List, Bool, true, false, not, cond, Option, Some, None, ap, append-nil, append_assoc, refl, sym}
+use Rattle.std.proofs.Common.{◌≡◌, ◌∙◌, ◌++◌, List, [], Bool, true, false, not, cond, Option, Some, None, ap, append-nil, append_assoc, refl, sym}
 use Rattle.std.specs.Option.{option_map_or}
 use Rattle.al_base.specs.declared.codes.Caller.{Caller}
 use Rattle.al_base.specs.declared.codes.Caller.TheVariants.{Job, Step}
@@ -17,7 +17,7 @@ module _ (c : Call) (values : List Given) where
   inputs o = option_map_or (names_against Input c) o []
 
   abbrev secrets : Bool → Option Signature → List Fault
-  secrets is_compared o = option_map_or (names_against Secret c) (cond is_compared o None) []
+  secrets compared o = option_map_or (names_against Secret c) (cond compared o None) []
 
   job_secrets : (b : Bool) (s : Signature) → cond b [] (names_against Secret c s) ≡ secrets (not b) (Some s)
   job_secrets true s = refl

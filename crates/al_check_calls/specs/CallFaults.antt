@@ -1,5 +1,5 @@
 -- The faults of calls of files in the folder, given the answers.
-use Rattle.std.specs.Prelude.{ℕ, List, [], ◌∷◌, ◌++◌, Bool, true, false, ◌||◌, not, codes}
+use Rattle.std.specs.Prelude.{ℕ, List, [], ◌∷◌, ◌++◌, Bool, true, false, ◌||◌, codes}
 use Rattle.std.specs.Prelude.{map, Option, Some, None, find, if◌then◌else◌}
 use Rattle.std.specs.List.{flat_map}
 use Rattle.std.specs.Option.{option_map_or}
@@ -142,8 +142,7 @@ wrong_input c inputs v =
     option_map_or (type_faults c v.0 v.1) (find (is_parameter (key_of v.0)) inputs) []
 
 -- the faults of what a call passes to a file that it can call: C4 of the values of a job, C2 and C3
--- of
--- inputs, C5 and C6 of the secrets of a job that doesn't pass all of its own on
+-- of inputs, C5 and C6 of the secrets of a job that doesn't pass all of its own on
 abbrev pub passed_faults : Caller → Call → List Given → Signature → List Fault
 passed_faults caller.Step c values s = names_against kind.Input c s
 passed_faults caller.Job c values s =
@@ -155,5 +154,5 @@ passed_faults caller.Job c values s =
 abbrev pub call_faults : Call → List Given → Option Interface → List Fault
 call_faults c values answer =
     let by = site_caller c.site in
-    uses_faults c answer ++ option_map_or (passed_faults by c values)
-    (callable_signature by answer) []
+    uses_faults c answer
+    ++ option_map_or (passed_faults by c values) (callable_signature by answer) []

@@ -53,8 +53,7 @@ FolderEnds words holds wrote now ending.NotText = ⊥
 
 -- a run of a script
 abbrev pub ScriptEnds : {R W : Type 0} → Format → (R → Option (List ℕ)) → (W → Option (List ℕ))
-    → Input R → Input R → Output W → Output W
-    → Ending → Type 0
+    → Input R → Input R → Output W → Output W → Ending → Type 0
 ScriptEnds format remaining contents unread left wrote now (ending.Answered status) =
     Runs (session format) [] remaining contents unread left wrote now (Ok status)
 ScriptEnds format remaining contents unread left wrote now (ending.Stopped stop) =
@@ -83,10 +82,9 @@ UsageEnds asked wrote now (ending.Unread why) = ⊥
 UsageEnds asked wrote now ending.NotText = ⊥
 
 -- A run that words ask for: of a script, or over a folder.
-pub record WordsEnd {R W : Type 0} (words : Words) (holds : List ℕ → Option Holding) (remaining : R
-    → Option (List ℕ))
-    (contents : W → Option (List ℕ)) (unread left : Input R) (wrote now : Output W) (end : Ending) :
-    Type 0 where
+pub record WordsEnd {R W : Type 0} (words : Words) (holds : List ℕ → Option Holding)
+    (remaining : R → Option (List ℕ)) (contents : W → Option (List ℕ))
+    (unread left : Input R) (wrote now : Output W) (end : Ending) : Type 0 where
   pub script : words.session ≡ true
       → ScriptEnds (format_of words) remaining contents unread left wrote now end
   pub folder : words.session ≡ false

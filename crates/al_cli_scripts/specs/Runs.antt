@@ -144,8 +144,8 @@ pub record CountsFailures {T : Type 0} (result : Result T Stop) (stop : Stop) (b
 
 -- What a run of a script over a folder leaves, with its result: the reader and the writer, before
 -- and after.
-pub record Runs {F R W : Type 0} (steps : Steps F) (start : F) (remaining : R
-    → Option (List ℕ)) (contents : W → Option (List ℕ))
+pub record Runs {F R W : Type 0} (steps : Steps F) (start : F)
+    (remaining : R → Option (List ℕ)) (contents : W → Option (List ℕ))
     (unread left : Input R) (wrote now : Output W) (result : Result ℕ Stop) : Type 0 where
   pub end : IfOk result (RunsToEnd steps start [] (remaining unread.inner) (contents wrote.inner)
       (contents now.inner))

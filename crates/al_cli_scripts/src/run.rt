@@ -55,8 +55,8 @@ pub fn run_session<R: Read, W: Write>(
 }
 
 /// Runs the script that the reader gives over a session, which then has the folder that its
-/// commands leave, with faults in this format. Returns the session's status if the input ends with no
-/// command begun, and otherwise 2, for a bad command.
+/// commands leave, with faults in this format. Returns the session's status if the input ends with
+/// no command begun, and otherwise 2, for a bad command.
 ///
 /// Each read is for 65,536 bytes. None follows the one at which the input ends or a command turns
 /// out to be bad.

@@ -14,21 +14,18 @@ abbrev pub contexts : List (List ℕ × Context)
 contexts =
     (codes "github", context.Github) ∷ (codes "env", context.Env) ∷ (codes "vars", context.Vars)
     ∷ (codes "secrets", context.Secrets) ∷ (codes "runner", context.Runner)
-    ∷ (codes "job", context.Job)
-    ∷ (codes "strategy", context.Strategy) ∷ (codes "needs", context.Needs)
-    ∷ (codes "jobs", context.Jobs)
-    ∷ (codes "steps", context.Steps) ∷ (codes "matrix", context.Matrix)
-    ∷ (codes "inputs", context.Inputs) ∷ []
+    ∷ (codes "job", context.Job) ∷ (codes "strategy", context.Strategy)
+    ∷ (codes "needs", context.Needs) ∷ (codes "jobs", context.Jobs) ∷ (codes "steps", context.Steps)
+    ∷ (codes "matrix", context.Matrix) ∷ (codes "inputs", context.Inputs) ∷ []
 
 abbrev pub functions : List (List ℕ × Function)
 functions =
     (codes "contains", function.Contains) ∷ (codes "startsWith", function.StartsWith)
     ∷ (codes "endsWith", function.EndsWith) ∷ (codes "format", function.Format)
-    ∷ (codes "join", function.Join)
-    ∷ (codes "toJSON", function.ToJson) ∷ (codes "fromJSON", function.FromJson)
-    ∷ (codes "hashFiles", function.HashFiles) ∷ (codes "success", function.Success)
-    ∷ (codes "always", function.Always) ∷ (codes "cancelled", function.Cancelled)
-    ∷ (codes "failure", function.Failure) ∷ []
+    ∷ (codes "join", function.Join) ∷ (codes "toJSON", function.ToJson)
+    ∷ (codes "fromJSON", function.FromJson) ∷ (codes "hashFiles", function.HashFiles)
+    ∷ (codes "success", function.Success) ∷ (codes "always", function.Always)
+    ∷ (codes "cancelled", function.Cancelled) ∷ (codes "failure", function.Failure) ∷ []
 
 -- the one with a name
 abbrev pub context_of : List ℕ → Option Context

@@ -39,9 +39,8 @@ all_needs jobs = flat_map needs_in (enumerate_from 0 jobs)
 abbrev pub cycle_fault : NeedEntry → Fault
 cycle_fault n = rule_fault NeedsCycle n.text.span (n.key.text ∷ n.text.text ∷ [])
 
--- The fault of an entry, given the position of the job that it names: that job isn't defined; there
--- is
--- a walk of needs from it back to this one; or none.
+-- The fault of an entry, given the position of the job that it names: that job isn't defined, or
+-- there is a walk of needs from it back to this one, or none.
 abbrev pub need_faults : List (List ℕ) → NeedEntry → Option ℕ → List Fault
 need_faults graph n None = about UndefinedJob n.text
 need_faults graph n (Some j) = if leads graph j n.job then cycle_fault n ∷ [] else []

@@ -12,8 +12,9 @@ use al_tree::Tree;
 use std::alloc::{AllocError, Global};
 
 /// Adds to a list the faults of a workflow or an action by the rules of a single file, G1 to G22,
-/// in no particular order. Their spans are byte offsets of the file. `fault_list` of `al_text`
-/// sorts the list and removes repetitions.
+/// in no particular order. Their spans are byte offsets of the file, and their arguments texts of
+/// the file, control bytes included. `fault_list` of `al_text` sorts the list and removes
+/// repetitions.
 ///
 /// The rules are those of GitHub's pages "Workflow syntax for GitHub Actions", "Events that trigger
 /// workflows" and "Metadata syntax for GitHub Actions". Keys and values of the wrong kind are no

@@ -20,18 +20,21 @@ macro_rules! activities {
 
 /// The activity types (GitHub, "Events that trigger workflows").
 const ACTIVITIES: &[Activities] = &[
-    activities!("branch_protection_rule" "discussion_comment" "issue_comment" "label" "pull_request_review_comment"
-        => "created" "edited" "deleted"),
-    activities!("discussion" => "created" "edited" "deleted" "transferred" "pinned" "unpinned" "labeled" "unlabeled" "locked" "unlocked"
-        "category_changed" "answered" "unanswered"),
-    activities!("issues" => "opened" "edited" "deleted" "transferred" "pinned" "unpinned" "closed" "reopened" "assigned" "unassigned"
-        "labeled" "unlabeled" "locked" "unlocked" "milestoned" "demilestoned" "typed" "untyped"),
+    activities!("branch_protection_rule" "discussion_comment" "issue_comment" "label"
+        "pull_request_review_comment" => "created" "edited" "deleted"),
+    activities!("discussion" => "created" "edited" "deleted" "transferred" "pinned" "unpinned"
+        "labeled" "unlabeled" "locked" "unlocked" "category_changed" "answered" "unanswered"),
+    activities!("issues" => "opened" "edited" "deleted" "transferred" "pinned" "unpinned" "closed"
+        "reopened" "assigned" "unassigned" "labeled" "unlabeled" "locked" "unlocked" "milestoned"
+        "demilestoned" "typed" "untyped"),
     activities!("milestone" => "created" "closed" "opened" "edited" "deleted"),
-    activities!("pull_request" "pull_request_target" => "assigned" "unassigned" "labeled" "unlabeled" "opened" "edited" "closed" "reopened"
-        "synchronize" "converted_to_draft" "locked" "unlocked" "enqueued" "dequeued" "milestoned" "demilestoned" "ready_for_review"
+    activities!("pull_request" "pull_request_target" => "assigned" "unassigned" "labeled"
+        "unlabeled" "opened" "edited" "closed" "reopened" "synchronize" "converted_to_draft"
+        "locked" "unlocked" "enqueued" "dequeued" "milestoned" "demilestoned" "ready_for_review"
         "review_requested" "review_request_removed" "auto_merge_enabled" "auto_merge_disabled"),
     activities!("pull_request_review" => "submitted" "edited" "dismissed"),
-    activities!("release" => "published" "unpublished" "created" "edited" "deleted" "prereleased" "released"),
+    activities!("release" => "published" "unpublished" "created" "edited" "deleted" "prereleased"
+        "released"),
     activities!("workflow_run" => "completed" "requested" "in_progress"),
 ];
 

@@ -28,9 +28,8 @@ range low high names = record { low = low; high = high; names = names }
 abbrev pub month_names : List (List ℕ × ℕ)
 month_names =
     (codes "jan", 1) ∷ (codes "feb", 2) ∷ (codes "mar", 3) ∷ (codes "apr", 4) ∷ (codes "may", 5)
-    ∷ (codes "jun", 6)
-    ∷ (codes "jul", 7) ∷ (codes "aug", 8) ∷ (codes "sep", 9) ∷ (codes "oct", 10) ∷ (codes "nov", 11)
-    ∷ (codes "dec", 12) ∷ []
+    ∷ (codes "jun", 6) ∷ (codes "jul", 7) ∷ (codes "aug", 8) ∷ (codes "sep", 9) ∷ (codes "oct", 10)
+    ∷ (codes "nov", 11) ∷ (codes "dec", 12) ∷ []
 
 abbrev pub day_names : List (List ℕ × ℕ)
 day_names =

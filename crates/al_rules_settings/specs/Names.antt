@@ -4,9 +4,8 @@ use Rattle.std.specs.Prelude.{ℕ, List, [], ◌∷◌, codes}
 abbrev pub permissions : List (List ℕ)
 permissions =
     codes "actions" ∷ codes "artifact-metadata" ∷ codes "attestations" ∷ codes "checks"
-    ∷ codes "contents" ∷ codes "deployments"
-    ∷ codes "discussions" ∷ codes "id-token" ∷ codes "issues" ∷ codes "models" ∷ codes "packages"
-    ∷ codes "pages" ∷ codes "pull-requests"
+    ∷ codes "contents" ∷ codes "deployments" ∷ codes "discussions" ∷ codes "id-token"
+    ∷ codes "issues" ∷ codes "models" ∷ codes "packages" ∷ codes "pages" ∷ codes "pull-requests"
     ∷ codes "repository-projects" ∷ codes "security-events" ∷ codes "statuses" ∷ []
 
 abbrev pub shells : List (List ℕ)

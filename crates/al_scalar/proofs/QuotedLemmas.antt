@@ -1,5 +1,5 @@
 -- Quoted scalars by their lines, for any reader of a line's part.
-use Rattle.std.proofs.Common.{◌≡◌, ℕ, List, [], ◌∷◌, refl, sym, ap, ◌∙◌, Bool, true, false, not, ◌&&◌, cond, inl, inr, Option, Some, None, Result, Ok, Err}
+use Rattle.std.proofs.Common.{◌≡◌, ℕ, List, [], ◌∷◌, refl, sym, ap, subst, ◌∙◌, Bool, true, false, not, ◌&&◌, cond, inl, inr, Option, Some, None, Result, Ok, Err}
 use Rattle.al_base.specs.declared.codes.YamlCode.TheVariants as yaml
 use Rattle.al_scalar.specs.Line.{Cell, Line, cut, is_blank, after_blanks, is_empty}
 use Rattle.al_scalar.specs.Taken.{Taken, ◌>>=◌, before, folding_space, feeds, fault}
@@ -9,6 +9,7 @@ use Rattle.al_scalar.specs.Places.{first_text, first_end}
 use Rattle.al_scalar.specs.LineEnds.{IsBlankByte, SameLine, first_last, later}
 use Rattle.al_scalar.specs.Private.PlainLines.{is_blank_line, empty_ends, break_left}
 use Rattle.al_scalar.specs.Private.Folding.{solid_lines, break_of}
+use Rattle.al_scalar.proofs.CellRuns.{drop-front}
 use Rattle.al_scalar.proofs.LineCells.{has_line}
 use Rattle.al_scalar.proofs.OffsetLemmas.{choose}
 use Rattle.al_scalar.proofs.FoldLemmas.{before-two, before-none, line_given-before, given-line}
@@ -125,8 +126,9 @@ module _ (part : List Cell → Result QuotedLine FaultAt) (q : ℕ) where
     solid-some : (cs : List Cell) → is_empty (after_blanks cs) ≡ false → gives_nothing (part (after_blanks cs)) ≡ false
     solid-some [] e = cc
     solid-some (c ∷ cs) e =
-        choose (λ (t : List Cell). is_empty t ≡ false → gives_nothing (part t) ≡ false) (is_blank c)
-        (λ _. solid-some cs) (λ n _. ok.some c cs (solid-cell c n)) e
+        subst (λ (t : List Cell). is_empty t ≡ false → gives_nothing (part t) ≡ false) (sym (drop-front is_blank c cs))
+        (choose (λ (t : List Cell). is_empty t ≡ false → gives_nothing (part t) ≡ false) (is_blank c)
+        (λ _. solid-some cs) (λ n _. ok.some c cs (solid-cell c n))) e
 
     lines-blank : (b : Option ℕ) (l : Line) (ls : List Line) → after_blanks l.text ≡ [] → l.last ≡ false
         → quoted_lines part q b (l ∷ ls) ≡ before ((10, l.end) ∷ []) (quoted_lines part q None ls)

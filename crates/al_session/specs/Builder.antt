@@ -5,8 +5,8 @@ use Rattle.al_session_folder.specs.Kept.{AreKept, Callers, Files, IsCallerIndex,
 use Rattle.al_session.specs.declared.indexed.IndexedFiles.{IndexedFiles}
 
 -- Files that were read but not yet checked, with the index of their folder.
-pub record AreLoaded {U I S R : Type 0} (m : Meaning I) (is_unit : U → List ℕ → List ℕ
-    → Type 0) (files : Files U I)
+pub record AreLoaded {U I S R : Type 0} (m : Meaning I)
+    (is_unit : U → List ℕ → List ℕ → Type 0) (files : Files U I)
     (callers : Callers S R) : Type 0 where
   pub kept : AreKept m is_unit files
   pub index : IsCallerIndex m (folder_of files) callers

@@ -14,8 +14,8 @@ pub record SessionState : Type 0 where
   pub reads : ℕ
 
 -- The invariant of what a session keeps: the faults and the index are those of its folder.
-pub record AreLinted {U I S R : Type 0} (m : Meaning I) (is_unit : U → List ℕ → List ℕ
-    → Type 0) (files : Files U I)
+pub record AreLinted {U I S R : Type 0} (m : Meaning I)
+    (is_unit : U → List ℕ → List ℕ → Type 0) (files : Files U I)
     (callers : Callers S R) : Type 0 where
   pub kept : AreKept m is_unit files
   pub faults : AllChecked m (folder_of files) files
@@ -35,5 +35,5 @@ pub record ReadsForPut {I : Type 0} (m : Meaning I) (f : Folder) (path bytes : L
     (before now : ℕ) : Type 0 where
   pub at_most : IsUpTo before now 1
   pub there : bytes_at f path ≡ Some bytes → now ≡ before
-  pub read_once : put_refusal m f path bytes ≡ None → bytes_at f path ≢ Some bytes → now
-      ≡ count_after before 1
+  pub read_once : put_refusal m f path bytes ≡ None → bytes_at f path ≢ Some bytes
+      → now ≡ count_after before 1

@@ -60,10 +60,13 @@ fn refuses_second(alloc: Global, session: &mut Session<Actions>) -> Result<bool,
     Ok(count_refused(alloc, session, &changes)? == 1)
 }
 
+fn opens_and_refuses(alloc: Global) -> Result<bool, AllocError> {
+    refuses_second(alloc, &mut Session::open(alloc, Actions::new()))
+}
+
 #[test]
 fn a_list_of_edits(rt: HostRuntime) {
-    let session = &mut Session::open(rt.alloc(), Actions::new());
-    assert!(rt; refuses_second(rt.alloc(), session) == Ok(true));
+    assert!(rt; opens_and_refuses(rt.alloc()) == Ok(true));
 }
 
 fn is_call_of_action(call: &Target) -> bool {

@@ -44,8 +44,11 @@ fn reports_both(alloc: Global, session: &mut Session<Actions>) -> Result<bool, S
     Ok(first && second)
 }
 
+fn opens_and_reports(alloc: Global) -> Result<bool, Stop> {
+    reports_both(alloc, &mut Session::open(alloc, Actions::new()))
+}
+
 #[test]
 fn a_folder_and_an_edit(rt: HostRuntime) {
-    let session = &mut Session::open(rt.alloc(), Actions::new());
-    assert!(rt; reports_both(rt.alloc(), session) == Ok(true));
+    assert!(rt; opens_and_reports(rt.alloc()) == Ok(true));
 }

@@ -102,11 +102,20 @@ fn goes_on(
     Ok(status == 1 && output.as_slice() == wanted)
 }
 
+fn opens_and_goes_on(alloc: Global, wanted: &[u8]) -> Result<bool, Stop> {
+    let put = b"put .github/workflows/a.yml 0\n\n";
+    goes_on(
+        alloc,
+        &mut Session::open(alloc, Actions::new()),
+        put,
+        b"report\n",
+        wanted,
+    )
+}
+
 #[test]
 fn two_scripts_over_a_session(rt: HostRuntime) {
-    let put = b"put .github/workflows/a.yml 0\n\n";
-    let session = &mut Session::open(rt.alloc(), Actions::new());
-    assert!(rt; goes_on(rt.alloc(), session, put, b"report\n", replies()) == Ok(true));
+    assert!(rt; opens_and_goes_on(rt.alloc(), replies()) == Ok(true));
 }
 
 static REFUSED: [(&str, &[u8]); 2] = [(CALLER, b""), ("x.yml", b"")];
@@ -243,9 +252,14 @@ fn arguments() -> &'static [&'static str] {
 fn runs<D: Disk, C: Clock>(alloc: Global, disk: &mut D, clock: &C, wanted: &[u8]) -> bool {
     let mut text = Vec::new(alloc);
     let mut errors = Vec::new(alloc);
-    let output = &mut Output::new(WaitingOutput::new(&mut text, clock));
-    let input = &mut Input::new(WaitingInput::new(b"".as_slice(), clock));
-    let ending = run(alloc, arguments(), disk, input, output, &mut errors);
+    let ending = run(
+        alloc,
+        arguments(),
+        disk,
+        &mut Input::new(WaitingInput::new(b"".as_slice(), clock)),
+        &mut Output::new(WaitingOutput::new(&mut text, clock)),
+        &mut errors,
+    );
     ending.status() == 1 && text.as_slice() == wanted && errors.is_empty()
 }
 

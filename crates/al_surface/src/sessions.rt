@@ -96,10 +96,13 @@ fn refuses_all(session: &mut Session<Actions>) -> bool {
         && refuses_delete(session, ".github/workflows/z.yml")
 }
 
+fn opens_and_follows(alloc: Global) -> Result<bool, Stop> {
+    follows_edits(alloc, &mut Session::open(alloc, Actions::new()))
+}
+
 #[test]
 fn an_edited_folder(rt: HostRuntime) {
-    let session = &mut Session::open(rt.alloc(), Actions::new());
-    assert!(rt; follows_edits(rt.alloc(), session) == Ok(true));
+    assert!(rt; opens_and_follows(rt.alloc()) == Ok(true));
 }
 
 #[test]

@@ -9,6 +9,7 @@ use al_text::{
     position, write_fault_at, write_faults,
 };
 use std::alloc::{AllocError, Global};
+use std::io::Write;
 
 static PATHS: [(&str, Option<PathFault>); 10] = [
     ("a/action.yml", None),
@@ -156,8 +157,14 @@ fn is_printed(alloc: Global, bytes: &[u8], fault: &Fault, wanted: &[u8]) -> bool
     }
     let start = location_of(bytes, fault.span.start);
     let mut text = Vec::new(alloc);
-    let writer = &mut Output::new(&mut text);
-    let result = write_fault_at(writer, PATH, bytes, fault, start, Format::Snippet);
+    let result = write_fault_at(
+        &mut Output::new(&mut text),
+        PATH,
+        bytes,
+        fault,
+        start,
+        Format::Snippet,
+    );
     result.is_ok() && text.as_slice() == wanted
 }
 
@@ -173,8 +180,13 @@ fn is_printed_by_lines(
     }
     let lines = Lines::of(alloc, bytes)?;
     let mut text = Vec::new(alloc);
-    let writer = &mut Output::new(&mut text);
-    let result = lines.write_fault(writer, PATH, bytes, fault, Format::Snippet);
+    let result = lines.write_fault(
+        &mut Output::new(&mut text),
+        PATH,
+        bytes,
+        fault,
+        Format::Snippet,
+    );
     Ok(result.is_ok() && text.as_slice() == wanted)
 }
 
@@ -201,8 +213,14 @@ fn are_printed(
     }
     let lines = Lines::of(alloc, bytes)?;
     let mut text = Vec::new(alloc);
-    let writer = &mut Output::new(&mut text);
-    let result = write_faults(writer, &lines, PATH, bytes, &[fault], Format::Snippet);
+    let result = write_faults(
+        &mut Output::new(&mut text),
+        &lines,
+        PATH,
+        bytes,
+        &[fault],
+        Format::Snippet,
+    );
     Ok(result.is_ok() && text.as_slice() == wanted)
 }
 
@@ -248,12 +266,16 @@ fn counts_reads(bytes: &[u8]) -> Result<bool, Stop> {
     Ok(first == 2 && end == 0 && asked && reader.turns() == 2 && reader.failures() == 0)
 }
 
-fn counts_no_failure(alloc: Global, bytes: &[u8]) -> Result<bool, Stop> {
-    let mut output = Vec::new(alloc);
-    let mut writer = Output::new(&mut output);
+/// How many calls of a writer failed, if it took all bytes.
+fn count_failures<W: Write>(writer: &mut Output<W>, bytes: &[u8]) -> Result<u64, Stop> {
     writer.write_all(bytes)?;
     writer.flush()?;
-    let failures = writer.failures();
+    Ok(writer.failures())
+}
+
+fn counts_no_failure(alloc: Global, bytes: &[u8]) -> Result<bool, Stop> {
+    let mut output = Vec::new(alloc);
+    let failures = count_failures(&mut Output::new(&mut output), bytes)?;
     Ok(failures == 0 && output.as_slice() == bytes)
 }
 

@@ -10,7 +10,7 @@ use Rattle.al_scalar.specs.Offsets.{AreClimbing}
 use Rattle.al_scalar.specs.Places.{first_text}
 use Rattle.al_scalar.specs.Plain.{block}
 use Rattle.al_scalar.specs.Scalar.{scalar_at}
-use Rattle.al_scalar.proofs.OffsetLemmas.{choose, climbing-drop, climbing-order}
+use Rattle.al_scalar.proofs.OffsetLemmas.{climbing-drop, climbing-order}
 use Rattle.al_yaml_tree.specs.Blocks.{Spot, own_line, compact, after_key, Slot, BlockReader, is_after_key, tab_before}
 use Rattle.al_yaml_tree.specs.Blocks.{unless_tab, spot_after, is_deeper, node_found, rest_node, rest_found, rest_below}
 use Rattle.al_yaml_tree.specs.Blocks.{entry_slot, sequence_entries, value_slot}

@@ -1,7 +1,6 @@
 -- The faults of a call by itself, and the faults of names for all calls of a file together.
 use Rattle.std.specs.Prelude.{◌≡◌, ◌⊎◌, List, [], ◌∷◌, ◌++◌, Bool, true, false, ◌&&◌, not, Contains}
-use Rattle.std.specs.Prelude.{map}
-use Rattle.std.specs.Prelude.{ℕ, Option, None, option_map, if◌then◌else◌}
+use Rattle.std.specs.Prelude.{ℕ, map, Option, None, option_map, if◌then◌else◌}
 use Rattle.std.specs.List.{AllByRecursion, cons_option, flat_map}
 use Rattle.std.specs.Option.{option_map_or}
 use Rattle.std.specs.Str.{bytes_eq}
@@ -39,8 +38,8 @@ is_compared Secret Job n = not (is_inherit n)
 
 abbrev pub signature_for : ParameterKind → Call → Option Interface → Option Signature
 signature_for k c answer =
-    if is_compared k (site_caller c.site) c.site.node then
-    callable_signature (site_caller c.site) answer else None
+    if is_compared k (site_caller c.site) c.site.node
+    then callable_signature (site_caller c.site) answer else None
 
 abbrev pub names_of_kind : ParameterKind → Call → Option Interface → List Fault
 names_of_kind k c answer = option_map_or (names_against k c) (signature_for k c answer) []

@@ -45,8 +45,8 @@ IsLineOf bytes result =
 -- the path and the length, if the bytes are a path, a space and a length
 abbrev pub IsPutOf : List ℕ → Option (Bor (List ℕ) × ℕ) → Type 0
 IsPutOf bytes result =
-    MatchOption result ((path : List ℕ) (len : ℕ) → IsPathText path → len < 10 ^ 7 → bytes ≢ path
-    ++ 32 ∷ decimal len)
+    MatchOption result
+    ((path : List ℕ) (len : ℕ) → IsPathText path → len < 10 ^ 7 → bytes ≢ path ++ 32 ∷ decimal len)
     (λ put. IsPathText put.0.now × (put.1 < 10 ^ 7) × (bytes ≡ put.0.now ++ 32 ∷ decimal put.1))
 
 -- the number below 10,000,000 that has these digits, if there is one
@@ -62,7 +62,7 @@ IsPutLine bytes end path len = (end < length bytes) × IsLine (script.PutLine pa
 -- the line of a delete that has these bytes, if there is one
 abbrev pub IsDeleteOf : List ℕ → Option Line → Type 0
 IsDeleteOf bytes result =
-    MatchOption result ((path : List ℕ) → IsPathText path
-    → bytes ≢ line_bytes (script.DeleteLine path))
+    MatchOption result
+    ((path : List ℕ) → IsPathText path → bytes ≢ line_bytes (script.DeleteLine path))
     (λ l. (path : List ℕ) × IsPathText path × (line_meaning l ≡ script.DeleteLine path)
     × (bytes ≡ line_bytes (script.DeleteLine path)))

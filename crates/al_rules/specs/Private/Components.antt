@@ -22,7 +22,7 @@ labelled_fault labels n (Some j) = if has_label_of labels j n.job then cycle_fau
 abbrev pub named_by : (List ℕ → Option ℕ) → Named → Option ℕ
 named_by position n = position n.text
 
--- the faults of entries: a needed job is on a cycle if it has the same label as the job that needs
--- it
+-- the faults of entries: a job that is needed is on a cycle if it has the label of the job that
+-- needs it
 abbrev pub labelled_faults : (List ℕ → Option ℕ) → List (Option ℕ) → List NeedEntry → List Fault
 labelled_faults position labels = flat_map (λ n. labelled_fault labels n (named_by position n.text))

@@ -17,8 +17,8 @@ pub record IsAllowed {I : Type 0} (m : Meaning I) (f : Folder) (path bytes : Lis
   pub room : bytes_at f path ≡ None → length f < most_files
 
 -- The files of the new folder, linted. Each affected file was checked once.
-pub record IsEdited {U I : Type 0} (eq : I → I → Bool) (m : Meaning I) (is_unit : U → List ℕ
-    → List ℕ → Type 0) (before : IndexedFiles U I)
+pub record IsEdited {U I : Type 0} (eq : I → I → Bool) (m : Meaning I)
+    (is_unit : U → List ℕ → List ℕ → Type 0) (before : IndexedFiles U I)
     (wanted : Folder) (checks_before : ℕ) (paths : List (List ℕ)) (now : IndexedFiles U I)
     (checks_now : ℕ) : Type 0 where
   pub linted : IsLinted m is_unit now
@@ -27,8 +27,8 @@ pub record IsEdited {U I : Type 0} (eq : I → I → Bool) (m : Meaning I) (is_u
   pub checks : checks_now ≡ count_after checks_before (length paths)
 
 -- The files as they were before, because memory ran out. At most the affected files were checked.
-pub record IsUndone {U I : Type 0} (eq : I → I → Bool) (m : Meaning I) (is_unit : U → List ℕ
-    → List ℕ → Type 0) (before : IndexedFiles U I)
+pub record IsUndone {U I : Type 0} (eq : I → I → Bool) (m : Meaning I)
+    (is_unit : U → List ℕ → List ℕ → Type 0) (before : IndexedFiles U I)
     (wanted : Folder) (checks_before : ℕ) (now : IndexedFiles U I) (checks_now : ℕ) : Type 0 where
   pub linted : IsLinted m is_unit now
   pub as_before : now.files.entries ≡ before.files.entries

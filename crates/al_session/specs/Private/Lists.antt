@@ -15,8 +15,8 @@ use Rattle.al_session_folder.specs.declared.kept.KeptFile.{KeptFile}
 abbrev pub with_faults : {U I : Type 0} → Files U I → List ℕ → Vec Fault Global → Files U I
 with_faults [] p list = []
 with_faults (e ∷ es) p list =
-    cond (bytes_eq p (string_bytes e.0)) ((e.0, record e.1 { faults = list }) ∷ es) (e
-    ∷ with_faults es p list)
+    cond (bytes_eq p (string_bytes e.0)) ((e.0, record e.1 { faults = list }) ∷ es)
+    (e ∷ with_faults es p list)
 
 -- the file at each path has the list of the same index
 abbrev pub with_lists : {U I : Type 0} → Files U I → List (List ℕ) → List (Vec Fault Global)

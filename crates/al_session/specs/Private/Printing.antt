@@ -15,8 +15,8 @@ abbrev pub lines_of : {U I : Type 0} → Format → List ℕ → KeptFile U I �
 lines_of format path file faults = flat_map (fault_text format path file.bytes.items) faults
 
 -- what it prints of the file with this number
-abbrev pub numbered_lines : {U I : Type 0} → Format → Meaning I → Folder → ℕ
-    × (String Global × KeptFile U I) → List ℕ
+abbrev pub numbered_lines : {U I : Type 0} → Format → Meaning I → Folder
+    → ℕ × (String Global × KeptFile U I) → List ℕ
 numbered_lines format m f x =
     lines_of format (string_bytes x.1.0) x.1.1
     (report_faults m f x.0 (string_bytes x.1.0) x.1.1.bytes.items)
