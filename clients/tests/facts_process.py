@@ -15,7 +15,7 @@ from pathlib import Path
 from typing import Iterator
 
 from cases import Cases
-from repositories import ACTION, CALLED, CLIENTS, FILE, FILES, WRONG, write
+from repositories import ACTION, CALLED, CLIENTS, FILE, FILES, RIGHT, WRONG, write
 
 from actionlint_client import facts as module
 from actionlint_client.child import LinterEnded, LinterMissing, LinterSilent
@@ -142,21 +142,22 @@ def a_folder_whose_program_reads(program: str) -> None:
     """One program has the folder and reads other texts, which have no part in the faults. One that ends at a text is followed by another
     one, which gets the folder."""
     with tempfile.TemporaryDirectory(prefix="actionlint-test-") as root:
-        write(root, {FILE: WRONG, CALLED: FILES[CALLED]})
+        write(root, {FILE: WRONG, CALLED: FILES[CALLED], ACTION: FILES[ACTION]})
         folder = Folder(os.fsencode(root), Program([program], SECONDS), print)
         before = folder.refresh()
-        assert before and set(before.faults) == {FILE}, before
+        assert before and set(before.faults) == {FILE, CALLED}, before
         running = folder._facts
         for path, data in ((FILE, b"name: a\n"), (CALLED, b"a: ["), (ACTION, b"name: a\n")):
             assert (folder.reader.tree(path, data) is None) == (data == b"a: ["), path
-        folder.edit(CALLED, WRONG.encode())
+        called = before.faults[CALLED]
+        folder.edit(FILE, RIGHT.encode())
         after = folder.refresh()
-        assert running is folder._facts and after and set(after.faults) == {FILE, CALLED} and after.changed == {CALLED}, after
-        assert running and after.faults[FILE] == before.faults[FILE]
+        assert running and running is folder._facts and after and after.faults == {CALLED: called} and after.changed == {FILE}, after
         os.kill(running._child.pid, signal.SIGKILL)
         assert folder.reader.tree(FILE, b"name: a\n") and folder._facts is not running
+        folder.edit(CALLED, FILES[CALLED].encode() + b"#\n")
         again = folder.refresh()
-        assert again and again.faults == after.faults, again
+        assert again and again.faults == {CALLED: called}, again
         folder.close()
 
 

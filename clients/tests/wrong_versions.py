@@ -113,7 +113,7 @@ WRONG_VERSIONS = {name: WrongVersion(*row) for name, *row in (
     ("a_program_that_ended_is_asked_again", "reader.py", "facts_process.py a_reader_whose_program_ends",
      "is None or self._facts.has_ended():", "is None:"),
     ("a_program_that_ended_keeps_its_folder", "folder.py", "facts_process.py a_folder_whose_program_reads",
-     "self._facts is not None and self._facts.has_ended()", "False"),
+     "has_ended():\n            self._forget_linter()", "has_ended():\n            self._end_linter()"),
     ("a_program_that_hangs_is_tried_again", "reader.py", "facts_process.py a_reader_whose_program_ends",
      "is_last or isinstance(error, (LinterMissing, LinterSilent))", "is_last"),
     ("the_disk_is_scanned_for_each_buffer", "files.py", "linear.py many_buffers",
@@ -511,10 +511,12 @@ WRONG_VERSIONS = {name: WrongVersion(*row) for name, *row in (
     ("inputs_have_no_values", "completion.py", "completion.py texts_and_order",
      'value = {"boolean": "true", "number": "0"}.get(kind, "")', 'value = ""'),
     ("long_answers_are_kept", "child.py", "facts_process.py wrong_programs",
-     """                blocks = []
-        return None if max_bytes is not None and size > max_bytes else b"".join(blocks)""",
-     """                blocks.append(block)
-        return b"".join(blocks)"""),
+     """                parts.clear()
+            if end:
+                return b"".join(parts) if size <= max_bytes else None""",
+     """                pass
+            if end:
+                return b"".join(parts)"""),
     ("facts_are_built", "program.py", "facts_process.py which_program",
      ' and place.resolve().name.endswith((SUFFIX, FACTS_OF_A_CLONE[0].rpartition("/")[2]))', ""),
     ("input_is_not_waited_for", "streams.py", "protocol.py streams_that_do_not_block",
