@@ -18,6 +18,8 @@ MAX_NAMES = 400
 MAX_WORD_CHARACTERS = 40
 SEPARATORS = re.compile(r"[-_. /]+")
 DIGITS = re.compile(r"\d+")
+# Words that turn the meaning of a name round.
+OPPOSITES = {"ignore", "ignored", "ignores", "exclude", "excluded", "excludes", "skip", "without", "no", "not", "non", "never"}
 
 # Of which names the argument of a fault should have been one.
 LISTS = {"G1": "events", "G2": "activity types", "G12": "shells", "G13": "permission scopes", "G14": "permission values",
@@ -55,7 +57,7 @@ def likely(wrong: str, known: Iterable[str]) -> list[tuple[str, bool]]:
         return [(meant, True)]
     begun = [name for name in names_ if len(name) > 2 and SEPARATORS.search(wrong) is None and wrong.lower().startswith(name.lower())]
     found = begun or near(wrong, names_) or [name for name in names_ if _is_part(wrong, name) or _is_part(name, wrong)]
-    return [(name, False) for name in found if name != wrong]
+    return [(name, False) for name in found if name != wrong and _opposites(name) == _opposites(wrong)]
 
 
 def _is_part(words: str, name: str) -> bool:
@@ -68,12 +70,17 @@ def _is_part(words: str, name: str) -> bool:
     return name.endswith(words) and SEPARATORS.fullmatch(name[-len(words) - 1]) is not None
 
 
+def _opposites(name: str) -> bool:
+    """Whether a name has a word that turns its meaning round."""
+    return not OPPOSITES.isdisjoint(SEPARATORS.split(name.lower()))
+
+
 def _bare(name: str) -> str:
     return SEPARATORS.sub("", name.lower())
 
 
 def _is_slip(wrong: str, name: str) -> bool:
-    if _bare(wrong) == _bare(name):
+    if _bare(wrong) == _bare(name) or sorted(SEPARATORS.split(wrong.lower())) == sorted(SEPARATORS.split(name.lower())):
         return True
     if DIGITS.findall(wrong) != DIGITS.findall(name):
         return False

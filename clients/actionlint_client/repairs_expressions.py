@@ -19,6 +19,7 @@ from .text import Point, Span
 
 BRACES = re.compile(r"\$\{\{((?:[^$}]|\$(?!\{\{)|\}(?!\}))*)\}\}")
 TEXT_WITH_BRACES = re.compile(r"'([^'{}]*(?:\$\{\{[^'{}]*\}\}[^'{}]*)+)'")
+QUOTED_BRACES = re.compile(r"(?<!\w)'(\$\{\{[^{}]*\}\})'(?!\w)")
 MANY_BRACES = re.compile(r"\$\{{3,}([^{}]*)\}{2,}")
 NESTED_BRACES = re.compile(r"\$\{\{([^{}]*)\$\{\{([^{}]*)\}\}([^{}]*)\}\}")
 VERSION = re.compile(r"(?<![\w.-])v?\d[\w-]*(?:\.[\w-]+)+")
@@ -301,6 +302,10 @@ def closed_braces(case: Case) -> Iterable[Repair]:
     has_brace = rest[whole.end():whole.end() + 1] == "}"
     is_after_dollar = case.line[:case.span.start.column].endswith("$")
     is_one = has_brace or chain is None or re.match(r"\s*(?:[=!]=|&&|\|\||[<>(])", rest[chain.end():]) is not None
+    if is_after_dollar and is_one and here.path[-1:] != ("run",):
+        start = Point(case.span.start.line, case.span.start.column - 1)
+        end = Point(start.line, case.span.start.column + whole.end() + has_brace)
+        yield case.replace("write one dollar and close the braces", text + " " * (not text.endswith(" ")) + "}}", Span(start, end))
     ends = [whole.end() if has_brace else len(text)] if is_one else []
     ends += [chain.end()] if chain else []
     ends += [] if is_one else [len(text)]
@@ -366,7 +371,7 @@ def one_pair(case: Case) -> Iterable[Repair]:
         return
     in_flow = is_within_flow(case, here.path)
     text = " ".join(here.value.value.split())
-    joined = TEXT_WITH_BRACES.sub(_without_quotes, text)
+    joined = TEXT_WITH_BRACES.sub(_without_quotes, QUOTED_BRACES.sub(r"\1", text))
     outside = operators(BRACES.sub("x", joined)) or WHOLE_CALL.fullmatch(BRACES.sub("x", joined))
 
     def inner(match: re.Match[str]) -> str:

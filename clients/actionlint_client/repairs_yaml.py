@@ -37,6 +37,11 @@ SIGNS_OF_LINES = re.compile(r"[|>][-+]{2,}")
 WIDE_DASH = re.compile(r"^( *)- {2,}(?=[A-Za-z_][\w-]*:)")
 PLAIN_ITEM = re.compile(r" *- [\w./*-]+")
 ITEM = re.compile(r"""(?:[\w-]+: *)?(?:'[^']*'|"[^"]*"|[^'"]*)""")
+# An entry of a list in brackets that begins with one quote and ends with the other.
+OTHER_QUOTE_AT_END = re.compile(r"""(?<=[\[,{])\s*(['"])(?!\1)[^'"\[\]{},]+(?!\1)['"](?=\s*[,\]}])""")
+# Several entries of a mapping beside each other.
+PAIRS = re.compile(r"[\w-]+: [^\s,\[\]{}:]+(?:, *[\w-]+: [^\s,\[\]{}:]+)+")
+ITEM_WITHOUT_SPACE = re.compile(r"( *)-(?=[\w./@'\"])")
 MAX_ITEMS = 30
 MAX_LINES_OF_LIST = 30
 # Words in quotes before others.
@@ -120,10 +125,12 @@ def _end_of_item(line: str, start: int) -> int:
 
 
 def pair_below(case: Case) -> Iterable[Repair]:
-    """A key with its value that follow another key, on a line of their own."""
+    """A key with its value that follow another key, on a line of their own; several of them in braces."""
     span = case.rest_span(case.span.start.line)
     elements = case.outline.lines[case.span.start.line].elements
-    if span and elements and elements[-1].name is not None and re.match(r"[\w-]+:(?: |$)", case.slice(span)):
+    if span and elements and elements[-1].name is not None and PAIRS.fullmatch(case.slice(span)):
+        yield case.replace("make it a mapping", "{" + case.slice(span) + "}", span)
+    elif span and elements and elements[-1].name is not None and re.match(r"[\w-]+:(?: |$)", case.slice(span)):
         start = Point(case.span.start.line, elements[-1].end)
         indent = "\n" + " " * (elements[-1].column + 2)
         yield case.replace("move it to a line of its own", indent + case.slice(span), Span(start, span.end))
@@ -179,6 +186,11 @@ def closed_above(case: Case) -> Iterable[Repair]:
             yield case.replace("close the quotes", text[:1], Span.at(span.end))
             return
         open_quote = next((sign for sign in "'\"" if text[:1] in CLOSERS and text.count(sign) % 2), None)
+        other_end = OTHER_QUOTE_AT_END.search(text) if open_quote else None
+        if span and other_end:
+            sign, end = other_end[1], Span.on_line(line, span.start.column + other_end.end() - 1, span.start.column + other_end.end())
+            yield case.replace(f"close the quotes with {sign}", sign, end)
+            return
         if span and open_quote:
             ends = [*(match.start() for match in islice(re.finditer(",", text), MAX_ITEMS)), len(text.rstrip("]} "))]
             for end in (end for end in ends if _has_whole_items(text[:end] + open_quote + text[end:])):
@@ -269,13 +281,14 @@ def as_expression(case: Case) -> Iterable[Repair]:
     the dollar."""
     span = case.rest_span(case.span.start.line)
     text = case.slice(span).strip() if span else ""
-    if span and text.startswith("{{") and text.endswith("}}"):
-        yield case.replace("write a dollar before the braces", "$" + text, span, is_safe=True)
-    elif span and text.startswith("{{") and CHAIN_IN_BRACES.match(text):
-        yield case.replace("write a dollar before the braces", CHAIN_IN_BRACES.sub(r"${{\1}}", text), span)
+    is_one = text.endswith("}}") and text.count("{{") == 1
+    if span and text.startswith("{{") and (is_one or CHAIN_IN_BRACES.match(text)):
+        changed = "$" + text if is_one else CHAIN_IN_BRACES.sub(r"${{\1}}", text)
+        yield case.replace("write a dollar before the braces", changed, span, is_safe=is_one)
     key = case.outline.lines[case.span.start.line].elements[-1:]
-    if span and text[:1] in ("'", '"') and "${{" in text and "}}" in text and not (key and key[0].name == "run"):
-        bare = QUOTED_BRACES.sub(lambda match: match[1].strip(), text).replace('"', "'")
+    if span and text[:1] in ("'", '"') and "${{" in text and "}}" in text and key and key[0].name == "if":
+        beside = () if QUOTED_BRACES.fullmatch(text) else OPERATORS
+        bare = QUOTED_BRACES.sub(lambda match: grouped(match[1].strip(), beside), text).replace('"', "'")
         yield case.replace("write it as an expression", "${{ " + bare + " }}", span)
     if span and OTHER_SIGN.match(text):
         yield case.replace(f'write "$" for "{text[0]}"', "$" + text[1:], span)
@@ -314,6 +327,22 @@ def with_space(case: Case) -> Iterable[Repair]:
     """A space after a colon or a dash that has none."""
     for place, match in _after_match(case, COLON_WITHOUT_SPACE, DASH_WITHOUT_SPACE):
         yield case.replace(f"add a space after the {'colon' if match[0].endswith(':') else 'dash'}", " ", place, is_safe=True)
+
+
+def with_spaced_items(case: Case) -> Iterable[Repair]:
+    """The entries of a list that lack the space after the dash, with it, beside an entry that has it."""
+    number, lines = case.span.start.line, case.lines
+    match = next((found for one in (number, number - 1) if one >= 0 and (found := ITEM_WITHOUT_SPACE.match(lines[one]))), None)
+    if match is None:
+        return
+
+    def of_list(numbers: Iterable[int]) -> list[int]:
+        return list(itertools.takewhile(lambda one: lines[one].startswith(match[1] + "-"), numbers))
+    around = [*of_list(range(number, max(number - MAX_LINES_OF_LIST, -1), -1)),
+              *of_list(range(number + 1, min(number + MAX_LINES_OF_LIST, len(lines))))]
+    edits = [Edit(Span.at(Point(one, match.end())), " ") for one in around if ITEM_WITHOUT_SPACE.match(lines[one])]
+    if len(edits) < len(around):
+        yield case.of("add a space after the dash", *edits, is_safe=True)
 
 
 def without_spaces_after_dash(case: Case) -> Iterable[Repair]:
@@ -408,7 +437,7 @@ def quoted_key(case: Case) -> Iterable[Repair]:
 REPAIRS: dict[str, tuple[Callable[[Case], Iterable[Repair]], ...]] = {
     "Y2": (without_character,),
     "Y3": (spaces_for_tabs,),
-    "Y4": (plain_spaces, comment, list_in_line, without_spaces_after_dash, with_dash, with_colon, with_space, script_below, moved_line,
+    "Y4": (plain_spaces, comment, list_in_line, without_spaces_after_dash, with_spaced_items, with_dash, with_colon, with_space, script_below, moved_line,
            with_quotes),
     "Y5": (closed_quote,),
     "Y6": (closed_bracket, with_quotes),
@@ -419,6 +448,7 @@ REPAIRS: dict[str, tuple[Callable[[Case], Iterable[Repair]], ...]] = {
     "Y11": (without_line,),
     "Y12": (single_quotes,),
     "Y13": (plain_spaces, comment, as_condition, as_expression, as_schedule, list_in_line, closed_above, inner_quotes, pair_below,
+            with_spaced_items,
             script_without_sign, script_in_lines, script_below, with_quotes, as_block, with_space, with_colon, text_in_script,
             brackets_closed_above, moved_line, without_character),
     "Y16": (text_on_next_line,),
