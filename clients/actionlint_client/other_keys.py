@@ -1,4 +1,4 @@
-"""The keys that are meant by words that other services have, or that aren't similar enough to be found."""
+"""The keys and activity types that are meant by words that other services have, or that aren't similar enough to be found."""
 from __future__ import annotations
 
 import re
@@ -20,6 +20,12 @@ WORDS = {
     "image": "name dockerfile img", "ports": "expose", "volumes": "mounts", "credentials": "auth login",
     "max-parallel": "parallel parallelism max-concurrency", "using": "runtime type", "main": "entrypoint entry script file",
     "pre": "before setup", "post": "after cleanup teardown", "args": "command arguments cmd"}
+# Activity types of other events with the same meaning, the first that the event has.
+OTHER_TYPES = {"opened": "created submitted", "open": "opened created", "new": "opened created", "added": "created labeled",
+               "created": "opened submitted", "create": "created opened", "removed": "deleted", "updated": "synchronize edited",
+               "update": "synchronize edited", "changed": "edited synchronize", "modified": "edited", "finished": "completed",
+               "success": "completed", "failure": "completed", "done": "completed", "merged": "closed", "push": "synchronize",
+               "started": "in_progress requested", "synced": "synchronize"}
 SIGNS = re.compile(r"[-_ ]")
 
 

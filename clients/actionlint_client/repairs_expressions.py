@@ -12,7 +12,7 @@ from .missing_signs import closed_at_ends, with_apostrophes, with_closed_json
 from .operators import Choice, Token, choice, choice_in, grouped, operators, tokens
 from .other_syntax import (FUNCTIONS, choice_in_words, template_as_format, with_alternatives, with_comparison, with_default, with_dots,
                            with_equal_quotes, with_matching_brackets, with_round_brackets, with_search, with_single_commas, with_stars,
-                           with_text_in_brackets, without_if, without_spaces_in_operators, without_stray_brackets)
+                           with_state, with_text_in_brackets, without_if, without_spaces_in_operators, without_stray_brackets)
 from .repair import NEEDS_QUOTES, Case, Repair, as_scalar, is_within_flow
 from .syntax import is_condition
 from .text import Point, Span
@@ -303,9 +303,9 @@ def closed_braces(case: Case) -> Iterable[Repair]:
     is_after_dollar = case.line[:case.span.start.column].endswith("$")
     is_one = has_brace or chain is None or re.match(r"\s*(?:[=!]=|&&|\|\||[<>(])", rest[chain.end():]) is not None
     if is_after_dollar and is_one and here.path[-1:] != ("run",):
-        start = Point(case.span.start.line, case.span.start.column - 1)
-        end = Point(start.line, case.span.start.column + whole.end() + has_brace)
-        yield case.replace("write one dollar and close the braces", text + " " * (not text.endswith(" ")) + "}}", Span(start, end))
+        column = case.span.start.column
+        span = Span.on_line(case.span.start.line, column - 1, column + whole.end() + has_brace)
+        yield case.replace("write one dollar and close the braces", text + " }}", span)
     ends = [whole.end() if has_brace else len(text)] if is_one else []
     ends += [chain.end()] if chain else []
     ends += [] if is_one else [len(text)]
@@ -402,7 +402,7 @@ OTHER_SYNTAX = (
     rewritten("delete the space in the operator", outside(without_spaces_in_operators), True), DOTS,
     rewritten("write a call with round brackets", with_round_brackets), rewritten("write one comma", outside(with_single_commas)),
     rewritten("write the other bracket", with_matching_brackets),
-    rewritten("call a function", with_search),
+    rewritten("call a function", with_search), rewritten("compare its state", outside(with_state)),
     rewritten("write the operator", outside(with_comparison)), rewritten('write ".*"', outside(with_stars), True),
     rewritten('write "||"', with_default),
     rewritten("write single quotes", with_equal_quotes),

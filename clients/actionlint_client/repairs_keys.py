@@ -35,6 +35,8 @@ UNIT_OF_LIMIT = re.compile(r"timeout[-_]?(?:in[-_]?)?(s|secs?|seconds?|h|hrs?|ho
 # Sections that can be a text, which is the value of one of their keys.
 SHORT_FORMS = {"concurrency": ("group", "Concurrency"), "environment": ("name", "Environment"), "container": ("image", "Container"),
                "runs-on": ("labels", "RunsOn")}
+# What a call of a workflow and a step have in common.
+CALL_KEYS = {"name", "if", "uses", "with", "secrets"}
 # Where a missing key is looked for.
 MAX_PLACES = 20
 
@@ -358,7 +360,7 @@ def missing_key(case: Case) -> Iterable[Repair]:
     unknown = [(key, value) for key, value in here.value.entries if shape and key.value not in shape.get("keys", ())]
     if "run" in wanted:
         unknown += [(key, value) for key, value in here.value.entries if key.value == "name" and fits("uses", value)]
-    found = [*_renamed(case, unknown, wanted), *_moved_here(case, here.path, wanted)]
+    found = [*_renamed(case, unknown, wanted), *_moved_here(case, here.path, wanted), *_called_from_job(case, here)]
     yield from found
     if not found:
         yield from _joined(case, here)
@@ -383,6 +385,20 @@ def _moved_here(case: Case, path: Path, wanted: list[str]) -> Iterable[Repair]:
     for found in itertools.islice(near, MAX_PLACES):
         if found.path[-1] not in case.known_keys(found.path[:-1]):
             yield from (repair for goal, repair in moves(case, found) if goal == path)
+
+
+def _called_from_job(case: Case, here: Found) -> Iterable[Repair]:
+    """A workflow that the only step of a job calls, called from the job."""
+    key, steps = here.value.key("steps"), here.value.get("steps")
+    step = steps.items[0] if steps and len(steps.items) == 1 else None
+    if key is None or steps is None or step is None or "/.github/workflows/" not in (step.text("uses") or ""):
+        return
+    if not here.value.is_flow and {*step.names()} <= CALL_KEYS - {*here.value.names()}:
+        column = key.span.start.column
+        texts = [case.slice(Span(name.span.start, tight(case, value).end)).replace("\n" + " " * (name.span.start.column - column), "\n")
+                 for name, value in step.entries]
+        span = Span(key.span.start, tight(case, steps).end)
+        yield case.replace("call the workflow from the job", ("\n" + " " * column).join(texts), span)
 
 
 def _joined(case: Case, here: Found) -> Iterable[Repair]:

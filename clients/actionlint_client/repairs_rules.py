@@ -7,6 +7,7 @@ from typing import Callable, Iterable
 
 from . import project as files
 from .names import LISTS, likely, misspelled, names
+from .other_keys import OTHER_TYPES
 from .repair import Case, Edit, Found, Repair, as_scalar, is_within_flow, next_entry, quoted, without_key
 from .repairs_expressions import BRACES
 from .repairs_keys import deleted, fits, in_its_quotes
@@ -24,6 +25,8 @@ OTHER_EVENTS = {"tag": "push", "tags": "push", "commit": "push", "merge": "push"
 PRESETS = {"@hourly": "0 * * * *", "@daily": "0 0 * * *", "@midnight": "0 0 * * *", "@weekly": "0 0 * * 0", "@monthly": "0 0 1 * *",
            "@yearly": "0 0 1 1 *", "@annually": "0 0 1 1 *"}
 WORD_OF_CRON = re.compile(r"[A-Za-z]{3,}")
+TIME_OF_DAY = re.compile(r"^(\d{1,2}):(\d{2})(?=(?: [\w*/,-]+){3}$|$)")
+TO_SUNDAY = re.compile(r"^(\w+)-(7|SUN)$")
 HOUR_OF_HALF = re.compile(r"\b(\d{1,2})([ap]m)\b", re.I)
 OF_ONE_VALUE = re.compile(r"(?<!\w)(\w+)-\1(?!\w)")
 GREATEST = (59, 23, 31, 12, 6)
@@ -36,17 +39,12 @@ OTHER_VALUES = {"text": "string", "str": "string", "int": "number", "integer": "
                 "all": "write-all", "merged": "closed", "merge": "closed", "updated": "synchronize", "pushed": "synchronize",
                 "commented": "created", "approved": "submitted", "node18": "node20", "node22": "node24", "node14": "node20",
                 "node": "node20", "javascript": "node20", "shell": "bash", "bash.exe": "bash", "batch": "cmd", "python3": "python"}
-# Activity types of other events with the same meaning, the first that the event has.
-OTHER_TYPES = {"opened": "created submitted", "open": "opened created", "new": "opened created", "added": "created labeled",
-               "created": "opened submitted", "create": "created opened", "removed": "deleted", "updated": "synchronize edited",
-               "update": "synchronize edited", "changed": "edited synchronize", "modified": "edited", "finished": "completed",
-               "success": "completed", "failure": "completed", "done": "completed", "merged": "closed", "push": "synchronize",
-               "started": "in_progress requested", "synced": "synchronize"}
 OTHER_INPUT_TYPES = dict.fromkeys(("enum", "select", "dropdown", "option", "options", "choices", "list"), "choice string")
 OTHER_SCOPES = {**dict.fromkeys(("pr", "prs", "pull", "pulls", "merge-requests", "reviews"), "pull-requests"),
                 **dict.fromkeys(("code", "repo", "repository", "files", "releases"), "contents"),
                 **dict.fromkeys(("oidc", "token", "id", "jwt"), "id-token"), "security": "security-events", "workflows": "actions"}
-OTHER_WORDS = {"G2": OTHER_TYPES, "G13": OTHER_SCOPES, "G19": OTHER_INPUT_TYPES}
+OTHER_LEVELS = {**dict.fromkeys(("true", "yes", "allow", "grant"), "write"), **dict.fromkeys(("false", "no", "deny", "off"), "none")}
+OTHER_WORDS = {"G2": OTHER_TYPES, "G13": OTHER_SCOPES, "G14": OTHER_LEVELS, "G19": OTHER_INPUT_TYPES}
 # Programs that run a script, given as a file.
 INTERPRETERS = ("zsh", "fish", "dash", "ksh", "nu", "elvish", "node", "deno", "bun", "perl", "ruby", "Rscript", "php", "lua", "tclsh")
 WORDS_OF_SCALARS = {"read": "read-all", "write": "write-all", "readonly": "read-all", "all": "write-all"}
@@ -174,7 +172,8 @@ def schedule(case: Case) -> Iterable[Repair]:
     here = case.value
     if here is None or len(here.value.value) > MAX_SCHEDULE_CHARACTERS:
         return
-    text = here.value.value.strip()
+    written = here.value.value.strip()
+    text = TIME_OF_DAY.sub(lambda match: f"{int(match[2])} {int(match[1])}", written)
     fields = [HOUR_OF_HALF.sub(_of_day, "*" * field.startswith("/") + field) for field in PRESETS.get(text, text).replace("?", "*").split()]
     if len(fields) == 6:
         without = [("delete the seconds", fields[1:]), ("delete the year", fields[:5])]
@@ -186,11 +185,20 @@ def schedule(case: Case) -> Iterable[Repair]:
         return
     fields += ["*"] * (5 - len(fields))
     fields = [WORD_OF_CRON.sub(lambda match: match[0][:3].upper(), field) for field in fields]
+    fields[4] = TO_SUNDAY.sub(_to_sunday, fields[4])
     changed = " ".join(_bounded(field, most) for field, most in zip(fields, GREATEST))
     if any(OF_ONE_VALUE.search(field) for field in changed.split()):
         return
-    is_same = text in PRESETS or WORD_OF_CRON.sub(lambda match: match[0][:3].upper(), text) == changed
+    is_same = text in PRESETS or WORD_OF_CRON.sub(lambda match: match[0][:3].upper(), written) == changed
     yield case.replace(f'change to "{changed}"', quoted(changed), here.value.span, is_safe=is_same)
+
+
+def _to_sunday(match: re.Match[str]) -> str:
+    """The days up to Sunday, which is the first day of a week: all of them, or those up to Saturday and Sunday."""
+    first, saturday, sunday = match[1], *(("6", "0") if match[2] == "7" else ("SAT", "SUN"))
+    if first in ("0", "1", "SUN", "MON"):
+        return "*"
+    return f"{first},{sunday}" if first == saturday else f"{first}-{saturday},{sunday}"
 
 
 def _of_day(match: re.Match[str]) -> str:

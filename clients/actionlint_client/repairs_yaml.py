@@ -188,8 +188,8 @@ def closed_above(case: Case) -> Iterable[Repair]:
         open_quote = next((sign for sign in "'\"" if text[:1] in CLOSERS and text.count(sign) % 2), None)
         other_end = OTHER_QUOTE_AT_END.search(text) if open_quote else None
         if span and other_end:
-            sign, end = other_end[1], Span.on_line(line, span.start.column + other_end.end() - 1, span.start.column + other_end.end())
-            yield case.replace(f"close the quotes with {sign}", sign, end)
+            column = span.start.column + other_end.end()
+            yield case.replace(f"close the quotes with {other_end[1]}", other_end[1], Span.on_line(line, column - 1, column))
             return
         if span and open_quote:
             ends = [*(match.start() for match in islice(re.finditer(",", text), MAX_ITEMS)), len(text.rstrip("]} "))]
@@ -336,8 +336,10 @@ def with_spaced_items(case: Case) -> Iterable[Repair]:
     if match is None:
         return
 
+    dash = match[1] + "-"
+
     def of_list(numbers: Iterable[int]) -> list[int]:
-        return list(itertools.takewhile(lambda one: lines[one].startswith(match[1] + "-"), numbers))
+        return list(itertools.takewhile(lambda one: lines[one].startswith(dash), numbers))
     around = [*of_list(range(number, max(number - MAX_LINES_OF_LIST, -1), -1)),
               *of_list(range(number + 1, min(number + MAX_LINES_OF_LIST, len(lines))))]
     edits = [Edit(Span.at(Point(one, match.end())), " ") for one in around if ITEM_WITHOUT_SPACE.match(lines[one])]
@@ -437,8 +439,8 @@ def quoted_key(case: Case) -> Iterable[Repair]:
 REPAIRS: dict[str, tuple[Callable[[Case], Iterable[Repair]], ...]] = {
     "Y2": (without_character,),
     "Y3": (spaces_for_tabs,),
-    "Y4": (plain_spaces, comment, list_in_line, without_spaces_after_dash, with_spaced_items, with_dash, with_colon, with_space, script_below, moved_line,
-           with_quotes),
+    "Y4": (plain_spaces, comment, list_in_line, without_spaces_after_dash, with_spaced_items, with_dash, with_colon, with_space,
+           script_below, moved_line, with_quotes),
     "Y5": (closed_quote,),
     "Y6": (closed_bracket, with_quotes),
     "Y7": (with_quotes, quoted_key),
@@ -448,9 +450,8 @@ REPAIRS: dict[str, tuple[Callable[[Case], Iterable[Repair]], ...]] = {
     "Y11": (without_line,),
     "Y12": (single_quotes,),
     "Y13": (plain_spaces, comment, as_condition, as_expression, as_schedule, list_in_line, closed_above, inner_quotes, pair_below,
-            with_spaced_items,
-            script_without_sign, script_in_lines, script_below, with_quotes, as_block, with_space, with_colon, text_in_script,
-            brackets_closed_above, moved_line, without_character),
+            with_spaced_items, script_without_sign, script_in_lines, script_below, with_quotes, as_block, with_space, with_colon,
+            text_in_script, brackets_closed_above, moved_line, without_character),
     "Y16": (text_on_next_line,),
     "Y17": (as_expression, with_colon, with_quotes, quoted_key),
     "Y18": (near_alias, with_quotes),
