@@ -11,8 +11,9 @@ from .expressions import STRING
 from .missing_signs import closed_at_ends, with_apostrophes, with_closed_json
 from .operators import Choice, Token, choice, choice_in, grouped, operators, tokens
 from .other_syntax import (FUNCTIONS, choice_in_words, template_as_format, with_alternatives, with_comparison, with_default, with_dots,
-                           with_equal_quotes, with_matching_brackets, with_round_brackets, with_search, with_single_commas, with_stars,
-                           with_state, with_text_in_brackets, without_if, without_spaces_in_operators, without_stray_brackets)
+                           with_equal_quotes, with_filter, with_matching_brackets, with_properties, with_round_brackets, with_search,
+                           with_single_commas, with_stars, with_state, with_text_in_brackets, without_if, without_spaces_in_operators,
+                           without_stray_brackets)
 from .repair import NEEDS_QUOTES, Case, Repair, as_scalar, is_within_flow
 from .syntax import is_condition
 from .text import Point, Span
@@ -402,7 +403,7 @@ OTHER_SYNTAX = (
     rewritten("delete the space in the operator", outside(without_spaces_in_operators), True), DOTS,
     rewritten("write a call with round brackets", with_round_brackets), rewritten("write one comma", outside(with_single_commas)),
     rewritten("write the other bracket", with_matching_brackets),
-    rewritten("call a function", with_search), rewritten("compare its state", outside(with_state)),
+    rewritten("call a function", with_search), rewritten("write a call", with_filter), rewritten("compare its state", outside(with_state)),
     rewritten("write the operator", outside(with_comparison)), rewritten('write ".*"', outside(with_stars), True),
     rewritten('write "||"', with_default),
     rewritten("write single quotes", with_equal_quotes),
@@ -424,7 +425,8 @@ REPAIRS: dict[str, tuple[Callable[[Case], Iterable[Repair]], ...]] = {
            rewritten("delete the bracket", without_stray_brackets, deletes=True), without_character),
     "X4": (rewritten("close the brackets", with_closed_json), closed_brackets, without_rest),
     "X7": (DOTS,),
-    "X9": (rewritten("delete what isn't the condition", without_if, deletes=True),),
+    "X9": (rewritten('write "." after the context', with_properties),
+           rewritten("delete what isn't the condition", without_if, deletes=True)),
     "X20": (closed_braces,),
     "G18": (inner_braces, one_pair),
 }

@@ -6,7 +6,7 @@ import re
 from typing import Callable, Iterable
 
 from .names import likely, misspelled, names, near
-from .other_keys import other_keys
+from .other_keys import MEANINGLESS, other_keys
 from .paths import is_workflow
 from .repairs_levels import moves
 from .repairs_steps import STEP_STARTS, new_step
@@ -255,10 +255,15 @@ def step_of_keys(case: Case) -> Iterable[Repair]:
 
 
 def deleted(case: Case) -> Iterable[Repair]:
-    """The mapping without the key."""
+    """The mapping without the key. What a key means that is none of GitHub's can't be known, so it stays."""
     here = case.key
-    if here and here.key and len(here.parent.entries) > 1:
+    if here and here.key and len(here.parent.entries) > 1 and _has_meaning(case):
         yield case.of(f'delete "{here.key.value}"{entries_of(here.value)}', without_entry(case, here.parent, here.key), deletes=True)
+
+
+def _has_meaning(case: Case) -> bool:
+    """Whether it is known what a key means that its section doesn't have."""
+    return case.code != "K1" or case.arguments[0] in (*names()["keys"], *MEANINGLESS)
 
 
 def emptied_event(case: Case) -> Iterable[Repair]:
@@ -266,9 +271,17 @@ def emptied_event(case: Case) -> Iterable[Repair]:
     here = case.key
     if here and here.key and here.path[:1] == ("on",) and len(here.path) == 3 and len(here.parent.entries) == 1 and not here.parent.is_flow:
         last = last_line(here.value, case.lines)
-        if last + 1 < len(case.lines):
+        if last + 1 < len(case.lines) and _has_meaning(case):
             span = Span(Point(here.key.span.start.line, 0), Point(last + 1, 0))
             yield case.replace(f'delete "{here.key.value}"{entries_of(here.value)}', "", span, deletes=True)
+
+
+def required_or_not(case: Case) -> Iterable[Repair]:
+    """`optional` as `required` with the opposite value."""
+    here = case.key
+    flag = {"true": "false", "false": "true"}.get(here.value.value) if here and case.arguments[0].lower() == "optional" else None
+    if here and here.key and flag and "required" in case.known_keys(here.path[:-1], here.parent.names()):
+        yield case.replace(f'change to "required: {flag}"', f"required: {flag}", Span(here.key.span.start, here.value.span.end))
 
 
 def another_job(case: Case) -> Iterable[Repair]:
@@ -475,8 +488,8 @@ def excluded_patterns(case: Case) -> Iterable[Repair]:
 
 
 REPAIRS: dict[str, tuple[Callable[[Case], Iterable[Repair]], ...]] = {
-    "K1": (near_key, beside_short_form, below_sibling, below_empty, below_inputs, one_level_deeper, step_of_keys, part_of_value, deleted,
-           emptied_event),
+    "K1": (near_key, required_or_not, beside_short_form, below_sibling, below_empty, below_inputs, one_level_deeper, step_of_keys,
+           part_of_value, deleted, emptied_event),
     "K2": (missing_key,),
     "K3": (new_step, another_job, repeated),
     "K6": (unknown_beside, below_inputs, new_step, excluded_patterns, deleted),

@@ -35,6 +35,7 @@ MINUTES = {"": 1.0, "m": 1.0, "min": 1.0, "mins": 1.0, "minute": 1.0, "minutes":
            "seconds": 1 / 60}
 CALL = re.compile(r"[\w.-]+/[\w./-]+@[\w./-]+|\./[\w./-]+|docker://\S+")
 COLON_LACKS_SPACE = re.compile(r"([A-Za-z_][\w-]*):(?=[^\s/:])")
+LINE_OF_PAIR = re.compile(r"(\s*)([A-Za-z_]\w*)=(\S.*)")
 LINE_OF_LIST = re.compile(r" *-?[\w./@*][\w./@*-]*")
 KEY_LACKS_COLON = re.compile(r"([A-Za-z_][\w-]*)(?= +[^\s=])")
 SEPARATORS = re.compile(r"[-. ]")
@@ -59,7 +60,13 @@ def other_kind(case: Case) -> Iterable[Repair]:
         yield from with_key
         if with_key:
             return
-        yield from _list_of_lines(case, value) if "\n" in text else [case.replace("make it a list", f"[{text}]", value.span)]
+        pairs = [LINE_OF_PAIR.fullmatch(line) for line in text.split("\n")]
+        if all(pairs) and not value.style and "\n" in text:
+            lines = (pair[1] + pair[2] + ": " + pair[3] for pair in pairs if pair)
+            yield case.replace("make it a mapping", "\n".join(lines), value.span)
+            return
+        words = text[1:-1] if text.startswith("(") and text.endswith(")") else text
+        yield from _list_of_lines(case, value) if "\n" in text else [case.replace("make it a list", f"[{words}]", value.span)]
         if here.path[-2:-1] == ("steps",):
             yield from _as_step(case, value)
         pair = re.fullmatch(r"([\w-]+)[=:]\s*(.+)", value.value)
@@ -182,6 +189,8 @@ def _of_its_section(case: Case, here: Found) -> Iterable[Repair]:
     elif name == "inputs" and value.kind == "sequence" and value.is_flow:
         entries = ", ".join("%s: {type: string}" % item.value for item in value.items)
         yield case.replace("make it a mapping", "{" + entries + "}", value.span)
+    elif name == "type" and value.items and value.is_flow and "options" in case.known_keys(here.path[:-1], here.parent.names()):
+        yield case.replace('make it a "choice" with these options', "choice\n" + " " * column + f"options: {text}", value.span)
     elif here.path[-2:-1] == ("inputs",) and is_text:
         yield case.replace("make it a mapping", "{type: string}", value.span)
     elif here.path[:-1] == ("jobs",) and here.path[-1] in table()["shapes"]["Job"]["keys"]:

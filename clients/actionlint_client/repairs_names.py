@@ -7,6 +7,7 @@ from typing import Callable, Iterable
 from .expressions import chain_before
 from .names import likely, misspelled
 from .operators import grouped, parts
+from .other_keys import other_keys
 from .paths import is_workflow
 from .repair import Case, Edit, Found, Repair, first_entry, next_entry, quoted, without_entry, without_key
 from .other_syntax import with_empty_text
@@ -15,7 +16,7 @@ from .repairs_needs import declared_output, is_in_other_words, is_written_elsewh
 from .repairs_steps import (OF_CONTEXTS, named_step, names_before, only_job, only_output, only_step, output_of_any_job, properties_before,
                             same_name_elsewhere, scope_of, shorter_chain, unused_name)
 from .repairs_values import OF_FILES, joined_property
-from .syntax import table
+from .syntax import shape_at, table
 from .text import Point, Span
 from .tree import Path
 
@@ -237,6 +238,21 @@ def _declaring(case: Case, way: Path, name: str, title: str, *edits: Edit) -> It
         yield case.of(title, next_entry(case, around, key, text), *edits)
 
 
+def in_known_section(case: Case) -> Iterable[Repair]:
+    """A key around the value that its section doesn't have, by the word that the section has for it."""
+    whole = case.scalar.path if case.scalar else ()
+    for depth, name in enumerate(whole):
+        path = whole[:depth]
+        node = case.at(*path)
+        key = node.key(name) if node and isinstance(name, str) else None
+        known = case.known_keys(path, node.names()) if node and key else []
+        meant = next((one for one in other_keys(str(name)) if one in known), None) or misspelled(str(name), known)
+        shape = shape_at(case.file, path, case.levels((*path, "")))
+        if key and meant and shape and name not in shape.get("keys", ()) and not shape["free"]:
+            yield case.replace(f'change "{name}" to "{meant}"', meant, key.span)
+            return
+
+
 def other_context(case: Case) -> Iterable[Repair]:
     """An available context in place of one that isn't, or what it stands for: the value of a variable, a needed job, an input of an
     action."""
@@ -391,7 +407,7 @@ def moved_variable(case: Case) -> Iterable[Repair]:
 
 REPAIRS: dict[str, tuple[Callable[[Case], Iterable[Repair]], ...]] = {
     "X7": (near_name, unknown_word, of_github),
-    "X8": (other_context, output_of_job, moved_variable),
+    "X8": (in_known_section, other_context, output_of_job, moved_variable),
     "X9": (near_name, choice_by_call, rewritten("compare it with an empty text", with_empty_text)),
     "X10": (moved_variable,),
     "X14": (sibling_property,),

@@ -38,7 +38,8 @@ OTHER_VALUES = {"text": "string", "str": "string", "int": "number", "integer": "
                 "read-only": "read", "r": "read", "w": "write", "rw": "write", "admin": "write", "push": "write", "pull": "read",
                 "all": "write-all", "merged": "closed", "merge": "closed", "updated": "synchronize", "pushed": "synchronize",
                 "commented": "created", "approved": "submitted", "node18": "node20", "node22": "node24", "node14": "node20",
-                "node": "node20", "javascript": "node20", "shell": "bash", "bash.exe": "bash", "batch": "cmd", "python3": "python"}
+                **dict.fromkeys(("node", "nodejs", "javascript"), "node20"), "shell": "bash", "bash.exe": "bash", "batch": "cmd",
+                "python3": "python"}
 OTHER_INPUT_TYPES = dict.fromkeys(("enum", "select", "dropdown", "option", "options", "choices", "list"), "choice string")
 OTHER_SCOPES = {**dict.fromkeys(("pr", "prs", "pull", "pulls", "merge-requests", "reviews"), "pull-requests"),
                 **dict.fromkeys(("code", "repo", "repository", "files", "releases"), "contents"),
@@ -253,11 +254,16 @@ def _jobs_without_key(case: Case) -> list[str]:
     return list(dict.fromkeys(item.value for item in _needs(case) if item.value not in jobs))
 
 
+def _steps_of(case: Case) -> list[Node]:
+    """The steps of the fault's job, or of the action."""
+    steps = case.at("jobs", case.job, "steps") if case.job else case.at("runs", "steps")
+    return list(steps.items) if steps else []
+
+
 def _ids_without_step(case: Case) -> list[str]:
     """The ids in expressions that no step of the fault's job has."""
     job = case.at("jobs", case.job) if case.job else case.at("runs")
-    steps = job.get("steps") if job else None
-    ids = [step.text("id") for step in steps.items] if steps else []
+    ids = [step.text("id") for step in _steps_of(case)]
     used = [chain.names for chain in case.chains_between(job.start, job.end)] if job else []
     return list(dict.fromkeys(names[1] for names in used if len(names) > 2 and names[0].lower() == "steps" and names[1] not in ids))
 
@@ -284,9 +290,13 @@ def another_id(case: Case) -> Iterable[Repair]:
     here = case.key or case.value
     node = here.key if here and case.key and here.key else here.value if here else None
     used = _ids_without_step(case)
-    written = files.written_outputs(here.parent) if here else []
-    if here and not case.key and len(used) == 1 and (not written or set(written) & set(_outputs_of(case, used[0]))):
-        yield case.replace(f'change to "{used[0]}"', used[0], here.value.span)
+    asked = set(_outputs_of(case, used[0])) if len(used) == 1 and not case.key else set()
+    same = [step for step in _steps_of(case) if node and step.text("id") == node.value]
+    wrong = next((one for one in same if asked & set(files.written_outputs(one))), None)
+    if wrong is None and here and len(used) == 1 and not case.key and not files.written_outputs(here.parent):
+        wrong = here.parent
+    if wrong and (id_ := wrong.get("id")):
+        yield case.replace(f'change to "{used[0]}"', used[0], id_.span)
     elif node:
         taken = set(re.findall(r"-(\d+)(?!\d)", case.text))
         name = f"{node.value}-" + next(str(number) for number in itertools.count(2) if str(number) not in taken)
@@ -304,9 +314,22 @@ def near_job(case: Case) -> Iterable[Repair]:
         if len(words) > 1 and all(word in jobs for word in words):
             text = ", ".join(words)
             yield case.replace("make it a list", text if isinstance(here.path[-1], int) else f"[{text}]", here.value.span, is_safe=True)
+        found = likely(case.arguments[0], jobs)
+        asked = [name for name in _jobs_asked_for(case) if name in jobs]
+        found = [(asked[0], False)] if len(asked) == 1 and not any(is_slip for _, is_slip in found) else found
         yield from (case.replace(f'change to "{name}"', as_scalar(name, here.value.style, False), here.value.span, is_slip)
-                    for name, is_slip in likely(case.arguments[0], jobs))
+                    for name, is_slip in found)
     yield from without_need(case)
+
+
+def _jobs_asked_for(case: Case) -> list[str]:
+    """The jobs whose results the expressions of the fault's job read and its `needs` lacks."""
+    job = case.at("jobs", case.job) if case.job else None
+    if job is None or case.tree is None or case.job is None:
+        return []
+    chains = [chain.names for chain in case.chains_between(job.start, job.end) if len(chain.names) > 1]
+    used = dict.fromkeys(names[1] for names in chains if names[0].lower() == "needs")
+    return [name for name in used if name not in files.needed(case.tree, case.job)]
 
 
 def without_need(case: Case) -> Iterable[Repair]:

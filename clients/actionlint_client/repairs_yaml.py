@@ -8,7 +8,7 @@ from typing import Callable, Iterable
 
 from .names import likely, names
 from .operators import OPERATORS, choice_in, grouped
-from .repair import COMMENT, Case, Edit, Repair, quoted
+from .repair import COMMENT, Case, Edit, Repair, known_keys, quoted
 from .repairs_blocks import CLOSERS, open_brackets
 from .repairs_expressions import title_of
 from .repairs_levels import indent_of, moved_line
@@ -33,10 +33,11 @@ ANCHOR = re.compile(r"(?<!\S)&([^\s,\[\]{}]+)")
 ALIAS = re.compile(r"\*([^\s,\[\]{}]+)")
 ODD_SPACE = re.compile("[\u00a0\u2000-\u200a\u202f\u3000]")
 ODD_START = re.compile("[ \u00a0\u2000-\u200a\u202f\u3000-]*(?:[\\w-]+:)?[ \u00a0\u2000-\u200a\u202f\u3000]*")
-SIGNS_OF_LINES = re.compile(r"[|>][-+]{2,}")
+SIGNS_OF_LINES = re.compile(r"([|>])[|>:]* ?([-+]?)[-+:]*")
 WIDE_DASH = re.compile(r"^( *)- {2,}(?=[A-Za-z_][\w-]*:)")
 PLAIN_ITEM = re.compile(r" *- [\w./*-]+")
 ITEM = re.compile(r"""(?:[\w-]+: *)?(?:'[^']*'|"[^"]*"|[^'"]*)""")
+KEY_IN_VALUE = re.compile(r"(?<=[^\s,]) +(?=([a-z][\w-]*): )")
 # An entry of a list in brackets that begins with one quote and ends with the other.
 OTHER_QUOTE_AT_END = re.compile(r"""(?<=[\[,{])\s*(['"])(?!\1)[^'"\[\]{},]+(?!\1)['"](?=\s*[,\]}])""")
 # Several entries of a mapping beside each other.
@@ -57,7 +58,8 @@ def with_quotes(case: Case) -> Iterable[Repair]:
         if span and span.start.column <= (case.span.start.column if line == number else span.end.column):
             text = case.slice(span)
             if not _opens_quote(text) and not _is_collection(text):
-                yield case.replace("put it in quotes", quoted(text), span, is_safe=line == number and _takes_texts(case, span))
+                is_whole = line == number and _takes_texts(case, span) and not _key_in_value(case, line)
+                yield case.replace("put it in quotes", quoted(text), span, is_safe=is_whole)
     yield from list(_quoted_expressions(case)) or _quoted_item(case)
 
 
@@ -134,6 +136,25 @@ def pair_below(case: Case) -> Iterable[Repair]:
         start = Point(case.span.start.line, elements[-1].end)
         indent = "\n" + " " * (elements[-1].column + 2)
         yield case.replace("move it to a line of its own", indent + case.slice(span), Span(start, span.end))
+
+
+def key_in_value(case: Case) -> Iterable[Repair]:
+    """A key of the section that follows a value on its line, on a line of its own."""
+    found = _key_in_value(case, case.span.start.line)
+    if found:
+        indent = "\n" + " " * case.outline.lines[case.span.start.line].elements[-1].column
+        spaces = Span.on_line(case.span.start.line, found.start(), found.end())
+        yield case.replace(f'move "{found[1]}" to a line of its own', indent, spaces)
+
+
+def _key_in_value(case: Case, line: int) -> re.Match[str] | None:
+    """The spaces before a key in a value whose section has the key."""
+    span, elements = case.rest_span(line), case.outline.lines[line].elements
+    if span is None or not elements or elements[-1].name is None:
+        return None
+    place = case.outline.place(Point(line, elements[-1].column))
+    known = known_keys(case.file, place.path, (*place.around, place.siblings), {*place.siblings, elements[-1].name})
+    return next((match for match in KEY_IN_VALUE.finditer(case.lines[line], span.start.column) if match[1] in known), None)
 
 
 def as_condition(case: Case) -> Iterable[Repair]:
@@ -416,9 +437,10 @@ def without_line(case: Case) -> Iterable[Repair]:
 def text_on_next_line(case: Case) -> Iterable[Repair]:
     """The text after `|`, on a line of its own; or `|` with one sign after it."""
     line = case.outline.lines[case.span.start.line]
-    if SIGNS_OF_LINES.fullmatch(line.rest):
+    signs = SIGNS_OF_LINES.fullmatch(line.rest)
+    if signs:
         start = Point(case.span.start.line, case.line.rindex(line.rest))
-        text = line.rest[:2]
+        text = signs[1] + signs[2]
         yield case.replace(f'write "{text}"', text, Span(start, Point(start.line, start.column + len(line.rest))))
         return
     column = line.elements[-1].column if line.elements else 0
@@ -450,8 +472,8 @@ REPAIRS: dict[str, tuple[Callable[[Case], Iterable[Repair]], ...]] = {
     "Y11": (without_line,),
     "Y12": (single_quotes,),
     "Y13": (plain_spaces, comment, as_condition, as_expression, as_schedule, list_in_line, closed_above, inner_quotes, pair_below,
-            with_spaced_items, script_without_sign, script_in_lines, script_below, with_quotes, as_block, with_space, with_colon,
-            text_in_script, brackets_closed_above, moved_line, without_character),
+            key_in_value, with_spaced_items, script_without_sign, script_in_lines, script_below, with_quotes, as_block, with_space,
+            with_colon, text_in_script, brackets_closed_above, moved_line, without_character),
     "Y16": (text_on_next_line,),
     "Y17": (as_expression, with_colon, with_quotes, quoted_key),
     "Y18": (near_alias, with_quotes),
