@@ -112,7 +112,7 @@ def coalesced(text: str) -> str:
 
 def doubled(text: str) -> str:
     changed = outside_texts(text, lambda part: SINGLE_EQUALS.sub("==", part))
-    changed = outside_texts(changed, lambda part: re.sub(r"(?<!&)&(?!&)", "&&", re.sub(r"(?<!\|)\|(?!\|)", "||", part)))
+    changed = outside_texts(changed, lambda part: re.sub(r"&+", "&&", re.sub(r"\|+", "||", part)))
     return _plain_flags(changed)
 
 

@@ -6,8 +6,9 @@ import re
 # For each key the words that are written for it. A word that stands for several keys means the first one that its section has.
 WORDS = {
     "run": "command commands script cmd exec bash pwsh powershell", "uses": "action task plugin use-action orb",
-    "with": "args arguments params parameters inputs input settings", "env": "environment environment-variables variables vars environ",
-    "name": "title display-name description label", "description": "desc help doc docs summary", "id": "step-id identifier",
+    "with": "args arguments params parameters inputs input settings config options",
+    "env": "environment environment-variables variables vars environ",
+    "name": "title display-name description label", "description": "desc help doc docs summary label title", "id": "step-id identifier",
     "if": "condition when only-if run-if only rules",
     "working-directory": "dir cwd workdir directory",
     "continue-on-error": "allow-failure allow-failures allow-error allow-errors continue-on-failure ignore-error ignore-errors "
@@ -19,11 +20,13 @@ WORDS = {
     "steps": "tasks", "permissions": "scopes", "concurrency": "mutex lock resource-group concurrency-group",
     "inputs": "parameters params arguments args variables",
     "branches": "branch", "branches-ignore": "ignore-branches exclude-branches", "tags": "tag", "paths": "path files file directories",
-    "paths-ignore": "ignore-paths exclude-paths ignore-files exclude-files", "types": "type actions activities", "type": "kind",
+    "paths-ignore": "ignore-paths exclude-paths ignore-files exclude-files",
+    "types": "type actions activities event-type event-types events", "type": "kind",
     "required": "mandatory obligatory", "default": "default-value value", "labels": "tags",
     "options": "choices values enum allowed-values", "value": "from", "group": "name key",
     "cancel-in-progress": "cancel cancel-running cancel-previous",
     "image": "name dockerfile img", "ports": "expose", "volumes": "mounts", "credentials": "auth login", "url": "link href",
+    "timezone": "tz time-zone zone",
     "max-parallel": "parallel parallelism max-concurrency", "using": "runtime type", "main": "entrypoint entry script file",
     "pre": "before setup", "post": "after cleanup teardown", "args": "command arguments cmd"}
 # What other services need and GitHub doesn't.

@@ -53,6 +53,9 @@ def near_declared(what: str) -> Callable[[Case], Iterable[Repair]]:
             found = likely(case.arguments[0], free)
             found = found or [(name, False) for name in _only_lacking(node, declared, "with" if what == "inputs" else "secrets")]
             yield from (case.replace(f'change to "{name}"', name, is_safe=is_slip) for name, is_slip in found)
+            if free and not found:
+                # One of the free ones is meant.
+                return
             tree = case.project.good_tree(callee)
             call = tree.at(("on", "workflow_call") if of_job else ()) if tree else None
             if call and is_in_other_words(call, what, table()["shapes"]["Call" if of_job else "Action"]["keys"]):

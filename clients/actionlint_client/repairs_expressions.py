@@ -278,6 +278,8 @@ def _closed_above(case: Case) -> Iterable[Repair]:
     for line in range(here.value.span.start.line + (here.value.style in ("|", ">")), last):
         text = case.lines[line]
         if text.count("'") % 2 and here.value.style != "'":
+            if with_equal_quotes(text) != text:
+                yield case.replace("write single quotes", with_equal_quotes(text), Span.on_line(line, 0, len(text)))
             yield from (case.replace("close the text", closed, Span.on_line(line, 0, len(text))) for closed in closed_at_ends(text))
             return
 
@@ -417,8 +419,8 @@ REPAIRS: dict[str, tuple[Callable[[Case], Iterable[Repair]], ...]] = {
            rewritten('write "."', with_plain_dots, True), rewritten('write "null"', with_null),
            rewritten("write a call of format", with_format),
            rewritten("write the operators of expressions", with_all_operators, True),
-           rewritten('write "${{" and "}}"', with_double_braces, True), from_context, *OTHER_SYNTAX, second_brace, word_as_text,
-           without_character),
+           rewritten('write "${{" and "}}"', with_double_braces, True), from_context, *OTHER_SYNTAX, _closed_above, second_brace,
+           word_as_text, without_character),
     "X2": (rewritten("write the apostrophe twice", with_apostrophes), rewritten("write single quotes", with_equal_quotes), closed_text),
     "X3": (EQUALS, OPERATORS, SPREAD, DOUBLED, as_choice, *OTHER_SYNTAX, rewritten("call a function", with_calls), inner_braces,
            closed_brackets, with_comma, with_and, with_or, version_as_text, without_rest,

@@ -66,7 +66,7 @@ def other_kind(case: Case) -> Iterable[Repair]:
             yield case.replace("make it a mapping", "\n".join(lines), value.span)
             return
         words = text[1:-1] if text.startswith("(") and text.endswith(")") else text
-        yield from _list_of_lines(case, value) if "\n" in text else [case.replace("make it a list", f"[{words}]", value.span)]
+        yield from list_of_lines(case, value) if "\n" in text else [case.replace("make it a list", f"[{words}]", value.span)]
         if here.path[-2:-1] == ("steps",):
             yield from _as_step(case, value)
         pair = re.fullmatch(r"([\w-]+)[=:]\s*(.+)", value.value)
@@ -96,7 +96,7 @@ def _as_step(case: Case, value: Node) -> Iterable[Repair]:
     yield case.replace(f'make it a step with "{name}"', f"{name}: {case.slice(value.span)}", value.span)
 
 
-def _list_of_lines(case: Case, value: Node) -> Iterable[Repair]:
+def list_of_lines(case: Case, value: Node) -> Iterable[Repair]:
     """Lines of words as a list: with a dash before each, or with a space after each dash."""
     lines = range(value.span.start.line, value.span.end.line + 1)
     has_dashes = [case.lines[line].lstrip().startswith("-") for line in lines]
@@ -412,7 +412,7 @@ def other_type(case: Case) -> Iterable[Repair]:
             yield case.replace('add "push"', ": push", span)
     if re.fullmatch(r"\$?\{.*\}?\}", text) and here.value.kind == "scalar":
         yield case.replace("write it as an expression", "${{ " + text.strip("${} ") + " }}", here.value.span, is_safe=True)
-    elif re.fullmatch(r"!?[a-z]\w*(?:\.[\w*-]+)+(?: *[=!]= *'[^']*')?", text) and "}" not in text:
+    elif re.fullmatch(r"!?[a-z]\w*(?:\.[\w*-]+)+(?: *(?:[=!]=|[<>]=?) *(?:'[^']*'|[\w.-]+))?", text) and "}" not in text:
         value = "${{ " + text + " }}"
         yield case.replace("write it as an expression", quoted(value) if is_within_flow(case, here.path) else value, here.value.span)
 

@@ -30,7 +30,8 @@ OTHER_PROPERTIES = {"branch": "ref_name", "branch_name": "ref_name", "tag": "ref
                     "pr_title": "event.pull_request.title", "issue_number": "event.issue.number",
                     "head_sha": "event.pull_request.head.sha", "base_sha": "event.pull_request.base.sha",
                     "commit_message": "event.head_commit.message", "default_branch": "event.repository.default_branch",
-                    "repo_name": "event.repository.name", "repository_name": "event.repository.name"}
+                    "repo_name": "event.repository.name", "workflow_name": "workflow", "job_name": "job", "job_id": "job",
+                    "repository_name": "event.repository.name"}
 # What events have, which is often written without `event`.
 OF_EVENTS = {"pull_request", "issue", "release", "inputs", "comment", "review", "discussion", "head_commit", "commits", "sender", "label",
              "workflow_run", "deployment", "client_payload", "before", "after", "forced", "number", "check_run", "check_suite"}
@@ -71,6 +72,9 @@ def of_github(case: Case) -> Iterable[Repair]:
     """A property of `github` that is written without its context, or as the variable of its name."""
     name = case.arguments[0].lower().removeprefix("github_")
     name = OTHER_PROPERTIES.get(name, name)
+    of_runner = case.arguments[0].lower().removeprefix("runner_")
+    if case.arguments[0].startswith("RUNNER_") and of_runner in table()["contexts"]["runner"]["properties"]:
+        yield case.replace(f"change to runner.{of_runner}", f"runner.{of_runner}")
     is_property = case.line[:case.span.start.column].endswith("->")
     if name in table()["contexts"]["github"]["properties"] and not is_property:
         yield case.replace(f"change to github.{name}", f"github.{name}")
@@ -99,6 +103,15 @@ def other_property(case: Case) -> Iterable[Repair]:
         meant = f"event.{wrong}"
     if meant and [one.lower() for one in before] == ["github"]:
         yield case.replace(f'change to "{meant}"', meant)
+
+
+def include_of_matrix(case: Case) -> Iterable[Repair]:
+    """`include` for a row of the matrix with a similar name whose entries have the property."""
+    chain, matrix = case.chain[0], case.at("jobs", case.job, "strategy", "matrix") if case.job else None
+    if matrix and len(chain) == 2 and chain[0].lower() == "matrix" and matrix.get("include") is None:
+        for key, value in matrix.entries:
+            if misspelled(key.value, ["include"]) and any(item.get(chain[1]) for item in value.items):
+                yield case.replace(f'change "{key.value}" to "include"', "include", key.span)
 
 
 def declared_row(case: Case) -> Iterable[Repair]:
@@ -411,6 +424,6 @@ REPAIRS: dict[str, tuple[Callable[[Case], Iterable[Repair]], ...]] = {
     "X9": (near_name, choice_by_call, rewritten("compare it with an empty text", with_empty_text)),
     "X10": (moved_variable,),
     "X14": (sibling_property,),
-    "X13": (other_property, same_name_elsewhere, shorter_chain, near_name, needed_job, named_step, output_of_job, only_step, only_job,
-            unused_name, declared_input, declared_output, only_output, declared_row),
+    "X13": (include_of_matrix, other_property, same_name_elsewhere, shorter_chain, near_name, needed_job, named_step, output_of_job,
+            only_step, only_job, unused_name, declared_input, declared_output, only_output, declared_row),
 }

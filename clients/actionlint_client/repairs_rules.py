@@ -11,8 +11,8 @@ from .other_keys import OTHER_TYPES
 from .repair import Case, Edit, Found, Repair, as_scalar, is_within_flow, next_entry, quoted, without_key
 from .repairs_expressions import BRACES
 from .repairs_keys import deleted, fits, in_its_quotes
-from .repairs_kinds import as_list, as_mapping
-from .repairs_levels import moves
+from .repairs_kinds import as_list, as_mapping, list_of_lines
+from .repairs_levels import indent_of, moves
 from .stricter import takes_access
 from .syntax import table
 from .text import Point, Span
@@ -38,13 +38,14 @@ OTHER_VALUES = {"text": "string", "str": "string", "int": "number", "integer": "
                 "read-only": "read", "r": "read", "w": "write", "rw": "write", "admin": "write", "push": "write", "pull": "read",
                 "all": "write-all", "merged": "closed", "merge": "closed", "updated": "synchronize", "pushed": "synchronize",
                 "commented": "created", "approved": "submitted", "node18": "node20", "node22": "node24", "node14": "node20",
-                **dict.fromkeys(("node", "nodejs", "javascript"), "node20"), "shell": "bash", "bash.exe": "bash", "batch": "cmd",
-                "python3": "python"}
+                **dict.fromkeys(("node", "nodejs", "javascript"), "node20"), "ps1": "pwsh", "shell": "bash", "bash.exe": "bash",
+                "batch": "cmd", "python3": "python"}
 OTHER_INPUT_TYPES = dict.fromkeys(("enum", "select", "dropdown", "option", "options", "choices", "list"), "choice string")
 OTHER_SCOPES = {**dict.fromkeys(("pr", "prs", "pull", "pulls", "merge-requests", "reviews"), "pull-requests"),
                 **dict.fromkeys(("code", "repo", "repository", "files", "releases"), "contents"),
                 **dict.fromkeys(("oidc", "token", "id", "jwt"), "id-token"), "security": "security-events", "workflows": "actions"}
-OTHER_LEVELS = {**dict.fromkeys(("true", "yes", "allow", "grant"), "write"), **dict.fromkeys(("false", "no", "deny", "off"), "none")}
+OTHER_LEVELS = {**dict.fromkeys(("true", "yes", "allow", "grant", "readwrite", "read-write", "full"), "write"),
+                **dict.fromkeys(("false", "no", "deny", "off"), "none")}
 OTHER_WORDS = {"G2": OTHER_TYPES, "G13": OTHER_SCOPES, "G14": OTHER_LEVELS, "G19": OTHER_INPUT_TYPES}
 # Programs that run a script, given as a file.
 INTERPRETERS = ("zsh", "fish", "dash", "ksh", "nu", "elvish", "node", "deno", "bun", "perl", "ruby", "Rscript", "php", "lua", "tclsh")
@@ -146,10 +147,9 @@ def pattern(case: Case) -> Iterable[Repair]:
     if here is None:
         return
     text = here.value.value
-    dashes = [line for line in range(here.value.span.start.line, here.value.span.end.line + 1) if re.match(r" *-\S", case.lines[line])]
-    if text.startswith("-") and not here.value.style and dashes and dashes[0] == here.value.span.start.line:
-        yield case.of("add a space after each dash", *(Edit(Span.at(Point(line, case.lines[line].index("-") + 1)), " ") for line in dashes),
-                      is_safe=True)
+    entries = list(_entries_in_lines(case, here))
+    yield from entries
+    if entries:
         return
     words = [word.strip().strip("'\"") for word in text.split(",") if word.strip()]
     if len(words) > 1 and not is_within_flow(case, here.path) and not isinstance(here.path[-1], int):
@@ -168,13 +168,30 @@ def pattern(case: Case) -> Iterable[Repair]:
                 break
 
 
+def _entries_in_lines(case: Case, here: Found) -> Iterable[Repair]:
+    """The lines of a text as the entries of a list: with a space after each dash, at the column of the list, or with a dash each."""
+    value, lines = here.value, range(here.value.span.start.line, here.value.span.end.line + 1)
+    dashes = [line for line in lines if re.match(r" *-\S", case.lines[line])]
+    if value.value.startswith("-") and not value.style and dashes and dashes[0] == lines[0]:
+        yield case.of("add a space after each dash", *(Edit(Span.at(Point(line, case.lines[line].index("-") + 1)), " ") for line in dashes),
+                      is_safe=True)
+    elif not value.style and len(lines) > 1 and isinstance(here.path[-1], int):
+        column = indent_of(case.lines[lines[0]])
+        if all(re.match(r" *- ", case.lines[line]) and indent_of(case.lines[line]) > column for line in lines[1:]):
+            edits = (Edit(Span.on_line(line, column, indent_of(case.lines[line])), "") for line in lines[1:])
+            yield case.of("move the dashes to the column of the list", *edits)
+    elif not value.style and len(lines) > 1:
+        yield from list_of_lines(case, value)
+
+
 def schedule(case: Case) -> Iterable[Repair]:
     """A schedule with five fields, each value within its bounds."""
     here = case.value
     if here is None or len(here.value.value) > MAX_SCHEDULE_CHARACTERS:
         return
     written = here.value.value.strip()
-    text = TIME_OF_DAY.sub(lambda match: f"{int(match[2])} {int(match[1])}", written)
+    without_commas = re.sub(r", +", " ", written) if written.count(", ") == 4 else written
+    text = TIME_OF_DAY.sub(lambda match: f"{int(match[2])} {int(match[1])}", without_commas)
     fields = [HOUR_OF_HALF.sub(_of_day, "*" * field.startswith("/") + field) for field in PRESETS.get(text, text).replace("?", "*").split()]
     if len(fields) == 6:
         without = [("delete the seconds", fields[1:]), ("delete the year", fields[:5])]
@@ -306,7 +323,9 @@ def another_id(case: Case) -> Iterable[Repair]:
 def near_job(case: Case) -> Iterable[Repair]:
     """A similar job of the file in place of one that doesn't exist, or removes it. Nothing if it is a word of a job's key that is no id."""
     here = case.value
-    if here and case.tree:
+    entries = list(_entries_in_lines(case, here)) if here else []
+    yield from entries
+    if here and case.tree and not entries:
         jobs = [name for name in case.tree.names("jobs") if name != case.job]
         if any(case.arguments[0] in name.split() for name in jobs):
             return

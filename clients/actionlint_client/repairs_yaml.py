@@ -20,7 +20,7 @@ from .text import Point, Span
 FLOW_ITEM = re.compile(r"[^,\[\]{}]*")
 COLON_WITHOUT_SPACE = re.compile(r"^ *(?:- +)?[A-Za-z_][\w-]*:(?=[^\s/:])")
 DASH_WITHOUT_SPACE = re.compile(r"^( *)-(?=[A-Za-z_][\w-]*:(?: |$))")
-SEMICOLON = re.compile(r"^ *(?:- +)?([A-Za-z_][\w-]*) *;\s*$")
+SEMICOLON = re.compile(r"^ *(?:- +)?([A-Za-z_][\w-]*) *;(?=\s|$)")
 FIRST_WORD = re.compile(r"^ *(?:- +)?([A-Za-z_][\w-]*)(?= (?! *=)|$)")
 EQUALS = re.compile(r"^ *(?:- +)?([A-Za-z_][\w-]*) *= *(?=[^=\s])")
 KEY_IN_BRACKETS = re.compile(r"\s*[\w-]+: +")
@@ -130,6 +130,9 @@ def pair_below(case: Case) -> Iterable[Repair]:
     """A key with its value that follow another key, on a line of their own; several of them in braces."""
     span = case.rest_span(case.span.start.line)
     elements = case.outline.lines[case.span.start.line].elements
+    item = re.fullmatch(rf"( *- )({PAIRS.pattern})\s*", case.line)
+    if item:
+        yield case.replace("make it a mapping", "{" + item[2] + "}", Span.on_line(case.span.start.line, item.start(2), item.end(2)))
     if span and elements and elements[-1].name is not None and PAIRS.fullmatch(case.slice(span)):
         yield case.replace("make it a mapping", "{" + case.slice(span) + "}", span)
     elif span and elements and elements[-1].name is not None and re.match(r"[\w-]+:(?: |$)", case.slice(span)):
@@ -204,6 +207,7 @@ def closed_above(case: Case) -> Iterable[Repair]:
         text = case.slice(span) if span else ""
         if span and _opens_quote(text):
             yield from _other_quote_at_end(case, text, span)
+            yield from _one_quote_at_end(case, text, span)
             yield case.replace("close the quotes", text[:1], Span.at(span.end))
             return
         open_quote = next((sign for sign in "'\"" if text[:1] in CLOSERS and text.count(sign) % 2), None)
@@ -227,6 +231,13 @@ def _other_quote_at_end(case: Case, text: str, span: Span) -> Iterable[Repair]:
         yield case.replace(f"close the quotes with {text[:1]}", text[:1], end)
 
 
+def _one_quote_at_end(case: Case, text: str, span: Span) -> Iterable[Repair]:
+    """A text with two quotes at its end in place of one."""
+    quote = text[:1]
+    if quote in ("'", '"') and text.endswith(quote * 2) and text.count(quote) == 3 and len(text) > 3:
+        yield case.replace("write one quote at the end", quote, Span.on_line(span.end.line, span.end.column - 2, span.end.column))
+
+
 def _has_whole_items(text: str) -> bool:
     """Whether the quotes of a list or mapping in brackets are around whole values."""
     return all(ITEM.fullmatch(item.strip(" []{}")) for item in text.split(","))
@@ -238,6 +249,7 @@ def closed_quote(case: Case) -> Iterable[Repair]:
     span = case.rest_span(case.span.start.line)
     if span and span.start == case.span.start:
         yield from _other_quote_at_end(case, case.slice(span), span)
+        yield from _one_quote_at_end(case, case.slice(span), span)
     quote = line[case.span.start.column:case.span.start.column + 1]
     signs = (at for at in (line.find(sign) for sign in (" #", "]", "}", ",")) if at > case.span.start.column)
     ends = dict.fromkeys([len(line.rstrip()), *(len(line[:at].rstrip()) for at in signs)])
@@ -265,6 +277,8 @@ def brackets_closed_above(case: Case) -> Iterable[Repair]:
     for line in range(number, max(number - MAX_LINES_OF_LIST, -1), -1):
         span = case.rest_span(line)
         open_signs = open_brackets(case.slice(span)) if span else []
+        if span and open_signs == ["["] and case.slice(span).startswith("[[") and case.slice(span).endswith("]"):
+            yield case.replace("write one bracket", "[", Span.on_line(line, span.start.column, span.start.column + 2))
         if span and open_signs:
             last = next((one for one in range(number - 1, line, -1) if case.lines[one].strip()), line)
             lines = case.outline.lines[line + 1:last + 1]
