@@ -249,7 +249,10 @@ def closed_quote(case: Case) -> Iterable[Repair]:
     span = case.rest_span(case.span.start.line)
     if span and span.start == case.span.start:
         yield from _other_quote_at_end(case, case.slice(span), span)
-        yield from _one_quote_at_end(case, case.slice(span), span)
+        of_one = list(_one_quote_at_end(case, case.slice(span), span))
+        yield from of_one
+        if of_one:
+            return
     quote = line[case.span.start.column:case.span.start.column + 1]
     signs = (at for at in (line.find(sign) for sign in (" #", "]", "}", ",")) if at > case.span.start.column)
     ends = dict.fromkeys([len(line.rstrip()), *(len(line[:at].rstrip()) for at in signs)])
