@@ -155,8 +155,7 @@ def key_with_dash(case: Case) -> Iterable[Repair]:
     if len(elements) != 2 or elements[0].name is not None or elements[1].name is None:
         return
     column = elements[0].column
-    above = _keys_of_entry_above(case, number, column - 2)
-    if above and elements[1].name not in above:
+    if _keys_of_entry_above(case, number, column - 2):
         below = takewhile(lambda one: not lines[one].strip() or indent_of(lines[one]) >= elements[1].column,
                           range(number + 1, min(number + MAX_LINES_OF_ENTRY, len(lines))))
         edits = [Edit(Span.on_line(one, column, elements[1].column), "") for one in (number, *below) if lines[one].strip()]
