@@ -15,7 +15,8 @@ OPTIONAL_DOT = re.compile(r"(?<=[\w\])])\?\.(?=[A-Za-z_])")
 OTHER_NULL = re.compile(r"([=!]=\s*)(?:undefined|None|nil)\b")
 FLAG = re.compile(r"(?<=[=!]=)\s*(?:true|false)(?![\w.(\[-])", re.I)
 LONE_WORD = re.compile(r"([=!]=\s*)(?!(?:true|false|null)\b)([A-Za-z][\w/-]*)(?=\s*(?:$|[)&|]))")
-SINGLE_EQUALS = re.compile(r"(?<![=!<>])=(?!=)")
+SINGLE_EQUALS = re.compile(r"(?<![=!<>])=(?![=!])")
+TURNED_OPERATOR = re.compile(r"(?<![=!<>])=!(?!=)")
 WORD_OPERATORS = {"and": "&&", "or": "||", "eq": "==", "ne": "!="}
 WORDS = re.compile(r"(?<![\w.-])(" + "|".join(WORD_OPERATORS) + r")(?![\w.-])", re.I)
 NOT = re.compile(r"(?<![\w.-])not(?![\w.-])\s*", re.I)
@@ -63,6 +64,10 @@ def with_plain_spaces(text: str) -> str:
 
 def with_equals(text: str) -> str:
     return outside_texts(text, lambda part: re.sub(r"===+", "==", part).replace("!==", "!=").replace("<>", "!="))
+
+
+def with_turned_operators(text: str) -> str:
+    return outside_texts(text, lambda part: TURNED_OPERATOR.sub("!=", part))
 
 
 def with_operators(text: str, with_lone_texts: bool = False) -> str:

@@ -80,14 +80,15 @@ def _bare(name: str) -> str:
 
 
 def _is_slip(wrong: str, name: str) -> bool:
-    if _bare(wrong) == _bare(name) or sorted(SEPARATORS.split(wrong.lower())) == sorted(SEPARATORS.split(name.lower())):
+    if _bare(wrong) == _bare(name):
         return True
     if DIGITS.findall(wrong) != DIGITS.findall(name):
         return False
     words, others = SEPARATORS.split(wrong.lower()), SEPARATORS.split(name.lower())
     if len(words) != len(others):
         return 1 in (len(words), len(others)) and " " not in wrong + name and _is_slip_of_word(_bare(wrong), _bare(name))
-    return all(_is_slip_of_word(word, other) for word, other in zip(words, others))
+    orders = ((words, others), (sorted(words), sorted(others)))
+    return any(all(_is_slip_of_word(word, other) for word, other in zip(*order)) for order in orders)
 
 
 def _is_slip_of_word(word: str, other: str) -> bool:

@@ -9,7 +9,7 @@ WORDS = {
     "with": "args arguments params parameters inputs input settings config options",
     "env": "environment environment-variables variables vars environ",
     "name": "title display-name description label", "description": "desc help doc docs summary label title", "id": "step-id identifier",
-    "if": "condition when only-if run-if only rules",
+    "if": "condition when only-if run-if only rules fi",
     "working-directory": "dir cwd workdir directory",
     "continue-on-error": "allow-failure allow-failures allow-error allow-errors continue-on-failure ignore-error ignore-errors "
                          "ignore-failure ignore-failures soft-fail",
@@ -21,12 +21,13 @@ WORDS = {
     "inputs": "parameters params arguments args variables",
     "branches": "branch", "branches-ignore": "ignore-branches exclude-branches", "tags": "tag", "paths": "path files file directories",
     "paths-ignore": "ignore-paths exclude-paths ignore-files exclude-files",
-    "types": "type actions activities event-type event-types events", "type": "kind",
+    "types": "type actions activities event-type event-types events on", "type": "kind",
     "required": "mandatory obligatory", "default": "default-value value", "labels": "tags",
     "options": "choices values enum allowed-values", "value": "from", "group": "name key",
     "cancel-in-progress": "cancel cancel-running cancel-previous",
     "image": "name dockerfile img", "ports": "expose", "volumes": "mounts", "credentials": "auth login", "url": "link href",
     "timezone": "tz time-zone zone",
+    "fail-fast": "stop-on-fail stop-on-failure", "shell": "interpreter",
     "max-parallel": "parallel parallelism max-concurrency", "using": "runtime type", "main": "entrypoint entry script file",
     "pre": "before setup", "post": "after cleanup teardown", "args": "command arguments cmd"}
 # What other services need and GitHub doesn't.

@@ -6,7 +6,7 @@ from typing import Callable, Iterable, NamedTuple
 
 from .expression_texts import (CHAIN, COMPARISONS, coalesced, doubled, doubled_with_quotes, outside, outside_texts, spread,
                                with_all_operators, with_calls, with_double_braces, with_equals, with_format, with_null, with_operators,
-                               with_plain_dots, with_plain_spaces, with_single_quotes, without_curly_quotes)
+                               with_plain_dots, with_plain_spaces, with_single_quotes, with_turned_operators, without_curly_quotes)
 from .expressions import STRING
 from .missing_signs import closed_at_ends, with_apostrophes, with_closed_json
 from .operators import Choice, Token, choice, choice_in, grouped, operators, tokens
@@ -414,7 +414,7 @@ OTHER_SYNTAX = (
 REPAIRS: dict[str, tuple[Callable[[Case], Iterable[Repair]], ...]] = {
     "X1": (rewritten("write a call of format", template_as_format), SINGLE_QUOTES,
            rewritten("leave out the quotes", without_curly_quotes), rewritten("write plain spaces", with_plain_spaces, True),
-           DOUBLED, as_choice, EQUALS, OPERATORS, SPREAD, DOUBLED_WITH_QUOTES,
+           DOUBLED, as_choice, EQUALS, rewritten('write "!="', with_turned_operators), OPERATORS, SPREAD, DOUBLED_WITH_QUOTES,
            rewritten('write "||", which takes the second for an empty text too', coalesced), inner_braces,
            rewritten('write "."', with_plain_dots, True), rewritten('write "null"', with_null),
            rewritten("write a call of format", with_format),

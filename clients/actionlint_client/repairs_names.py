@@ -13,8 +13,8 @@ from .repair import Case, Edit, Found, Repair, first_entry, next_entry, quoted, 
 from .other_syntax import with_empty_text
 from .repairs_expressions import choice_by_call, expression_of, in_yaml, is_alternative, is_in_condition, is_operand, rewritten
 from .repairs_needs import declared_output, is_in_other_words, is_written_elsewhere, needed_job, needs_for_jobs, output_of_job
-from .repairs_steps import (OF_CONTEXTS, named_step, names_before, only_job, only_output, only_step, output_of_any_job, properties_before,
-                            same_name_elsewhere, scope_of, shorter_chain, unused_name)
+from .repairs_steps import (OF_CONTEXTS, PROPERTIES_OF_ALL, named_step, names_before, only_job, only_output, only_step, output_of_any_job,
+                            properties_before, same_name_elsewhere, scope_of, shorter_chain, unused_name)
 from .repairs_values import OF_FILES, joined_property
 from .syntax import shape_at, table
 from .text import Point, Span
@@ -94,8 +94,10 @@ def other_property(case: Case) -> Iterable[Repair]:
     if scope and len(before) == 2 and before[0].lower() in ("steps", "needs", "jobs"):
         outputs = [one.name for one in scope.properties((*before, "outputs"))]
         name = wrong if wrong in outputs else misspelled(wrong, outputs)
-        if name:
-            yield case.replace(f'change to "outputs.{name}"', f"outputs.{name}")
+        steps = [step for step in scope.visible_steps() if step.text("id") == before[1]] if before[0].lower() == "steps" else []
+        is_open = not outputs and any(step.get("uses") for step in steps) and not likely(wrong, PROPERTIES_OF_ALL["steps"])
+        if name or is_open:
+            yield case.replace(f'change to "outputs.{name or wrong}"', f"outputs.{name or wrong}")
     name = wrong.lower().removeprefix("github_")
     of_github_ = table()["contexts"]["github"]["properties"]
     meant = OTHER_PROPERTIES.get(wrong.lower()) or (name if name != wrong.lower() and name in of_github_ else None)

@@ -158,7 +158,8 @@ def pattern(case: Case) -> Iterable[Repair]:
     without_dot = re.sub(r"^(!?)(?:\./)+", r"\1", text)
     plain = re.sub(r"^\^|\$$", "", text)
     closed = RANGE_WITHOUT_END.sub(r"[\1]", plain)
-    tries = [without_dot, re.sub(r"^(!?)/", r"\1", text), plain, closed, closed + "]" if closed.count("[") > closed.count("]") else closed,
+    closer = "]" if closed.count("[") > closed.count("]") and closed[-1] not in "[-" else ""
+    tries = [without_dot, re.sub(r"^(!?)/", r"\1", text), plain, closed, closed + closer,
              text.strip(), re.sub(r"\s+", "-", re.sub(r"\s*/\s*", "/", text.strip())), text.replace("\\", "/"), re.sub(r"[~^:]", "-", text),
              re.sub(r"^([+?])", r"\\\1", text)]
     for changed in dict.fromkeys(tries):

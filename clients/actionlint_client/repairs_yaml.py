@@ -33,13 +33,14 @@ ANCHOR = re.compile(r"(?<!\S)&([^\s,\[\]{}]+)")
 ALIAS = re.compile(r"\*([^\s,\[\]{}]+)")
 ODD_SPACE = re.compile("[\u00a0\u2000-\u200a\u202f\u3000]")
 ODD_START = re.compile("[ \u00a0\u2000-\u200a\u202f\u3000-]*(?:[\\w-]+:)?[ \u00a0\u2000-\u200a\u202f\u3000]*")
-SIGNS_OF_LINES = re.compile(r"([|>])[|>:]* ?([-+]?)[-+:]*")
+SIGNS_OF_LINES = re.compile(r"([|>])[|>:]* ?([-+]?)[-+]*:?")
 WIDE_DASH = re.compile(r"^( *)- {2,}(?=[A-Za-z_][\w-]*:)")
 PLAIN_ITEM = re.compile(r" *- [\w./*-]+")
 ITEM = re.compile(r"""(?:[\w-]+: *)?(?:'[^']*'|"[^"]*"|[^'"]*)""")
 KEY_IN_VALUE = re.compile(r"(?<=[^\s,]) +(?=([a-z][\w-]*): )")
 # An entry of a list in brackets that begins with one quote and ends with the other.
 OTHER_QUOTE_AT_END = re.compile(r"""(?<=[\[,{])\s*(['"])(?!\1)[^'"\[\]{},]+(?!\1)['"](?=\s*[,\]}])""")
+OTHER_CLOSER = re.compile(r"(?<![)}\]>])[)}\]>]$")
 # Several entries of a mapping beside each other.
 PAIRS = re.compile(r"[\w-]+: [^\s,\[\]{}:]+(?:, *[\w-]+: [^\s,\[\]{}:]+)+")
 ITEM_WITHOUT_SPACE = re.compile(r"( *)-(?=[\w./@'\"])")
@@ -59,6 +60,7 @@ def with_quotes(case: Case) -> Iterable[Repair]:
             text = case.slice(span)
             if not _opens_quote(text) and not _is_collection(text):
                 is_whole = line == number and _takes_texts(case, span) and not _key_in_value(case, line)
+                is_whole = is_whole and not PAIRS.fullmatch(case.lines[line].strip())
                 yield case.replace("put it in quotes", quoted(text), span, is_safe=is_whole)
     yield from list(_quoted_expressions(case)) or _quoted_item(case)
 
@@ -133,6 +135,12 @@ def pair_below(case: Case) -> Iterable[Repair]:
     item = re.fullmatch(rf"( *- )({PAIRS.pattern})\s*", case.line)
     if item:
         yield case.replace("make it a mapping", "{" + item[2] + "}", Span.on_line(case.span.start.line, item.start(2), item.end(2)))
+    elif PAIRS.fullmatch(case.line.strip()):
+        column = indent_of(case.line)
+        lines = ("\n" + " " * column).join(re.split(", *", case.line.strip()))
+        yield case.replace("write each on a line of its own", lines, Span.on_line(case.span.start.line, column, len(case.line)))
+    elif span and case.slice(span)[:1] == "[" and PAIRS.fullmatch(case.slice(span)[1:-1]):
+        yield case.replace("make it a mapping", "{" + case.slice(span)[1:-1] + "}", span)
     if span and elements and elements[-1].name is not None and PAIRS.fullmatch(case.slice(span)):
         yield case.replace("make it a mapping", "{" + case.slice(span) + "}", span)
     elif span and elements and elements[-1].name is not None and re.match(r"[\w-]+:(?: |$)", case.slice(span)):
@@ -282,6 +290,11 @@ def brackets_closed_above(case: Case) -> Iterable[Repair]:
         open_signs = open_brackets(case.slice(span)) if span else []
         if span and open_signs == ["["] and case.slice(span).startswith("[[") and case.slice(span).endswith("]"):
             yield case.replace("write one bracket", "[", Span.on_line(line, span.start.column, span.start.column + 2))
+        closer = CLOSERS[open_signs[0]] if len(open_signs) == 1 else ""
+        if span and closer and OTHER_CLOSER.search(case.slice(span)) and not case.slice(span).endswith(closer):
+            end = span.end.column
+            yield case.replace(f'change to "{closer}"', closer, Span.on_line(line, end - 1, end))
+            return
         if span and open_signs:
             last = next((one for one in range(number - 1, line, -1) if case.lines[one].strip()), line)
             lines = case.outline.lines[line + 1:last + 1]
