@@ -56,14 +56,9 @@ def other_kind(case: Case) -> Iterable[Repair]:
     yield from _of_its_section(case, here)
     value, text = here.value, case.slice(here.value.span)
     if value.kind == "scalar" and value.style not in ("|", ">") and value.value:
-        with_key = list(_with_key(case, here))
-        yield from with_key
-        if with_key:
-            return
-        pairs = [LINE_OF_PAIR.fullmatch(line) for line in text.split("\n")]
-        if all(pairs) and not value.style and "\n" in text:
-            lines = (pair[1] + pair[2] + ": " + pair[3] for pair in pairs if pair)
-            yield case.replace("make it a mapping", "\n".join(lines), value.span)
+        with_keys = list(_with_key(case, here)) or list(_pairs_in_lines(case, value))
+        yield from with_keys
+        if with_keys:
             return
         words = text[1:-1] if text.startswith("(") and text.endswith(")") else text
         yield from list_of_lines(case, value) if "\n" in text else [case.replace("make it a list", f"[{words}]", value.span)]
@@ -94,6 +89,14 @@ def _as_step(case: Case, value: Node) -> Iterable[Repair]:
         yield case.replace(f'call "{action}@{version}"', f"uses: {action}@{version}", value.span)
     name = "uses" if CALL.fullmatch(value.value) else "run"
     yield case.replace(f'make it a step with "{name}"', f"{name}: {case.slice(value.span)}", value.span)
+
+
+def _pairs_in_lines(case: Case, value: Node) -> Iterable[Repair]:
+    """Lines of names and values with equals signs between them, as a mapping."""
+    pairs = [LINE_OF_PAIR.fullmatch(line) for line in case.slice(value.span).split("\n")]
+    if all(pairs) and not value.style and len(pairs) > 1:
+        lines = (pair[1] + pair[2] + ": " + pair[3] for pair in pairs if pair)
+        yield case.replace("make it a mapping", "\n".join(lines), value.span)
 
 
 def list_of_lines(case: Case, value: Node) -> Iterable[Repair]:

@@ -401,7 +401,7 @@ WRONG_FIXES = (
     ("signs_of_a_text_are_one", "repairs_yaml.py", ODD, "([|>])[|>:]* ?", "([|>]) ?"),
     ("a_semicolon_ends_its_line", "repairs_yaml.py", ODD, " *;(?=\\s|$)", " *;(?=$)"),
     ("a_list_has_thirty_lines", "repairs_levels.py", ODD, "MAX_LINES_ABOVE = 200", "MAX_LINES_ABOVE = 30"),
-    ("equals_signs_make_one_pair", "repairs_kinds.py", ODD, 'if all(pairs) and not value.style and "\\n" in text:', "if False:"),
+    ("equals_signs_make_one_pair", "repairs_kinds.py", ODD, "if all(pairs) and not value.style and len(pairs) > 1:", "if False:"),
     ("round_brackets_are_in_a_list", "repairs_kinds.py", ODD, 'text[1:-1] if text.startswith("(")', 'text if text.startswith("(")'),
     ("a_type_has_no_options", "repairs_kinds.py", ODD, 'elif name == "type" and value.items and', "elif False and"),
     ("lines_of_a_pattern_are_one", "repairs_rules.py", ODD, "yield from list_of_lines(case, value)", "pass"),
