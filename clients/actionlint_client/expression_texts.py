@@ -15,7 +15,8 @@ OPTIONAL_DOT = re.compile(r"(?<=[\w\])])\?\.(?=[A-Za-z_])")
 OTHER_NULL = re.compile(r"([=!]=\s*)(?:undefined|None|nil)\b")
 FLAG = re.compile(r"(?<=[=!]=)\s*(?:true|false)(?![\w.(\[-])", re.I)
 LONE_WORD = re.compile(r"([=!]=\s*)(?!(?:true|false|null)\b)([A-Za-z][\w/-]*)(?=\s*(?:$|[)&|]))")
-SINGLE_EQUALS = re.compile(r"(?<![=!<>])=(?!=)")
+SINGLE_EQUALS = re.compile(r"(?<![=!<>])=(?![=!])")
+TURNED_OPERATOR = re.compile(r"(?<![=!<>])=!(?!=)")
 WORD_OPERATORS = {"and": "&&", "or": "||", "eq": "==", "ne": "!="}
 WORDS = re.compile(r"(?<![\w.-])(" + "|".join(WORD_OPERATORS) + r")(?![\w.-])", re.I)
 NOT = re.compile(r"(?<![\w.-])not(?![\w.-])\s*", re.I)
@@ -65,6 +66,10 @@ def with_equals(text: str) -> str:
     return outside_texts(text, lambda part: re.sub(r"===+", "==", part).replace("!==", "!=").replace("<>", "!="))
 
 
+def with_turned_operators(text: str) -> str:
+    return outside_texts(text, lambda part: TURNED_OPERATOR.sub("!=", part))
+
+
 def with_operators(text: str, with_lone_texts: bool = False) -> str:
     changed = outside_texts(text, lambda part: WORDS.sub(lambda match: WORD_OPERATORS[match[1].lower()], part))
     changed = _plain_flags(with_equals(changed))
@@ -112,7 +117,7 @@ def coalesced(text: str) -> str:
 
 def doubled(text: str) -> str:
     changed = outside_texts(text, lambda part: SINGLE_EQUALS.sub("==", part))
-    changed = outside_texts(changed, lambda part: re.sub(r"(?<!&)&(?!&)", "&&", re.sub(r"(?<!\|)\|(?!\|)", "||", part)))
+    changed = outside_texts(changed, lambda part: re.sub(r"&+", "&&", re.sub(r"\|+", "||", part)))
     return _plain_flags(changed)
 
 

@@ -18,6 +18,8 @@ MAX_NAMES = 400
 MAX_WORD_CHARACTERS = 40
 SEPARATORS = re.compile(r"[-_. /]+")
 DIGITS = re.compile(r"\d+")
+# Words that turn the meaning of a name round.
+OPPOSITES = {"ignore", "ignored", "ignores", "exclude", "excluded", "excludes", "skip", "without", "no", "not", "non", "never"}
 
 # Of which names the argument of a fault should have been one.
 LISTS = {"G1": "events", "G2": "activity types", "G12": "shells", "G13": "permission scopes", "G14": "permission values",
@@ -55,7 +57,7 @@ def likely(wrong: str, known: Iterable[str]) -> list[tuple[str, bool]]:
         return [(meant, True)]
     begun = [name for name in names_ if len(name) > 2 and SEPARATORS.search(wrong) is None and wrong.lower().startswith(name.lower())]
     found = begun or near(wrong, names_) or [name for name in names_ if _is_part(wrong, name) or _is_part(name, wrong)]
-    return [(name, False) for name in found if name != wrong]
+    return [(name, False) for name in found if name != wrong and _opposites(name) == _opposites(wrong)]
 
 
 def _is_part(words: str, name: str) -> bool:
@@ -66,6 +68,11 @@ def _is_part(words: str, name: str) -> bool:
     if name.startswith(words):
         return SEPARATORS.match(name, len(words)) is not None or SEPARATORS.search(name) is None
     return name.endswith(words) and SEPARATORS.fullmatch(name[-len(words) - 1]) is not None
+
+
+def _opposites(name: str) -> bool:
+    """Whether a name has a word that turns its meaning round."""
+    return not OPPOSITES.isdisjoint(SEPARATORS.split(name.lower()))
 
 
 def _bare(name: str) -> str:
@@ -80,7 +87,8 @@ def _is_slip(wrong: str, name: str) -> bool:
     words, others = SEPARATORS.split(wrong.lower()), SEPARATORS.split(name.lower())
     if len(words) != len(others):
         return 1 in (len(words), len(others)) and " " not in wrong + name and _is_slip_of_word(_bare(wrong), _bare(name))
-    return all(_is_slip_of_word(word, other) for word, other in zip(words, others))
+    orders = ((words, others), (sorted(words), sorted(others)))
+    return any(all(_is_slip_of_word(word, other) for word, other in zip(*order)) for order in orders)
 
 
 def _is_slip_of_word(word: str, other: str) -> bool:

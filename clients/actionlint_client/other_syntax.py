@@ -28,6 +28,10 @@ BRACKETED_WORDS = re.compile(r"(,\s*)(\[[A-Za-z][\w -]*\])(?=\s*\))")
 SEARCH = re.compile(r"(?<![\w.*-])([\w.*-]+)\s*(?:=~|~=)\s*(?:'([^']*)'|/((?:[^/\\ ]|\\.)+)/)")
 PLAIN_TEXT = re.compile(r"[\w/:@. -]+")
 EMPTY = re.compile(r"(!\s*)?(?<![\w.-])(?:is_?)?(not_?)?(?:empty|null|blank)\(\s*([\w.-]+)\s*\)", re.I)
+STATE = re.compile(r"(!?)(?<![\w.-])(steps|needs)\.([\w-]+)\.(fail|succe|pass|cancel|skip)[a-z]*\(\)")
+CALLED_CONTEXT = re.compile(rf"(?<![\w.-])({CONTEXTS})\(\s*'?([A-Za-z_][\w-]*)'?\s*\)")
+FILTER = re.compile(r"(\s*)([\w.*-]+)\s*\|\s*(to|from)_?json(\s*)", re.I)
+STATES = {"fail": "failure", "succe": "success", "pass": "success", "cancel": "cancelled", "skip": "skipped"}
 IF_AND_THEN = re.compile(r"(?<!.)(\s*)if\b\s*|(?<!\s)\s+then(?=\s*$)", re.S)
 
 
@@ -144,6 +148,24 @@ def choice_in_words(text: str) -> Choice | None:
     made = choice(condition, yes, no) if is_whole else None
     before, after = text[:len(text) - len(text.lstrip())], text[len(text.rstrip()):]
     return made and Choice(before + made.text + after, made.doubtful)
+
+
+def with_filter(text: str) -> str:
+    """A text with a call of a function of JSON in place of a filter."""
+    return FILTER.sub(lambda match: f"{match[1]}{match[3].lower()}JSON({match[2]}){match[4]}", text) if FILTER.fullmatch(text) else text
+
+
+def with_properties(text: str) -> str:
+    """A text with properties of contexts in place of calls of them."""
+    return CALLED_CONTEXT.sub(r"\1.\2", text)
+
+
+def with_state(text: str) -> str:
+    """A text with comparisons in place of calls that ask for the state of a step or a job."""
+    def compared(match: re.Match[str]) -> str:
+        what = "outcome" if match[2] == "steps" else "result"
+        return f"{match[2]}.{match[3]}.{what} {'!=' if match[1] else '=='} '{STATES[match[4]]}'"
+    return STATE.sub(compared, text)
 
 
 def without_if(text: str) -> str:

@@ -148,6 +148,30 @@ def first_entry_without_dash(case: Case) -> Iterable[Repair]:
         yield case.of("add a dash", Edit(Span.on_line(body[-1], column, column + 2), "- "))
 
 
+def key_with_dash(case: Case) -> Iterable[Repair]:
+    """A key of the entry above that has a dash of its own, without it."""
+    number, lines = case.span.start.line, case.lines
+    elements = case.outline.lines[number].elements
+    if len(elements) != 2 or elements[0].name is not None or elements[1].name is None:
+        return
+    column = elements[0].column
+    if _keys_of_entry_above(case, number, column - 2):
+        below = takewhile(lambda one: not lines[one].strip() or indent_of(lines[one]) >= elements[1].column,
+                          range(number + 1, min(number + MAX_LINES_OF_ENTRY, len(lines))))
+        edits = [Edit(Span.on_line(one, column, elements[1].column), "") for one in (number, *below) if lines[one].strip()]
+        yield case.of("delete the dash", *edits)
+
+
+def only_entry_without_dash(case: Case) -> Iterable[Repair]:
+    """The only entry of a list of mappings, whose further keys are as deep as a dash makes them."""
+    number = case.span.start.line
+    above = next((one for one in range(number - 1, max(number - MAX_LINES_OF_ENTRY, -1), -1) if case.lines[one].strip()), 0)
+    column = indent_of(case.line) - 2
+    if number and _is_key_at(case, above, column) and case.outline.lines[above].rest:
+        if case.outline.place(Point(above, column)).path[-1:] in (("include",), ("exclude",), ("steps",)):
+            yield case.of("add a dash", Edit(Span.at(Point(above, column)), "- "))
+
+
 def _keys_of_entry_above(case: Case, number: int, column: int) -> set[str | None]:
     """The keys of the entry of a list that begins above a line at a column."""
     found: set[str | None] = set()
@@ -252,8 +276,8 @@ def space_in_brackets(case: Case) -> Iterable[Repair]:
 
 
 REPAIRS: dict[str, tuple[Callable[[Case], Iterable[Repair]], ...]] = {
-    "Y4": (shallow_lines, entry_without_dash, first_entry_without_dash, keys_with_dashes),
-    "Y13": (list_without_brackets, with_comma, other_bracket, shallow_lines, as_folded_text, entry_without_dash, first_entry_without_dash,
-            keys_with_dashes),
+    "Y4": (shallow_lines, key_with_dash, only_entry_without_dash, entry_without_dash, first_entry_without_dash, keys_with_dashes),
+    "Y13": (list_without_brackets, with_comma, other_bracket, shallow_lines, as_folded_text, key_with_dash, only_entry_without_dash,
+            entry_without_dash, first_entry_without_dash, keys_with_dashes),
     **{code: (space_in_brackets,) for code in ("K1", "G11", "G13", "G15", "C2", "C5")},
 }

@@ -15,6 +15,7 @@ from .repair import (Case, Edit, Found, Repair, as_scalar, entries_of, is_within
                      without_key)
 from .repairs_keys import deleted, moved_below
 from .repairs_names import as_secret
+from .repairs_needs import is_in_other_words
 from .repairs_kinds import as_flag, as_number
 from .syntax import table
 from .text import Point, Span
@@ -43,7 +44,7 @@ def near_file(case: Case) -> Iterable[Repair]:
 def near_declared(what: str) -> Callable[[Case], Iterable[Repair]]:
     """An input or a secret of the called file in place of one that it doesn't have, or none."""
     def repairs(case: Case) -> Iterable[Repair]:
-        node, callee, _ = call_of(case)
+        node, callee, of_job = call_of(case)
         here = case.key
         if here and node and callee:
             declared = files.declarations(callee, case.project.good_tree(callee), what, True)
@@ -52,6 +53,13 @@ def near_declared(what: str) -> Callable[[Case], Iterable[Repair]]:
             found = likely(case.arguments[0], free)
             found = found or [(name, False) for name in _only_lacking(node, declared, "with" if what == "inputs" else "secrets")]
             yield from (case.replace(f'change to "{name}"', name, is_safe=is_slip) for name, is_slip in found)
+            if free and not found:
+                # One of the free ones is meant.
+                return
+            tree = case.project.good_tree(callee)
+            call = tree.at(("on", "workflow_call") if of_job else ()) if tree else None
+            if call and is_in_other_words(call, what, table()["shapes"]["Call" if of_job else "Action"]["keys"]):
+                return
         yield from _without(case)
     return repairs
 

@@ -6,19 +6,21 @@ from typing import Callable, Iterable, NamedTuple
 
 from .expression_texts import (CHAIN, COMPARISONS, coalesced, doubled, doubled_with_quotes, outside, outside_texts, spread,
                                with_all_operators, with_calls, with_double_braces, with_equals, with_format, with_null, with_operators,
-                               with_plain_dots, with_plain_spaces, with_single_quotes, without_curly_quotes)
+                               with_plain_dots, with_plain_spaces, with_single_quotes, with_turned_operators, without_curly_quotes)
 from .expressions import STRING
 from .missing_signs import closed_at_ends, with_apostrophes, with_closed_json
 from .operators import Choice, Token, choice, choice_in, grouped, operators, tokens
 from .other_syntax import (FUNCTIONS, choice_in_words, template_as_format, with_alternatives, with_comparison, with_default, with_dots,
-                           with_equal_quotes, with_matching_brackets, with_round_brackets, with_search, with_single_commas, with_stars,
-                           with_text_in_brackets, without_if, without_spaces_in_operators, without_stray_brackets)
+                           with_equal_quotes, with_filter, with_matching_brackets, with_properties, with_round_brackets, with_search,
+                           with_single_commas, with_stars, with_state, with_text_in_brackets, without_if, without_spaces_in_operators,
+                           without_stray_brackets)
 from .repair import NEEDS_QUOTES, Case, Repair, as_scalar, is_within_flow
 from .syntax import is_condition
 from .text import Point, Span
 
 BRACES = re.compile(r"\$\{\{((?:[^$}]|\$(?!\{\{)|\}(?!\}))*)\}\}")
 TEXT_WITH_BRACES = re.compile(r"'([^'{}]*(?:\$\{\{[^'{}]*\}\}[^'{}]*)+)'")
+QUOTED_BRACES = re.compile(r"(?<!\w)'(\$\{\{[^{}]*\}\})'(?!\w)")
 MANY_BRACES = re.compile(r"\$\{{3,}([^{}]*)\}{2,}")
 NESTED_BRACES = re.compile(r"\$\{\{([^{}]*)\$\{\{([^{}]*)\}\}([^{}]*)\}\}")
 VERSION = re.compile(r"(?<![\w.-])v?\d[\w-]*(?:\.[\w-]+)+")
@@ -276,6 +278,8 @@ def _closed_above(case: Case) -> Iterable[Repair]:
     for line in range(here.value.span.start.line + (here.value.style in ("|", ">")), last):
         text = case.lines[line]
         if text.count("'") % 2 and here.value.style != "'":
+            if with_equal_quotes(text) != text:
+                yield case.replace("write single quotes", with_equal_quotes(text), Span.on_line(line, 0, len(text)))
             yield from (case.replace("close the text", closed, Span.on_line(line, 0, len(text))) for closed in closed_at_ends(text))
             return
 
@@ -301,6 +305,10 @@ def closed_braces(case: Case) -> Iterable[Repair]:
     has_brace = rest[whole.end():whole.end() + 1] == "}"
     is_after_dollar = case.line[:case.span.start.column].endswith("$")
     is_one = has_brace or chain is None or re.match(r"\s*(?:[=!]=|&&|\|\||[<>(])", rest[chain.end():]) is not None
+    if is_after_dollar and is_one and here.path[-1:] != ("run",):
+        column = case.span.start.column
+        span = Span.on_line(case.span.start.line, column - 1, column + whole.end() + has_brace)
+        yield case.replace("write one dollar and close the braces", text + " }}", span)
     ends = [whole.end() if has_brace else len(text)] if is_one else []
     ends += [chain.end()] if chain else []
     ends += [] if is_one else [len(text)]
@@ -366,7 +374,7 @@ def one_pair(case: Case) -> Iterable[Repair]:
         return
     in_flow = is_within_flow(case, here.path)
     text = " ".join(here.value.value.split())
-    joined = TEXT_WITH_BRACES.sub(_without_quotes, text)
+    joined = TEXT_WITH_BRACES.sub(_without_quotes, QUOTED_BRACES.sub(r"\1", text))
     outside = operators(BRACES.sub("x", joined)) or WHOLE_CALL.fullmatch(BRACES.sub("x", joined))
 
     def inner(match: re.Match[str]) -> str:
@@ -397,7 +405,7 @@ OTHER_SYNTAX = (
     rewritten("delete the space in the operator", outside(without_spaces_in_operators), True), DOTS,
     rewritten("write a call with round brackets", with_round_brackets), rewritten("write one comma", outside(with_single_commas)),
     rewritten("write the other bracket", with_matching_brackets),
-    rewritten("call a function", with_search),
+    rewritten("call a function", with_search), rewritten("write a call", with_filter), rewritten("compare its state", outside(with_state)),
     rewritten("write the operator", outside(with_comparison)), rewritten('write ".*"', outside(with_stars), True),
     rewritten('write "||"', with_default),
     rewritten("write single quotes", with_equal_quotes),
@@ -406,20 +414,21 @@ OTHER_SYNTAX = (
 REPAIRS: dict[str, tuple[Callable[[Case], Iterable[Repair]], ...]] = {
     "X1": (rewritten("write a call of format", template_as_format), SINGLE_QUOTES,
            rewritten("leave out the quotes", without_curly_quotes), rewritten("write plain spaces", with_plain_spaces, True),
-           DOUBLED, as_choice, EQUALS, OPERATORS, SPREAD, DOUBLED_WITH_QUOTES,
+           DOUBLED, as_choice, EQUALS, rewritten('write "!="', with_turned_operators), OPERATORS, SPREAD, DOUBLED_WITH_QUOTES,
            rewritten('write "||", which takes the second for an empty text too', coalesced), inner_braces,
            rewritten('write "."', with_plain_dots, True), rewritten('write "null"', with_null),
            rewritten("write a call of format", with_format),
            rewritten("write the operators of expressions", with_all_operators, True),
-           rewritten('write "${{" and "}}"', with_double_braces, True), from_context, *OTHER_SYNTAX, second_brace, word_as_text,
-           without_character),
+           rewritten('write "${{" and "}}"', with_double_braces, True), from_context, *OTHER_SYNTAX, _closed_above, second_brace,
+           word_as_text, without_character),
     "X2": (rewritten("write the apostrophe twice", with_apostrophes), rewritten("write single quotes", with_equal_quotes), closed_text),
     "X3": (EQUALS, OPERATORS, SPREAD, DOUBLED, as_choice, *OTHER_SYNTAX, rewritten("call a function", with_calls), inner_braces,
            closed_brackets, with_comma, with_and, with_or, version_as_text, without_rest,
            rewritten("delete the bracket", without_stray_brackets, deletes=True), without_character),
     "X4": (rewritten("close the brackets", with_closed_json), closed_brackets, without_rest),
     "X7": (DOTS,),
-    "X9": (rewritten("delete what isn't the condition", without_if, deletes=True),),
+    "X9": (rewritten('write "." after the context', with_properties),
+           rewritten("delete what isn't the condition", without_if, deletes=True)),
     "X20": (closed_braces,),
     "G18": (inner_braces, one_pair),
 }

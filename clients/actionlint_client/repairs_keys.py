@@ -6,7 +6,7 @@ import re
 from typing import Callable, Iterable
 
 from .names import likely, misspelled, names, near
-from .other_keys import other_keys
+from .other_keys import MEANINGLESS, other_keys
 from .paths import is_workflow
 from .repairs_levels import moves
 from .repairs_steps import STEP_STARTS, new_step
@@ -35,6 +35,8 @@ UNIT_OF_LIMIT = re.compile(r"timeout[-_]?(?:in[-_]?)?(s|secs?|seconds?|h|hrs?|ho
 # Sections that can be a text, which is the value of one of their keys.
 SHORT_FORMS = {"concurrency": ("group", "Concurrency"), "environment": ("name", "Environment"), "container": ("image", "Container"),
                "runs-on": ("labels", "RunsOn")}
+# What a call of a workflow and a step have in common.
+CALL_KEYS = {"name", "if", "uses", "with", "secrets"}
 # Where a missing key is looked for.
 MAX_PLACES = 20
 
@@ -253,10 +255,15 @@ def step_of_keys(case: Case) -> Iterable[Repair]:
 
 
 def deleted(case: Case) -> Iterable[Repair]:
-    """The mapping without the key."""
+    """The mapping without the key. What a key means that is none of GitHub's can't be known, so it stays."""
     here = case.key
-    if here and here.key and len(here.parent.entries) > 1:
+    if here and here.key and len(here.parent.entries) > 1 and _has_meaning(case):
         yield case.of(f'delete "{here.key.value}"{entries_of(here.value)}', without_entry(case, here.parent, here.key), deletes=True)
+
+
+def _has_meaning(case: Case) -> bool:
+    """Whether it is known what a key means that its section doesn't have."""
+    return case.code != "K1" or case.arguments[0] in (*names()["keys"], *MEANINGLESS)
 
 
 def emptied_event(case: Case) -> Iterable[Repair]:
@@ -264,9 +271,17 @@ def emptied_event(case: Case) -> Iterable[Repair]:
     here = case.key
     if here and here.key and here.path[:1] == ("on",) and len(here.path) == 3 and len(here.parent.entries) == 1 and not here.parent.is_flow:
         last = last_line(here.value, case.lines)
-        if last + 1 < len(case.lines):
+        if last + 1 < len(case.lines) and _has_meaning(case):
             span = Span(Point(here.key.span.start.line, 0), Point(last + 1, 0))
             yield case.replace(f'delete "{here.key.value}"{entries_of(here.value)}', "", span, deletes=True)
+
+
+def required_or_not(case: Case) -> Iterable[Repair]:
+    """`optional` as `required` with the opposite value."""
+    here = case.key
+    flag = {"true": "false", "false": "true"}.get(here.value.value) if here and case.arguments[0].lower() == "optional" else None
+    if here and here.key and flag and "required" in case.known_keys(here.path[:-1], here.parent.names()):
+        yield case.replace(f'change to "required: {flag}"', f"required: {flag}", Span(here.key.span.start, here.value.span.end))
 
 
 def another_job(case: Case) -> Iterable[Repair]:
@@ -358,7 +373,7 @@ def missing_key(case: Case) -> Iterable[Repair]:
     unknown = [(key, value) for key, value in here.value.entries if shape and key.value not in shape.get("keys", ())]
     if "run" in wanted:
         unknown += [(key, value) for key, value in here.value.entries if key.value == "name" and fits("uses", value)]
-    found = [*_renamed(case, unknown, wanted), *_moved_here(case, here.path, wanted)]
+    found = [*_renamed(case, unknown, wanted), *_moved_here(case, here.path, wanted), *_called_from_job(case, here)]
     yield from found
     if not found:
         yield from _joined(case, here)
@@ -383,6 +398,20 @@ def _moved_here(case: Case, path: Path, wanted: list[str]) -> Iterable[Repair]:
     for found in itertools.islice(near, MAX_PLACES):
         if found.path[-1] not in case.known_keys(found.path[:-1]):
             yield from (repair for goal, repair in moves(case, found) if goal == path)
+
+
+def _called_from_job(case: Case, here: Found) -> Iterable[Repair]:
+    """A workflow that the only step of a job calls, called from the job."""
+    key, steps = here.value.key("steps"), here.value.get("steps")
+    step = steps.items[0] if steps and len(steps.items) == 1 else None
+    if key is None or steps is None or step is None or "/.github/workflows/" not in (step.text("uses") or ""):
+        return
+    if not here.value.is_flow and {*step.names()} <= CALL_KEYS - {*here.value.names()}:
+        column = key.span.start.column
+        texts = [case.slice(Span(name.span.start, tight(case, value).end)).replace("\n" + " " * (name.span.start.column - column), "\n")
+                 for name, value in step.entries]
+        span = Span(key.span.start, tight(case, steps).end)
+        yield case.replace("call the workflow from the job", ("\n" + " " * column).join(texts), span)
 
 
 def _joined(case: Case, here: Found) -> Iterable[Repair]:
@@ -459,8 +488,8 @@ def excluded_patterns(case: Case) -> Iterable[Repair]:
 
 
 REPAIRS: dict[str, tuple[Callable[[Case], Iterable[Repair]], ...]] = {
-    "K1": (near_key, beside_short_form, below_sibling, below_empty, below_inputs, one_level_deeper, step_of_keys, part_of_value, deleted,
-           emptied_event),
+    "K1": (near_key, required_or_not, beside_short_form, below_sibling, below_empty, below_inputs, one_level_deeper, step_of_keys,
+           part_of_value, deleted, emptied_event),
     "K2": (missing_key,),
     "K3": (new_step, another_job, repeated),
     "K6": (unknown_beside, below_inputs, new_step, excluded_patterns, deleted),

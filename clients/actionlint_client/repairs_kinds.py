@@ -7,11 +7,14 @@ from typing import Callable, Iterable
 
 from .action_versions import VERSIONS, versions
 from .names import likely, misspelled
+from .operators import negated
+from .other_keys import OTHER_TYPES
 from .paths import is_workflow
 from .repair import Case, Edit, Found, Repair, indented, is_within_flow, quoted, tight
 from .repairs_keys import JOB, UNIT_OF_LIMIT
 from .repairs_levels import moved
 from .repairs_yaml import DASH_WITHOUT_SPACE
+from .sections import activity_types
 from .stricter import takes_filter
 from .syntax import table
 from .text import Point, Span
@@ -20,8 +23,9 @@ from .tree import Node, Path, last_line, walk
 WORKFLOW = f"on: push\njobs:\n  {JOB.replace(chr(10), chr(10) + '  ')}\n"
 ACTION = "name: Name\ndescription: Description\nruns:\n  using: composite\n  steps:\n    - run: make\n      shell: bash\n"
 FLAGS = {"yes": "true", "on": "true", "y": "true", "true": "true", "no": "false", "off": "false", "n": "false", "false": "false"}
-OTHER_FLAGS = {"1": "true", "enabled": "true", "enable": "true", "always": "true", "0": "false", "disabled": "false", "disable": "false",
-               "never": "false"}
+OTHER_FLAGS = {**dict.fromkeys(("1", "enabled", "enable", "always", "yep", "required", "mandatory"), "true"),
+               **dict.fromkeys(("0", "disabled", "disable", "never", "nope", "none", "optional"), "false")}
+NEGATED_KEYS = ("unless", "if-not", "if_not", "ifnot", "not-if", "skip-if", "skip_if", "except-if")
 NUMBERS = {word: number for number, word in enumerate("zero one two three four five six seven eight nine ten".split())} | {
     "fifteen": 15, "twenty": 20, "thirty": 30, "forty": 40, "forty-five": 45, "sixty": 60, "ninety": 90}
 NUMBER = re.compile(r"(-?\d{1,9}(?:\.\d{1,9})?)\s*([A-Za-z]*)\.?")
@@ -31,6 +35,7 @@ MINUTES = {"": 1.0, "m": 1.0, "min": 1.0, "mins": 1.0, "minute": 1.0, "minutes":
            "seconds": 1 / 60}
 CALL = re.compile(r"[\w.-]+/[\w./-]+@[\w./-]+|\./[\w./-]+|docker://\S+")
 COLON_LACKS_SPACE = re.compile(r"([A-Za-z_][\w-]*):(?=[^\s/:])")
+LINE_OF_PAIR = re.compile(r"(\s*)([A-Za-z_]\w*)=(\S.*)")
 LINE_OF_LIST = re.compile(r" *-?[\w./@*][\w./@*-]*")
 KEY_LACKS_COLON = re.compile(r"([A-Za-z_][\w-]*)(?= +[^\s=])")
 SEPARATORS = re.compile(r"[-. ]")
@@ -51,11 +56,12 @@ def other_kind(case: Case) -> Iterable[Repair]:
     yield from _of_its_section(case, here)
     value, text = here.value, case.slice(here.value.span)
     if value.kind == "scalar" and value.style not in ("|", ">") and value.value:
-        with_key = list(_with_key(case, here))
-        yield from with_key
-        if with_key:
+        with_keys = list(_with_key(case, here)) or list(_pairs_in_lines(case, value))
+        yield from with_keys
+        if with_keys:
             return
-        yield from _list_of_lines(case, value) if "\n" in text else [case.replace("make it a list", f"[{text}]", value.span)]
+        words = text[1:-1] if text.startswith("(") and text.endswith(")") else text
+        yield from list_of_lines(case, value) if "\n" in text else [case.replace("make it a list", f"[{words}]", value.span)]
         if here.path[-2:-1] == ("steps",):
             yield from _as_step(case, value)
         pair = re.fullmatch(r"([\w-]+)[=:]\s*(.+)", value.value)
@@ -85,7 +91,15 @@ def _as_step(case: Case, value: Node) -> Iterable[Repair]:
     yield case.replace(f'make it a step with "{name}"', f"{name}: {case.slice(value.span)}", value.span)
 
 
-def _list_of_lines(case: Case, value: Node) -> Iterable[Repair]:
+def _pairs_in_lines(case: Case, value: Node) -> Iterable[Repair]:
+    """Lines of names and values with equals signs between them, as a mapping."""
+    pairs = [LINE_OF_PAIR.fullmatch(line) for line in case.slice(value.span).split("\n")]
+    if all(pairs) and not value.style and len(pairs) > 1:
+        lines = (pair[1] + pair[2] + ": " + pair[3] for pair in pairs if pair)
+        yield case.replace("make it a mapping", "\n".join(lines), value.span)
+
+
+def list_of_lines(case: Case, value: Node) -> Iterable[Repair]:
     """Lines of words as a list: with a dash before each, or with a space after each dash."""
     lines = range(value.span.start.line, value.span.end.line + 1)
     has_dashes = [case.lines[line].lstrip().startswith("-") for line in lines]
@@ -178,6 +192,8 @@ def _of_its_section(case: Case, here: Found) -> Iterable[Repair]:
     elif name == "inputs" and value.kind == "sequence" and value.is_flow:
         entries = ", ".join("%s: {type: string}" % item.value for item in value.items)
         yield case.replace("make it a mapping", "{" + entries + "}", value.span)
+    elif name == "type" and value.items and value.is_flow and "options" in case.known_keys(here.path[:-1], here.parent.names()):
+        yield case.replace('make it a "choice" with these options', "choice\n" + " " * column + f"options: {text}", value.span)
     elif here.path[-2:-1] == ("inputs",) and is_text:
         yield case.replace("make it a mapping", "{type: string}", value.span)
     elif here.path[:-1] == ("jobs",) and here.path[-1] in table()["shapes"]["Job"]["keys"]:
@@ -197,19 +213,25 @@ def _of_its_section(case: Case, here: Found) -> Iterable[Repair]:
 def _settings_of_event(case: Case, here: Found) -> Iterable[Repair]:
     """The value of an event as its activity types, or as its branches."""
     event, value = str(here.path[-1]), here.value
-    items, known = value.items or [value], table()["activity types"].get(event, [])
-    near = [likely(item.value, known)[:1] for item in items if item.value not in known]
-    is_of_types = {item.value for item in items} <= set(known)
-    if not is_of_types and all(near):
-        names_ = [item.value if item.value in known else likely(item.value, known)[0][0] for item in items]
+    items, known = value.items or [value], activity_types(event)
+    meant = [next(iter(_types_like(item.value, known)), "") for item in items]
+    is_of_types = {item.value for item in items} <= set(known) or event == "repository_dispatch"
+    if not is_of_types and all(meant):
+        names_ = list(dict.fromkeys(meant))
         if here.key and takes_filter(event, "types"):
             text = f": {{types: [{', '.join(names_)}]}}"
             yield case.replace(f'put "{", ".join(names_)}" below "types"', text, Span(here.key.span.end, tight(case, value).end))
         return
-    key = "types" if is_of_types else "branches"
+    key = "types" if is_of_types else "workflows" if takes_filter(event, "workflows") else "branches"
     if here.key and all(item.value for item in items) and takes_filter(event, key):
         texts = ", ".join(case.slice(item.span) for item in items)
         yield case.replace(f'put it below "{key}"', f": {{{key}: [{texts}]}}", Span(here.key.span.end, tight(case, value).end))
+
+
+def _types_like(word: str, known: list[str]) -> list[str]:
+    """The activity types that a word may be meant for."""
+    others = [name for name in OTHER_TYPES.get(word, "").split() if name in known]
+    return [word] if word in known else others or [name for name, _ in likely(word, known)]
 
 
 def _keys_beside_job(case: Case, here: Found) -> Iterable[Repair]:
@@ -393,9 +415,21 @@ def other_type(case: Case) -> Iterable[Repair]:
             yield case.replace('add "push"', ": push", span)
     if re.fullmatch(r"\$?\{.*\}?\}", text) and here.value.kind == "scalar":
         yield case.replace("write it as an expression", "${{ " + text.strip("${} ") + " }}", here.value.span, is_safe=True)
-    elif re.fullmatch(r"!?[a-z]\w*(?:\.[\w*-]+)+(?: *[=!]= *'[^']*')?", text) and "}" not in text:
+    elif re.fullmatch(r"!?[a-z]\w*(?:\.[\w*-]+)+(?: *(?:[=!]=|[<>]=?) *(?:'[^']*'|[\w.-]+))?", text) and "}" not in text:
         value = "${{ " + text + " }}"
         yield case.replace("write it as an expression", quoted(value) if is_within_flow(case, here.path) else value, here.value.span)
+
+
+def negated_condition(case: Case) -> Iterable[Repair]:
+    """A condition under which a step or a job doesn't run, turned round."""
+    here = case.key
+    if here and here.key and case.arguments[0] in NEGATED_KEYS and "if" in case.known_keys(here.path[:-1], here.parent.names()):
+        text = here.value.value.strip().removeprefix("${{").removesuffix("}}").strip()
+        if here.value.kind == "scalar" and text and "${{" not in text:
+            turned = "${{ " + negated(text) + " }}"
+            value = quoted(turned) if is_within_flow(case, here.path) else turned
+            span = Span(here.key.span.start, tight(case, here.value).end)
+            yield case.replace('change to "if", with the opposite condition', f"if: {value}", span)
 
 
 def limit_in_minutes(case: Case) -> Iterable[Repair]:
@@ -439,6 +473,8 @@ def as_number(case: Case, node: Node, units: dict[str, float]) -> Iterable[Repai
         yield case.replace(f'change to "{NUMBERS[text]}"', str(NUMBERS[text]), node.span, is_safe=True)
     elif match and not match[2]:
         yield case.replace(f'change to "{match[1]}"', match[1], node.span, is_safe=True)
+    elif match and not units:
+        yield case.replace(f'change to "{match[1]}"', match[1], node.span)
     elif match and match[2] in units:
         whole, rounded = _in_minutes(float(match[1]) * units[match[2]])
         yield case.replace(f'change to "{whole}"{rounded}', str(whole), node.span, is_safe=not rounded)
@@ -452,7 +488,7 @@ def skeleton(case: Case) -> Iterable[Repair]:
 
 
 REPAIRS: dict[str, tuple[Callable[[Case], Iterable[Repair]], ...]] = {
-    "K1": (limit_in_minutes, jobs_below, merge),
+    "K1": (limit_in_minutes, negated_condition, jobs_below, merge),
     "K2": (merge,),
     "K4": (in_a_job, script_without_sign, value_of_output, other_kind),
     "K5": (other_type,),

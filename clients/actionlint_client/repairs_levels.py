@@ -10,7 +10,7 @@ from .syntax import shape_at
 from .text import Point, Span
 from .tree import Node, Path, last_line
 
-MAX_LINES_ABOVE = 30
+MAX_LINES_ABOVE = 200
 EVENT_OF_CALLS = (("on", "workflow_dispatch", "outputs"), ("on", "workflow_dispatch", "secrets"))
 MAX_COLUMNS = 6
 # In longer files no section is looked up.

@@ -7,15 +7,16 @@ from typing import Callable, Iterable
 from .expressions import chain_before
 from .names import likely, misspelled
 from .operators import grouped, parts
+from .other_keys import other_keys
 from .paths import is_workflow
 from .repair import Case, Edit, Found, Repair, first_entry, next_entry, quoted, without_entry, without_key
 from .other_syntax import with_empty_text
 from .repairs_expressions import choice_by_call, expression_of, in_yaml, is_alternative, is_in_condition, is_operand, rewritten
 from .repairs_needs import declared_output, is_in_other_words, is_written_elsewhere, needed_job, needs_for_jobs, output_of_job
-from .repairs_steps import (OF_CONTEXTS, named_step, names_before, only_job, only_output, only_step, output_of_any_job, properties_before,
-                            same_name_elsewhere, scope_of, shorter_chain, unused_name)
+from .repairs_steps import (OF_CONTEXTS, PROPERTIES_OF_ALL, named_step, names_before, only_job, only_output, only_step, output_of_any_job,
+                            properties_before, same_name_elsewhere, scope_of, shorter_chain, unused_name)
 from .repairs_values import OF_FILES, joined_property
-from .syntax import table
+from .syntax import shape_at, table
 from .text import Point, Span
 from .tree import Path
 
@@ -29,7 +30,8 @@ OTHER_PROPERTIES = {"branch": "ref_name", "branch_name": "ref_name", "tag": "ref
                     "pr_title": "event.pull_request.title", "issue_number": "event.issue.number",
                     "head_sha": "event.pull_request.head.sha", "base_sha": "event.pull_request.base.sha",
                     "commit_message": "event.head_commit.message", "default_branch": "event.repository.default_branch",
-                    "repo_name": "event.repository.name", "repository_name": "event.repository.name"}
+                    "repo_name": "event.repository.name", "workflow_name": "workflow", "job_name": "job", "job_id": "job",
+                    "repository_name": "event.repository.name"}
 # What events have, which is often written without `event`.
 OF_EVENTS = {"pull_request", "issue", "release", "inputs", "comment", "review", "discussion", "head_commit", "commits", "sender", "label",
              "workflow_run", "deployment", "client_payload", "before", "after", "forced", "number", "check_run", "check_suite"}
@@ -70,6 +72,9 @@ def of_github(case: Case) -> Iterable[Repair]:
     """A property of `github` that is written without its context, or as the variable of its name."""
     name = case.arguments[0].lower().removeprefix("github_")
     name = OTHER_PROPERTIES.get(name, name)
+    of_runner = case.arguments[0].lower().removeprefix("runner_")
+    if case.arguments[0].startswith("RUNNER_") and of_runner in table()["contexts"]["runner"]["properties"]:
+        yield case.replace(f"change to runner.{of_runner}", f"runner.{of_runner}")
     is_property = case.line[:case.span.start.column].endswith("->")
     if name in table()["contexts"]["github"]["properties"] and not is_property:
         yield case.replace(f"change to github.{name}", f"github.{name}")
@@ -89,8 +94,10 @@ def other_property(case: Case) -> Iterable[Repair]:
     if scope and len(before) == 2 and before[0].lower() in ("steps", "needs", "jobs"):
         outputs = [one.name for one in scope.properties((*before, "outputs"))]
         name = wrong if wrong in outputs else misspelled(wrong, outputs)
-        if name:
-            yield case.replace(f'change to "outputs.{name}"', f"outputs.{name}")
+        steps = [step for step in scope.visible_steps() if step.text("id") == before[1]] if before[0].lower() == "steps" else []
+        is_open = not outputs and any(step.get("uses") for step in steps) and not likely(wrong, PROPERTIES_OF_ALL["steps"])
+        if name or is_open:
+            yield case.replace(f'change to "outputs.{name or wrong}"', f"outputs.{name or wrong}")
     name = wrong.lower().removeprefix("github_")
     of_github_ = table()["contexts"]["github"]["properties"]
     meant = OTHER_PROPERTIES.get(wrong.lower()) or (name if name != wrong.lower() and name in of_github_ else None)
@@ -98,6 +105,15 @@ def other_property(case: Case) -> Iterable[Repair]:
         meant = f"event.{wrong}"
     if meant and [one.lower() for one in before] == ["github"]:
         yield case.replace(f'change to "{meant}"', meant)
+
+
+def include_of_matrix(case: Case) -> Iterable[Repair]:
+    """`include` for a row of the matrix with a similar name whose entries have the property."""
+    chain, matrix = case.chain[0], case.at("jobs", case.job, "strategy", "matrix") if case.job else None
+    if matrix and len(chain) == 2 and chain[0].lower() == "matrix" and matrix.get("include") is None:
+        for key, value in matrix.entries:
+            if misspelled(key.value, ["include"]) and any(item.get(chain[1]) for item in value.items):
+                yield case.replace(f'change "{key.value}" to "include"', "include", key.span)
 
 
 def declared_row(case: Case) -> Iterable[Repair]:
@@ -235,6 +251,21 @@ def _declaring(case: Case, way: Path, name: str, title: str, *edits: Edit) -> It
         key = "description" if around.get("description") else around.entries[-1][0].value
         text = f"inputs: {{{flow}}}" if around.is_flow else "inputs:\n  " + entry.replace("\n", "\n  ")
         yield case.of(title, next_entry(case, around, key, text), *edits)
+
+
+def in_known_section(case: Case) -> Iterable[Repair]:
+    """A key around the value that its section doesn't have, by the word that the section has for it."""
+    whole = case.scalar.path if case.scalar else ()
+    for depth, name in enumerate(whole):
+        path = whole[:depth]
+        node = case.at(*path)
+        key = node.key(name) if node and isinstance(name, str) else None
+        known = case.known_keys(path, node.names()) if node and key else []
+        meant = next((one for one in other_keys(str(name)) if one in known), None) or misspelled(str(name), known)
+        shape = shape_at(case.file, path, case.levels((*path, "")))
+        if key and meant and shape and name not in shape.get("keys", ()) and not shape["free"]:
+            yield case.replace(f'change "{name}" to "{meant}"', meant, key.span)
+            return
 
 
 def other_context(case: Case) -> Iterable[Repair]:
@@ -391,10 +422,10 @@ def moved_variable(case: Case) -> Iterable[Repair]:
 
 REPAIRS: dict[str, tuple[Callable[[Case], Iterable[Repair]], ...]] = {
     "X7": (near_name, unknown_word, of_github),
-    "X8": (other_context, output_of_job, moved_variable),
+    "X8": (in_known_section, other_context, output_of_job, moved_variable),
     "X9": (near_name, choice_by_call, rewritten("compare it with an empty text", with_empty_text)),
     "X10": (moved_variable,),
     "X14": (sibling_property,),
-    "X13": (other_property, same_name_elsewhere, shorter_chain, near_name, needed_job, named_step, output_of_job, only_step, only_job,
-            unused_name, declared_input, declared_output, only_output, declared_row),
+    "X13": (include_of_matrix, other_property, same_name_elsewhere, shorter_chain, near_name, needed_job, named_step, output_of_job,
+            only_step, only_job, unused_name, declared_input, declared_output, only_output, declared_row),
 }

@@ -7,11 +7,12 @@ from typing import Callable, Iterable
 
 from . import project as files
 from .names import LISTS, likely, misspelled, names
+from .other_keys import OTHER_TYPES
 from .repair import Case, Edit, Found, Repair, as_scalar, is_within_flow, next_entry, quoted, without_key
 from .repairs_expressions import BRACES
 from .repairs_keys import deleted, fits, in_its_quotes
-from .repairs_kinds import as_list, as_mapping
-from .repairs_levels import moves
+from .repairs_kinds import as_list, as_mapping, list_of_lines
+from .repairs_levels import indent_of, moves
 from .stricter import takes_access
 from .syntax import table
 from .text import Point, Span
@@ -24,6 +25,8 @@ OTHER_EVENTS = {"tag": "push", "tags": "push", "commit": "push", "merge": "push"
 PRESETS = {"@hourly": "0 * * * *", "@daily": "0 0 * * *", "@midnight": "0 0 * * *", "@weekly": "0 0 * * 0", "@monthly": "0 0 1 * *",
            "@yearly": "0 0 1 1 *", "@annually": "0 0 1 1 *"}
 WORD_OF_CRON = re.compile(r"[A-Za-z]{3,}")
+TIME_OF_DAY = re.compile(r"^(\d{1,2}):(\d{2})(?=(?: [\w*/,-]+){3}$|$)")
+TO_SUNDAY = re.compile(r"^(\w+)-(7|SUN)$")
 HOUR_OF_HALF = re.compile(r"\b(\d{1,2})([ap]m)\b", re.I)
 OF_ONE_VALUE = re.compile(r"(?<!\w)(\w+)-\1(?!\w)")
 GREATEST = (59, 23, 31, 12, 6)
@@ -35,18 +38,15 @@ OTHER_VALUES = {"text": "string", "str": "string", "int": "number", "integer": "
                 "read-only": "read", "r": "read", "w": "write", "rw": "write", "admin": "write", "push": "write", "pull": "read",
                 "all": "write-all", "merged": "closed", "merge": "closed", "updated": "synchronize", "pushed": "synchronize",
                 "commented": "created", "approved": "submitted", "node18": "node20", "node22": "node24", "node14": "node20",
-                "node": "node20", "javascript": "node20", "shell": "bash", "bash.exe": "bash", "batch": "cmd", "python3": "python"}
-# Activity types of other events with the same meaning, the first that the event has.
-OTHER_TYPES = {"opened": "created submitted", "open": "opened created", "new": "opened created", "added": "created labeled",
-               "created": "opened submitted", "create": "created opened", "removed": "deleted", "updated": "synchronize edited",
-               "update": "synchronize edited", "changed": "edited synchronize", "modified": "edited", "finished": "completed",
-               "success": "completed", "failure": "completed", "done": "completed", "merged": "closed", "push": "synchronize",
-               "started": "in_progress requested", "synced": "synchronize"}
+                **dict.fromkeys(("node", "nodejs", "javascript"), "node20"), "ps1": "pwsh", "shell": "bash", "bash.exe": "bash",
+                "batch": "cmd", "python3": "python"}
 OTHER_INPUT_TYPES = dict.fromkeys(("enum", "select", "dropdown", "option", "options", "choices", "list"), "choice string")
 OTHER_SCOPES = {**dict.fromkeys(("pr", "prs", "pull", "pulls", "merge-requests", "reviews"), "pull-requests"),
                 **dict.fromkeys(("code", "repo", "repository", "files", "releases"), "contents"),
                 **dict.fromkeys(("oidc", "token", "id", "jwt"), "id-token"), "security": "security-events", "workflows": "actions"}
-OTHER_WORDS = {"G2": OTHER_TYPES, "G13": OTHER_SCOPES, "G19": OTHER_INPUT_TYPES}
+OTHER_LEVELS = {**dict.fromkeys(("true", "yes", "allow", "grant", "readwrite", "read-write", "full"), "write"),
+                **dict.fromkeys(("false", "no", "deny", "off"), "none")}
+OTHER_WORDS = {"G2": OTHER_TYPES, "G13": OTHER_SCOPES, "G14": OTHER_LEVELS, "G19": OTHER_INPUT_TYPES}
 # Programs that run a script, given as a file.
 INTERPRETERS = ("zsh", "fish", "dash", "ksh", "nu", "elvish", "node", "deno", "bun", "perl", "ruby", "Rscript", "php", "lua", "tclsh")
 WORDS_OF_SCALARS = {"read": "read-all", "write": "write-all", "readonly": "read-all", "all": "write-all"}
@@ -147,10 +147,9 @@ def pattern(case: Case) -> Iterable[Repair]:
     if here is None:
         return
     text = here.value.value
-    dashes = [line for line in range(here.value.span.start.line, here.value.span.end.line + 1) if re.match(r" *-\S", case.lines[line])]
-    if text.startswith("-") and not here.value.style and dashes and dashes[0] == here.value.span.start.line:
-        yield case.of("add a space after each dash", *(Edit(Span.at(Point(line, case.lines[line].index("-") + 1)), " ") for line in dashes),
-                      is_safe=True)
+    entries = list(_entries_in_lines(case, here))
+    yield from entries
+    if entries:
         return
     words = [word.strip().strip("'\"") for word in text.split(",") if word.strip()]
     if len(words) > 1 and not is_within_flow(case, here.path) and not isinstance(here.path[-1], int):
@@ -159,7 +158,8 @@ def pattern(case: Case) -> Iterable[Repair]:
     without_dot = re.sub(r"^(!?)(?:\./)+", r"\1", text)
     plain = re.sub(r"^\^|\$$", "", text)
     closed = RANGE_WITHOUT_END.sub(r"[\1]", plain)
-    tries = [without_dot, re.sub(r"^(!?)/", r"\1", text), plain, closed, closed + "]" if closed.count("[") > closed.count("]") else closed,
+    closer = "]" if closed.count("[") > closed.count("]") and closed[-1] not in "[-" else ""
+    tries = [without_dot, re.sub(r"^(!?)/", r"\1", text), plain, closed, closed + closer,
              text.strip(), re.sub(r"\s+", "-", re.sub(r"\s*/\s*", "/", text.strip())), text.replace("\\", "/"), re.sub(r"[~^:]", "-", text),
              re.sub(r"^([+?])", r"\\\1", text)]
     for changed in dict.fromkeys(tries):
@@ -169,12 +169,30 @@ def pattern(case: Case) -> Iterable[Repair]:
                 break
 
 
+def _entries_in_lines(case: Case, here: Found) -> Iterable[Repair]:
+    """The lines of a text as the entries of a list: with a space after each dash, at the column of the list, or with a dash each."""
+    value, lines = here.value, range(here.value.span.start.line, here.value.span.end.line + 1)
+    dashes = [line for line in lines if re.match(r" *-\S", case.lines[line])]
+    if value.value.startswith("-") and not value.style and dashes and dashes[0] == lines[0]:
+        yield case.of("add a space after each dash", *(Edit(Span.at(Point(line, case.lines[line].index("-") + 1)), " ") for line in dashes),
+                      is_safe=True)
+    elif not value.style and len(lines) > 1 and isinstance(here.path[-1], int):
+        column = indent_of(case.lines[lines[0]])
+        if all(re.match(r" *- ", case.lines[line]) and indent_of(case.lines[line]) > column for line in lines[1:]):
+            edits = (Edit(Span.on_line(line, column, indent_of(case.lines[line])), "") for line in lines[1:])
+            yield case.of("move the dashes to the column of the list", *edits)
+    elif not value.style and len(lines) > 1:
+        yield from list_of_lines(case, value)
+
+
 def schedule(case: Case) -> Iterable[Repair]:
     """A schedule with five fields, each value within its bounds."""
     here = case.value
     if here is None or len(here.value.value) > MAX_SCHEDULE_CHARACTERS:
         return
-    text = here.value.value.strip()
+    written = here.value.value.strip()
+    without_commas = re.sub(r", +", " ", written) if written.count(", ") == 4 else written
+    text = TIME_OF_DAY.sub(lambda match: f"{int(match[2])} {int(match[1])}", without_commas)
     fields = [HOUR_OF_HALF.sub(_of_day, "*" * field.startswith("/") + field) for field in PRESETS.get(text, text).replace("?", "*").split()]
     if len(fields) == 6:
         without = [("delete the seconds", fields[1:]), ("delete the year", fields[:5])]
@@ -186,11 +204,20 @@ def schedule(case: Case) -> Iterable[Repair]:
         return
     fields += ["*"] * (5 - len(fields))
     fields = [WORD_OF_CRON.sub(lambda match: match[0][:3].upper(), field) for field in fields]
+    fields[4] = TO_SUNDAY.sub(_to_sunday, fields[4])
     changed = " ".join(_bounded(field, most) for field, most in zip(fields, GREATEST))
     if any(OF_ONE_VALUE.search(field) for field in changed.split()):
         return
-    is_same = text in PRESETS or WORD_OF_CRON.sub(lambda match: match[0][:3].upper(), text) == changed
+    is_same = text in PRESETS or WORD_OF_CRON.sub(lambda match: match[0][:3].upper(), written) == changed
     yield case.replace(f'change to "{changed}"', quoted(changed), here.value.span, is_safe=is_same)
+
+
+def _to_sunday(match: re.Match[str]) -> str:
+    """The days up to Sunday, which is the first day of a week: all of them, or those up to Saturday and Sunday."""
+    first, saturday, sunday = match[1], *(("6", "0") if match[2] == "7" else ("SAT", "SUN"))
+    if first in ("0", "1", "SUN", "MON"):
+        return "*"
+    return f"{first},{sunday}" if first == saturday else f"{first}-{saturday},{sunday}"
 
 
 def _of_day(match: re.Match[str]) -> str:
@@ -245,11 +272,16 @@ def _jobs_without_key(case: Case) -> list[str]:
     return list(dict.fromkeys(item.value for item in _needs(case) if item.value not in jobs))
 
 
+def _steps_of(case: Case) -> list[Node]:
+    """The steps of the fault's job, or of the action."""
+    steps = case.at("jobs", case.job, "steps") if case.job else case.at("runs", "steps")
+    return list(steps.items) if steps else []
+
+
 def _ids_without_step(case: Case) -> list[str]:
     """The ids in expressions that no step of the fault's job has."""
     job = case.at("jobs", case.job) if case.job else case.at("runs")
-    steps = job.get("steps") if job else None
-    ids = [step.text("id") for step in steps.items] if steps else []
+    ids = [step.text("id") for step in _steps_of(case)]
     used = [chain.names for chain in case.chains_between(job.start, job.end)] if job else []
     return list(dict.fromkeys(names[1] for names in used if len(names) > 2 and names[0].lower() == "steps" and names[1] not in ids))
 
@@ -276,9 +308,13 @@ def another_id(case: Case) -> Iterable[Repair]:
     here = case.key or case.value
     node = here.key if here and case.key and here.key else here.value if here else None
     used = _ids_without_step(case)
-    written = files.written_outputs(here.parent) if here else []
-    if here and not case.key and len(used) == 1 and (not written or set(written) & set(_outputs_of(case, used[0]))):
-        yield case.replace(f'change to "{used[0]}"', used[0], here.value.span)
+    asked = set(_outputs_of(case, used[0])) if len(used) == 1 and not case.key else set()
+    same = [step for step in _steps_of(case) if node and step.text("id") == node.value]
+    wrong = next((one for one in same if asked & set(files.written_outputs(one))), None)
+    if wrong is None and here and len(used) == 1 and not case.key and not files.written_outputs(here.parent):
+        wrong = here.parent
+    if wrong and (id_ := wrong.get("id")):
+        yield case.replace(f'change to "{used[0]}"', used[0], id_.span)
     elif node:
         taken = set(re.findall(r"-(\d+)(?!\d)", case.text))
         name = f"{node.value}-" + next(str(number) for number in itertools.count(2) if str(number) not in taken)
@@ -288,7 +324,9 @@ def another_id(case: Case) -> Iterable[Repair]:
 def near_job(case: Case) -> Iterable[Repair]:
     """A similar job of the file in place of one that doesn't exist, or removes it. Nothing if it is a word of a job's key that is no id."""
     here = case.value
-    if here and case.tree:
+    entries = list(_entries_in_lines(case, here)) if here else []
+    yield from entries
+    if here and case.tree and not entries:
         jobs = [name for name in case.tree.names("jobs") if name != case.job]
         if any(case.arguments[0] in name.split() for name in jobs):
             return
@@ -296,9 +334,22 @@ def near_job(case: Case) -> Iterable[Repair]:
         if len(words) > 1 and all(word in jobs for word in words):
             text = ", ".join(words)
             yield case.replace("make it a list", text if isinstance(here.path[-1], int) else f"[{text}]", here.value.span, is_safe=True)
+        found = likely(case.arguments[0], jobs)
+        asked = [name for name in _jobs_asked_for(case) if name in jobs]
+        found = [(asked[0], False)] if len(asked) == 1 and not any(is_slip for _, is_slip in found) else found
         yield from (case.replace(f'change to "{name}"', as_scalar(name, here.value.style, False), here.value.span, is_slip)
-                    for name, is_slip in likely(case.arguments[0], jobs))
+                    for name, is_slip in found)
     yield from without_need(case)
+
+
+def _jobs_asked_for(case: Case) -> list[str]:
+    """The jobs whose results the expressions of the fault's job read and its `needs` lacks."""
+    job = case.at("jobs", case.job) if case.job else None
+    if job is None or case.tree is None or case.job is None:
+        return []
+    chains = [chain.names for chain in case.chains_between(job.start, job.end) if len(chain.names) > 1]
+    used = dict.fromkeys(names[1] for names in chains if names[0].lower() == "needs")
+    return [name for name in used if name not in files.needed(case.tree, case.job)]
 
 
 def without_need(case: Case) -> Iterable[Repair]:

@@ -23,7 +23,7 @@ PROPERTIES_OF_ALL = {"needs": ["result", "outputs"], "steps": ["outputs", "outco
 
 # The contexts in which a name is looked for: those whose names a file declares, and those of a word without a context.
 DECLARED = ("matrix", "inputs", "env", "needs", "steps", "secrets")
-OF_CONTEXTS = ("matrix", "inputs", "env", "needs", "steps", "github", "runner")
+OF_CONTEXTS = ("matrix", "inputs", "env", "needs", "steps", "github", "runner", "job")
 
 
 def scope_of(case: Case) -> Scope | None:

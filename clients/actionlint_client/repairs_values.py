@@ -15,6 +15,7 @@ from .tree import Node
 PLACEHOLDER = re.compile(r"\{(\d{1,3})\}")
 # Contexts whose names are those of a file or a repository, so that none is a property of another context.
 OF_FILES = ("env", "secrets", "vars", "inputs", "matrix")
+CALL_WITH_REF = re.compile(r"(?:startsWith|endsWith|contains)\(\s*('+refs/[^',]*'+\s*\))", re.I)
 # What expressions can't ask of a text.
 LENGTHS = ("length", "len", "size", "count")
 # What of a job or a step is compared with a text, and of which objects.
@@ -120,6 +121,13 @@ def _values_of_row(case: Case, chain: Sequence[str]) -> list[Node]:
     return [*(row.items if row else ()), *(value for item in (include.items if include else ()) if (value := item.get(chain[1])))]
 
 
+def of_a_ref(case: Case) -> Iterable[Repair]:
+    """The ref as the first argument of a call that has only the text that it is compared with."""
+    match = CALL_WITH_REF.match(case.line, case.span.start.column)
+    if match:
+        yield case.replace("ask github.ref", "github.ref, ", Span.at(Point(case.span.start.line, match.start(1))))
+
+
 def fewer_arguments(case: Case) -> Iterable[Repair]:
     """A call without its last arguments, if the function takes as few."""
     line, column = case.line, case.span.start.column
@@ -192,7 +200,7 @@ def _numbered(text: str, count: int) -> str:
 
 
 REPAIRS: dict[str, tuple[Callable[[Case], Iterable[Repair]], ...]] = {
-    "X11": (fewer_arguments,),
+    "X11": (of_a_ref, fewer_arguments),
     "X12": (all_results, as_json),
     "X14": (without_index,),
     "X15": (compared_part,),

@@ -8,7 +8,7 @@ from typing import Callable, Iterable
 
 from .names import likely, names
 from .operators import OPERATORS, choice_in, grouped
-from .repair import COMMENT, Case, Edit, Repair, quoted
+from .repair import COMMENT, Case, Edit, Repair, known_keys, quoted
 from .repairs_blocks import CLOSERS, open_brackets
 from .repairs_expressions import title_of
 from .repairs_levels import indent_of, moved_line
@@ -20,7 +20,7 @@ from .text import Point, Span
 FLOW_ITEM = re.compile(r"[^,\[\]{}]*")
 COLON_WITHOUT_SPACE = re.compile(r"^ *(?:- +)?[A-Za-z_][\w-]*:(?=[^\s/:])")
 DASH_WITHOUT_SPACE = re.compile(r"^( *)-(?=[A-Za-z_][\w-]*:(?: |$))")
-SEMICOLON = re.compile(r"^ *(?:- +)?([A-Za-z_][\w-]*) *;\s*$")
+SEMICOLON = re.compile(r"^ *(?:- +)?([A-Za-z_][\w-]*) *;(?=\s|$)")
 FIRST_WORD = re.compile(r"^ *(?:- +)?([A-Za-z_][\w-]*)(?= (?! *=)|$)")
 EQUALS = re.compile(r"^ *(?:- +)?([A-Za-z_][\w-]*) *= *(?=[^=\s])")
 KEY_IN_BRACKETS = re.compile(r"\s*[\w-]+: +")
@@ -33,10 +33,17 @@ ANCHOR = re.compile(r"(?<!\S)&([^\s,\[\]{}]+)")
 ALIAS = re.compile(r"\*([^\s,\[\]{}]+)")
 ODD_SPACE = re.compile("[\u00a0\u2000-\u200a\u202f\u3000]")
 ODD_START = re.compile("[ \u00a0\u2000-\u200a\u202f\u3000-]*(?:[\\w-]+:)?[ \u00a0\u2000-\u200a\u202f\u3000]*")
-SIGNS_OF_LINES = re.compile(r"[|>][-+]{2,}")
+SIGNS_OF_LINES = re.compile(r"([|>])[|>:]* ?([-+]?)[-+]*:?")
 WIDE_DASH = re.compile(r"^( *)- {2,}(?=[A-Za-z_][\w-]*:)")
 PLAIN_ITEM = re.compile(r" *- [\w./*-]+")
 ITEM = re.compile(r"""(?:[\w-]+: *)?(?:'[^']*'|"[^"]*"|[^'"]*)""")
+KEY_IN_VALUE = re.compile(r"(?<=[^\s,]) +(?=([a-z][\w-]*): )")
+# An entry of a list in brackets that begins with one quote and ends with the other.
+OTHER_QUOTE_AT_END = re.compile(r"""(?<=[\[,{])\s*(['"])(?!\1)[^'"\[\]{},]+(?!\1)['"](?=\s*[,\]}])""")
+OTHER_CLOSER = re.compile(r"(?<![)}\]>])[)}\]>]$")
+# Several entries of a mapping beside each other.
+PAIRS = re.compile(r"[\w-]+: [^\s,\[\]{}:]+(?:, *[\w-]+: [^\s,\[\]{}:]+)+")
+ITEM_WITHOUT_SPACE = re.compile(r"( *)-(?=[\w./@'\"])")
 MAX_ITEMS = 30
 MAX_LINES_OF_LIST = 30
 # Words in quotes before others.
@@ -52,7 +59,9 @@ def with_quotes(case: Case) -> Iterable[Repair]:
         if span and span.start.column <= (case.span.start.column if line == number else span.end.column):
             text = case.slice(span)
             if not _opens_quote(text) and not _is_collection(text):
-                yield case.replace("put it in quotes", quoted(text), span, is_safe=line == number and _takes_texts(case, span))
+                is_whole = line == number and _takes_texts(case, span) and not _key_in_value(case, line)
+                is_whole = is_whole and not PAIRS.fullmatch(case.lines[line].strip())
+                yield case.replace("put it in quotes", quoted(text), span, is_safe=is_whole)
     yield from list(_quoted_expressions(case)) or _quoted_item(case)
 
 
@@ -120,13 +129,43 @@ def _end_of_item(line: str, start: int) -> int:
 
 
 def pair_below(case: Case) -> Iterable[Repair]:
-    """A key with its value that follow another key, on a line of their own."""
+    """A key with its value that follow another key, on a line of their own; several of them in braces."""
     span = case.rest_span(case.span.start.line)
     elements = case.outline.lines[case.span.start.line].elements
-    if span and elements and elements[-1].name is not None and re.match(r"[\w-]+:(?: |$)", case.slice(span)):
+    item = re.fullmatch(rf"( *- )({PAIRS.pattern})\s*", case.line)
+    if item:
+        yield case.replace("make it a mapping", "{" + item[2] + "}", Span.on_line(case.span.start.line, item.start(2), item.end(2)))
+    elif PAIRS.fullmatch(case.line.strip()):
+        column = indent_of(case.line)
+        lines = ("\n" + " " * column).join(re.split(", *", case.line.strip()))
+        yield case.replace("write each on a line of its own", lines, Span.on_line(case.span.start.line, column, len(case.line)))
+    elif span and case.slice(span)[:1] == "[" and PAIRS.fullmatch(case.slice(span)[1:-1]):
+        yield case.replace("make it a mapping", "{" + case.slice(span)[1:-1] + "}", span)
+    if span and elements and elements[-1].name is not None and PAIRS.fullmatch(case.slice(span)):
+        yield case.replace("make it a mapping", "{" + case.slice(span) + "}", span)
+    elif span and elements and elements[-1].name is not None and re.match(r"[\w-]+:(?: |$)", case.slice(span)):
         start = Point(case.span.start.line, elements[-1].end)
         indent = "\n" + " " * (elements[-1].column + 2)
         yield case.replace("move it to a line of its own", indent + case.slice(span), Span(start, span.end))
+
+
+def key_in_value(case: Case) -> Iterable[Repair]:
+    """A key of the section that follows a value on its line, on a line of its own."""
+    found = _key_in_value(case, case.span.start.line)
+    if found:
+        indent = "\n" + " " * case.outline.lines[case.span.start.line].elements[-1].column
+        spaces = Span.on_line(case.span.start.line, found.start(), found.end())
+        yield case.replace(f'move "{found[1]}" to a line of its own', indent, spaces)
+
+
+def _key_in_value(case: Case, line: int) -> re.Match[str] | None:
+    """The spaces before a key in a value whose section has the key."""
+    span, elements = case.rest_span(line), case.outline.lines[line].elements
+    if span is None or not elements or elements[-1].name is None:
+        return None
+    place = case.outline.place(Point(line, elements[-1].column))
+    known = known_keys(case.file, place.path, (*place.around, place.siblings), {*place.siblings, elements[-1].name})
+    return next((match for match in KEY_IN_VALUE.finditer(case.lines[line], span.start.column) if match[1] in known), None)
 
 
 def as_condition(case: Case) -> Iterable[Repair]:
@@ -176,9 +215,15 @@ def closed_above(case: Case) -> Iterable[Repair]:
         text = case.slice(span) if span else ""
         if span and _opens_quote(text):
             yield from _other_quote_at_end(case, text, span)
+            yield from _one_quote_at_end(case, text, span)
             yield case.replace("close the quotes", text[:1], Span.at(span.end))
             return
         open_quote = next((sign for sign in "'\"" if text[:1] in CLOSERS and text.count(sign) % 2), None)
+        other_end = OTHER_QUOTE_AT_END.search(text) if open_quote else None
+        if span and other_end:
+            column = span.start.column + other_end.end()
+            yield case.replace(f"close the quotes with {other_end[1]}", other_end[1], Span.on_line(line, column - 1, column))
+            return
         if span and open_quote:
             ends = [*(match.start() for match in islice(re.finditer(",", text), MAX_ITEMS)), len(text.rstrip("]} "))]
             for end in (end for end in ends if _has_whole_items(text[:end] + open_quote + text[end:])):
@@ -194,6 +239,13 @@ def _other_quote_at_end(case: Case, text: str, span: Span) -> Iterable[Repair]:
         yield case.replace(f"close the quotes with {text[:1]}", text[:1], end)
 
 
+def _one_quote_at_end(case: Case, text: str, span: Span) -> Iterable[Repair]:
+    """A text with two quotes at its end in place of one."""
+    quote = text[:1]
+    if quote in ("'", '"') and text.endswith(quote * 2) and text.count(quote) == 3 and len(text) > 3:
+        yield case.replace("write one quote at the end", quote, Span.on_line(span.end.line, span.end.column - 2, span.end.column))
+
+
 def _has_whole_items(text: str) -> bool:
     """Whether the quotes of a list or mapping in brackets are around whole values."""
     return all(ITEM.fullmatch(item.strip(" []{}")) for item in text.split(","))
@@ -205,6 +257,10 @@ def closed_quote(case: Case) -> Iterable[Repair]:
     span = case.rest_span(case.span.start.line)
     if span and span.start == case.span.start:
         yield from _other_quote_at_end(case, case.slice(span), span)
+        of_one = list(_one_quote_at_end(case, case.slice(span), span))
+        yield from of_one
+        if of_one:
+            return
     quote = line[case.span.start.column:case.span.start.column + 1]
     signs = (at for at in (line.find(sign) for sign in (" #", "]", "}", ",")) if at > case.span.start.column)
     ends = dict.fromkeys([len(line.rstrip()), *(len(line[:at].rstrip()) for at in signs)])
@@ -232,6 +288,13 @@ def brackets_closed_above(case: Case) -> Iterable[Repair]:
     for line in range(number, max(number - MAX_LINES_OF_LIST, -1), -1):
         span = case.rest_span(line)
         open_signs = open_brackets(case.slice(span)) if span else []
+        if span and open_signs == ["["] and case.slice(span).startswith("[[") and case.slice(span).endswith("]"):
+            yield case.replace("write one bracket", "[", Span.on_line(line, span.start.column, span.start.column + 2))
+        closer = CLOSERS[open_signs[0]] if len(open_signs) == 1 else ""
+        if span and closer and OTHER_CLOSER.search(case.slice(span)) and not case.slice(span).endswith(closer):
+            end = span.end.column
+            yield case.replace(f'change to "{closer}"', closer, Span.on_line(line, end - 1, end))
+            return
         if span and open_signs:
             last = next((one for one in range(number - 1, line, -1) if case.lines[one].strip()), line)
             lines = case.outline.lines[line + 1:last + 1]
@@ -269,13 +332,14 @@ def as_expression(case: Case) -> Iterable[Repair]:
     the dollar."""
     span = case.rest_span(case.span.start.line)
     text = case.slice(span).strip() if span else ""
-    if span and text.startswith("{{") and text.endswith("}}"):
-        yield case.replace("write a dollar before the braces", "$" + text, span, is_safe=True)
-    elif span and text.startswith("{{") and CHAIN_IN_BRACES.match(text):
-        yield case.replace("write a dollar before the braces", CHAIN_IN_BRACES.sub(r"${{\1}}", text), span)
+    is_one = text.endswith("}}") and text.count("{{") == 1
+    if span and text.startswith("{{") and (is_one or CHAIN_IN_BRACES.match(text)):
+        changed = "$" + text if is_one else CHAIN_IN_BRACES.sub(r"${{\1}}", text)
+        yield case.replace("write a dollar before the braces", changed, span, is_safe=is_one)
     key = case.outline.lines[case.span.start.line].elements[-1:]
-    if span and text[:1] in ("'", '"') and "${{" in text and "}}" in text and not (key and key[0].name == "run"):
-        bare = QUOTED_BRACES.sub(lambda match: match[1].strip(), text).replace('"', "'")
+    if span and text[:1] in ("'", '"') and "${{" in text and "}}" in text and key and key[0].name == "if":
+        beside = () if QUOTED_BRACES.fullmatch(text) else OPERATORS
+        bare = QUOTED_BRACES.sub(lambda match: grouped(match[1].strip(), beside), text).replace('"', "'")
         yield case.replace("write it as an expression", "${{ " + bare + " }}", span)
     if span and OTHER_SIGN.match(text):
         yield case.replace(f'write "$" for "{text[0]}"', "$" + text[1:], span)
@@ -314,6 +378,24 @@ def with_space(case: Case) -> Iterable[Repair]:
     """A space after a colon or a dash that has none."""
     for place, match in _after_match(case, COLON_WITHOUT_SPACE, DASH_WITHOUT_SPACE):
         yield case.replace(f"add a space after the {'colon' if match[0].endswith(':') else 'dash'}", " ", place, is_safe=True)
+
+
+def with_spaced_items(case: Case) -> Iterable[Repair]:
+    """The entries of a list that lack the space after the dash, with it, beside an entry that has it."""
+    number, lines = case.span.start.line, case.lines
+    match = next((found for one in (number, number - 1) if one >= 0 and (found := ITEM_WITHOUT_SPACE.match(lines[one]))), None)
+    if match is None:
+        return
+
+    dash = match[1] + "-"
+
+    def of_list(numbers: Iterable[int]) -> list[int]:
+        return list(itertools.takewhile(lambda one: lines[one].startswith(dash), numbers))
+    around = [*of_list(range(number, max(number - MAX_LINES_OF_LIST, -1), -1)),
+              *of_list(range(number + 1, min(number + MAX_LINES_OF_LIST, len(lines))))]
+    edits = [Edit(Span.at(Point(one, match.end())), " ") for one in around if ITEM_WITHOUT_SPACE.match(lines[one])]
+    if len(edits) < len(around):
+        yield case.of("add a space after the dash", *edits, is_safe=True)
 
 
 def without_spaces_after_dash(case: Case) -> Iterable[Repair]:
@@ -385,9 +467,10 @@ def without_line(case: Case) -> Iterable[Repair]:
 def text_on_next_line(case: Case) -> Iterable[Repair]:
     """The text after `|`, on a line of its own; or `|` with one sign after it."""
     line = case.outline.lines[case.span.start.line]
-    if SIGNS_OF_LINES.fullmatch(line.rest):
+    signs = SIGNS_OF_LINES.fullmatch(line.rest)
+    if signs:
         start = Point(case.span.start.line, case.line.rindex(line.rest))
-        text = line.rest[:2]
+        text = signs[1] + signs[2]
         yield case.replace(f'write "{text}"', text, Span(start, Point(start.line, start.column + len(line.rest))))
         return
     column = line.elements[-1].column if line.elements else 0
@@ -408,8 +491,8 @@ def quoted_key(case: Case) -> Iterable[Repair]:
 REPAIRS: dict[str, tuple[Callable[[Case], Iterable[Repair]], ...]] = {
     "Y2": (without_character,),
     "Y3": (spaces_for_tabs,),
-    "Y4": (plain_spaces, comment, list_in_line, without_spaces_after_dash, with_dash, with_colon, with_space, script_below, moved_line,
-           with_quotes),
+    "Y4": (plain_spaces, comment, list_in_line, without_spaces_after_dash, with_spaced_items, with_dash, with_colon, with_space,
+           script_below, moved_line, with_quotes),
     "Y5": (closed_quote,),
     "Y6": (closed_bracket, with_quotes),
     "Y7": (with_quotes, quoted_key),
@@ -419,8 +502,8 @@ REPAIRS: dict[str, tuple[Callable[[Case], Iterable[Repair]], ...]] = {
     "Y11": (without_line,),
     "Y12": (single_quotes,),
     "Y13": (plain_spaces, comment, as_condition, as_expression, as_schedule, list_in_line, closed_above, inner_quotes, pair_below,
-            script_without_sign, script_in_lines, script_below, with_quotes, as_block, with_space, with_colon, text_in_script,
-            brackets_closed_above, moved_line, without_character),
+            key_in_value, with_spaced_items, script_without_sign, script_in_lines, script_below, with_quotes, as_block, with_space,
+            with_colon, text_in_script, brackets_closed_above, moved_line, without_character),
     "Y16": (text_on_next_line,),
     "Y17": (as_expression, with_colon, with_quotes, quoted_key),
     "Y18": (near_alias, with_quotes),

@@ -197,6 +197,13 @@ def more(program: str) -> None:
         check(program, slip)
 
 
+@CASES.case
+def odd_words(program: str) -> None:
+    """Mistakes with words of other services, with signs too many or too few, and at odd places."""
+    for slip in read_slips(SLIPS / "odd.txt"):
+        check(program, slip)
+
+
 def every_text() -> Iterator[tuple[str, dict[str, str]]]:
     """The texts of all slips, and those of the examples of all faults."""
     for path in sorted(SLIPS.glob("*.txt")):
