@@ -158,7 +158,8 @@ def print_table(top, steps, elapsed):
     print("|---|--:|--:|--:|--:|--:|--:|--:|--:|")
     for crate in named:
         lines, edits = size_of(top, crate)
-        print(f"| `{crate}` | {lines:,} | {cell(steps, crate, 'proof')} | {cell(steps, crate, 'tests')} | {edits or ''} | {cell(steps, crate, 'edits')} |")
+        proof, tests, tried = (cell(steps, crate, it) for it in STEPS)
+        print(f"| `{crate}` | {lines:,} | {proof} | {tests} | {edits or ''} | {tried} |")
     total = [sum(it.total() for (_, step), it in steps.items() if step == kind) / 60 for kind in STEPS]
     used = resource.getrusage(resource.RUSAGE_CHILDREN)
     whole = (used.ru_utime + used.ru_stime) / 60
