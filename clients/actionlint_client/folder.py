@@ -176,12 +176,7 @@ class Folder:
         return Result(self._faults, self._refused | self._files.unreadable, told)
 
     def _update_files(self) -> None:
-        try:
-            changed = self._files.update()
-        except LinterMissing:
-            # If the linter is missing as well, that is told.
-            self._started()
-            raise
+        changed = self._files.update()
         self._unsent |= changed
         self._untold |= changed
 

@@ -147,12 +147,15 @@ def a_folder_whose_program_reads(program: str) -> None:
         before = folder.refresh()
         assert before and set(before.faults) == {FILE, CALLED}, before
         running = folder._facts
+        assert running
+        asked = [running.faults(path) for path in (FILE, CALLED)]
         for path, data in ((FILE, b"name: a\n"), (CALLED, b"a: ["), (ACTION, b"name: a\n")):
             assert (folder.reader.tree(path, data) is None) == (data == b"a: ["), path
+        assert [running.faults(path) for path in (FILE, CALLED)] == asked
         called = before.faults[CALLED]
         folder.edit(FILE, RIGHT.encode())
         after = folder.refresh()
-        assert running and running is folder._facts and after and after.faults == {CALLED: called} and after.changed == {FILE}, after
+        assert running is folder._facts and after and after.faults == {CALLED: called} and after.changed == {FILE}, after
         os.kill(running._child.pid, signal.SIGKILL)
         assert folder.reader.tree(FILE, b"name: a\n") and folder._facts is not running
         folder.edit(CALLED, FILES[CALLED].encode() + b"#\n")

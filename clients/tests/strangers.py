@@ -236,9 +236,10 @@ def names_in_an_editor(program: str) -> None:
     """Symbols, diagnostics, titles of fixes, refusals and messages have code points."""
     name = "a\\e]0;pwn\\a\\u202e\\u200bb"
     seen = "a<U+001B>]0;pwn<U+0007><U+202E><U+200B>b"
-    text = f'name: "{name}"\n' + steps(f'- name: "{name}"', "  run: echo", "- uses: ./act", '  with: {"x\\u202e\\u2066y": 1}')
+    text = f'name: "{name}"\n' + steps(f'- name: "{name}"', "  run: echo", "- uses: ./act", '  with: {"check\\u202e\\u2066our": 1}')
     text += '"n\\u202eame": x\n'
-    editor = start(program, {FILE: text, "act/action.yml": "name: a\nruns: {using: node20, main: m.js}\n"})
+    called = 'name: a\ninputs: {"check\\u202e\\u2066out": {}}\nruns: {using: node20, main: m.js}\n'
+    editor = start(program, {FILE: text, "act/action.yml": called})
     editor.open(FILE, text)
     editor.settle()
     (top,) = editor.request("textDocument/documentSymbol", {"textDocument": {"uri": editor.uri(FILE)}})["result"]
@@ -247,10 +248,10 @@ def names_in_an_editor(program: str) -> None:
     assert len(found) == 2 and all(one["name"] == seen for one in found), found
     assert any(one["containerName"] == seen for one in editor.request("workspace/symbol", {"query": ""})["result"])
     messages = editor.texts(FILE)
-    assert any('"x<U+202E><U+2066>y"' in one for one in messages) and not any(map(hidden_in, messages)), messages
+    assert any('"check<U+202E><U+2066>our"' in one for one in messages) and not any(map(hidden_in, messages)), messages
     everywhere = {"start": {"line": 0, "character": 0}, "end": {"line": 100, "character": 0}}
     titles = [one["title"] for one in editor.actions(FILE, everywhere)]
-    assert titles and not any(map(hidden_in, titles)), titles
+    assert any("check<U+202E><U+2066>out" in one for one in titles) and not any(map(hidden_in, titles)), titles
     refused = editor.request("textDocument/rename", {"textDocument": {"uri": editor.uri(FILE)}, "newName": "\u202ex",
                                                      "position": {"line": 3, "character": 3}})["error"]["message"]
     assert "<U+202E>x" in refused and not hidden_in(refused), refused

@@ -259,8 +259,6 @@ WRONG_VERSIONS = {name: WrongVersion(*row) for name, *row in (
      "[Path(linter), Path(os.path.realpath(linter))]", "[Path(linter)]"),
     ("a_linter_that_is_gone_is_not_missed", "folder.py", "promises.py the_linter_goes_and_comes_back",
      "if missing := missing_linter(linter):", 'if missing := "":'),
-    ("a_linter_is_not_missed", "folder.py", "lookup.py language_server",
-     "            self._started()\n            raise", "            raise"),
     ("the_program_of_the_settings_is_not_run", "server.py", "lookup.py a_program_of_the_settings",
      'isinstance(given.get("program"), str)', "False"),
     ("the_program_of_the_settings_may_be_anything", "server.py", "lookup.py a_program_of_the_settings",
