@@ -7,7 +7,6 @@ from __future__ import annotations
 
 import json
 import os
-import re
 import resource
 import shutil
 import signal
@@ -101,18 +100,21 @@ def characters(program: str) -> None:
     their place, also for who reads the JSON."""
     hidden = "".join(chr(one) for one in (0x85, 0x9B, 0x2028, 0x2029, 0x202A, 0x202E, 0x2066, 0x2069))
     written, path = "a\\x85\\x9b\\u2028\\u2029\\u202a\\u202e\\u2066\\u2069b", WORKFLOWS + "\u202ea.yml"
-    called = f'name: x\ninputs: {{"check_{written}_out": {{}}}}\nruns: {{using: node20, main: m.js}}\n'
-    calls = f'on: push\njobs: {{b: {{runs-on: x, steps: [{{uses: ./c, with: {{"check_{written}_our": 1}}}}]}}}}\n'
+    called = 'name: x\ndescription: x\ninputs: {"check\\u202e\\u2066out": {}}\nruns: {using: node20, main: m.js}\n'
+    calls = 'on: push\njobs: {b: {runs-on: x, steps: [{uses: ./c, with: {"check\\u202e\\u2066our": 1}}]}}\n'
     with folder_with({path: f'on: push\njobs: {{}}\n"{written}": 1\n'}) as folder:
         for form in ("sarif", "jsonl", "codequality"):
             status, text, _ = run(program, folder, "--form", form)
             assert status == 1 and not set(text) & set(hidden), (form, text)
             assert "a" + "".join(f"<U+{ord(one):04X}>" for one in hidden) + "b" in json_texts(json.loads(text)), (form, text)
+        for form in ("text", "oneline"):
+            status, text, _ = run(program, folder, "--form", form)
+            assert status == 1 and not set(text) & set(hidden) and "<U+202E>a.yml:3:1" in text and "<U+009B><U+2028>" in text, text
     with folder_with({path: calls, "c/action.yml": called}) as folder:
         for form in ("text", "oneline"):
             status, text, _ = run(program, folder, "--form", form)
-            assert status == 1 and not set(text) & set(hidden) and "<U+202E>a.yml:2:52" in text and "<U+009B><U+2028>" in text, text
-            assert form == "oneline" or re.search(r'change to "check_a(?:<U\+[0-9A-F]{4}>)+b_out"', text), text
+            assert status == 1 and not set(text) & set(hidden) and "<U+202E>a.yml:2:51" in text, text
+            assert "check<U+202E><U+2066>our" in text and (form == "oneline" or 'change to "check<U+202E><U+2066>out"' in text), text
 
 
 def json_texts(value: object) -> str:
