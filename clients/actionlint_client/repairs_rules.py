@@ -25,6 +25,7 @@ OTHER_EVENTS = {"tag": "push", "tags": "push", "commit": "push", "merge": "push"
 PRESETS = {"@hourly": "0 * * * *", "@daily": "0 0 * * *", "@midnight": "0 0 * * *", "@weekly": "0 0 * * 0", "@monthly": "0 0 1 * *",
            "@yearly": "0 0 1 1 *", "@annually": "0 0 1 1 *"}
 WORD_OF_CRON = re.compile(r"[A-Za-z]{3,}")
+DAYS = {day[:2]: day for day in ("SUN", "MON", "TUE", "WED", "THU", "FRI", "SAT")}
 TIME_OF_DAY = re.compile(r"^(\d{1,2}):(\d{2})(?=(?: [\w*/,-]+){3}$|$)")
 TO_SUNDAY = re.compile(r"^(\w+)-(7|SUN)$")
 HOUR_OF_HALF = re.compile(r"\b(\d{1,2})([ap]m)\b", re.I)
@@ -95,6 +96,21 @@ def near_listed(case: Case) -> Iterable[Repair]:
         yield in_its_quotes(case, str(meant))
         return
     yield from (in_its_quotes(case, name, is_slip) for name, is_slip in found)
+    if case.code == "G2" and here and not found:
+        yield from _without_type(case, here, {*others.split(), str(meant)})
+
+
+def _types_there(case: Case, here: Found) -> list[str]:
+    """The other activity types in a list."""
+    types = case.at(*here.path[:-1]) if isinstance(here.path[-1], int) else None
+    return [item.value for item in types.items if item.value != here.value.value] if types else []
+
+
+def _without_type(case: Case, here: Found, meant: set[str]) -> Iterable[Repair]:
+    """The list without a type that stands for another one, or is like one, which the list has too."""
+    types, there = case.at(*here.path[:-1]), _types_there(case, here)
+    if types and (meant & {*there} or likely(here.value.value, there)):
+        yield case.of(f'delete "{here.value.value}"', _without_item(case, types, here.value), deletes=True)
 
 
 def _listed(case: Case) -> list[str]:
@@ -105,7 +121,7 @@ def _listed(case: Case) -> list[str]:
         there = (*on.names(), *(item.value for item in on.items)) if on else ()
         return [name for name in known if name not in there]
     if case.code == "G2" and here and here.path[:1] == ("on",):
-        return table()["activity types"].get(str(here.path[1]), known)
+        return [name for name in table()["activity types"].get(str(here.path[1]), known) if name not in _types_there(case, here)]
     if case.code == "G14" and here and here.path[-1:] != ("permissions",):
         return [name for name in ("read", "write", "none") if takes_access(str(here.path[-1]), name)]
     if case.code == "G19" and here and here.path[:2] == ("on", "workflow_call"):
@@ -204,6 +220,7 @@ def schedule(case: Case) -> Iterable[Repair]:
         return
     fields += ["*"] * (5 - len(fields))
     fields = [WORD_OF_CRON.sub(lambda match: match[0][:3].upper(), field) for field in fields]
+    fields[4] = WORD_OF_CRON.sub(lambda match: DAYS.get(match[0][:2], match[0]), fields[4])
     fields[4] = TO_SUNDAY.sub(_to_sunday, fields[4])
     changed = " ".join(_bounded(field, most) for field, most in zip(fields, GREATEST))
     if any(OF_ONE_VALUE.search(field) for field in changed.split()):
