@@ -16,7 +16,7 @@ PLAIN_KEY = re.compile(r"[\w.-]+")
 WORD_BEFORE_COLON = re.compile(r"\s([\w-]+)$")
 KEY_WITHOUT_SPACE = re.compile(r"(['\"]?[A-Za-z_][\w-]*['\"]?):(?![\s/:])(.+)")
 QUOTED_TEXTS = re.compile(r"""('[^']*'|"[^"\\]*")(?:\s*,\s*('[^']*'|"[^"\\]*"|[\w.-]+))+""")
-PLAIN_TEXT = re.compile(r"[\w.-][\w./:-]*")
+PLAIN_TEXT = re.compile(r"(?:[\w./:-]|\$\{\{[^{}]*\}\})+")
 CLOSERS = {"[": "]", "{": "}"}
 IN_QUOTES = re.compile(r"'[^']*'|\"[^\"]*\"")
 # What begins a value in brackets, quotes or lines, or a comment.
@@ -268,6 +268,8 @@ def with_comma(case: Case) -> Iterable[Repair]:
         yield case.replace("write a comma", ",", Span.on_line(number, semicolon.start(), semicolon.end()))
     elif sign == ":" and key and "{" in before:
         yield case.replace(f'add a comma before "{key[1]}"', ",", Span.at(Point(number, len(before[:key.start()].rstrip()))))
+    elif sign == ";" and _ends_value(before, case.lines[number]):
+        yield case.replace("write a comma", ",", Span.on_line(case.span.start.line, column, column + 1))
     elif sign not in ("", ":", ",", "]", "}") and _ends_value(before, case.lines[number]):
         yield case.replace("add a comma", ",", Span.at(Point(number, len(before))))
 

@@ -92,12 +92,14 @@ def near_listed(case: Case) -> Iterable[Repair]:
     meant = next((name for name in others.split() if name in known), OTHER_VALUES.get(wrong.lower()))
     if case.code == "G12" and wrong in INTERPRETERS:
         return
+    there = _types_there(case, here) if case.code == "G2" and here else []
+    if here and (meant if meant in known else found[0][0] if found else None) in there:
+        yield from _without_type(case, here)
+        return
     if meant in known and not any(is_slip for _, is_slip in found):
         yield in_its_quotes(case, str(meant))
         return
-    yield from (in_its_quotes(case, name, is_slip) for name, is_slip in found)
-    if case.code == "G2" and here and not found:
-        yield from _without_type(case, here, {*others.split(), str(meant)})
+    yield from (in_its_quotes(case, name, is_slip) for name, is_slip in found if name not in there)
 
 
 def _types_there(case: Case, here: Found) -> list[str]:
@@ -106,10 +108,10 @@ def _types_there(case: Case, here: Found) -> list[str]:
     return [item.value for item in types.items if item.value != here.value.value] if types else []
 
 
-def _without_type(case: Case, here: Found, meant: set[str]) -> Iterable[Repair]:
-    """The list without a type that stands for another one, or is like one, which the list has too."""
-    types, there = case.at(*here.path[:-1]), _types_there(case, here)
-    if types and (meant & {*there} or likely(here.value.value, there)):
+def _without_type(case: Case, here: Found) -> Iterable[Repair]:
+    """The list without a type that stands for one that the list has too."""
+    types = case.at(*here.path[:-1])
+    if types:
         yield case.of(f'delete "{here.value.value}"', _without_item(case, types, here.value), deletes=True)
 
 
@@ -121,7 +123,7 @@ def _listed(case: Case) -> list[str]:
         there = (*on.names(), *(item.value for item in on.items)) if on else ()
         return [name for name in known if name not in there]
     if case.code == "G2" and here and here.path[:1] == ("on",):
-        return [name for name in table()["activity types"].get(str(here.path[1]), known) if name not in _types_there(case, here)]
+        return table()["activity types"].get(str(here.path[1]), known)
     if case.code == "G14" and here and here.path[-1:] != ("permissions",):
         return [name for name in ("read", "write", "none") if takes_access(str(here.path[-1]), name)]
     if case.code == "G19" and here and here.path[:2] == ("on", "workflow_call"):

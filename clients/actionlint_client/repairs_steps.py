@@ -19,6 +19,8 @@ from .tree import last_line
 OTHER_IDS = ("id", "ids", "step-id", "step_id", "stepid", "key")
 MAX_NAMES = 40
 STEP_STARTS = ("name", "id", "if")
+# Values of an action's name as a key that say nothing more.
+VALUES_OF_ACTIONS = ("self", "true", "yes", ".")
 USING_OF_KEYS = {"main": "node20", "steps": "composite", "image": "docker"}
 PROPERTIES_OF_ALL = {"needs": ["result", "outputs"], "steps": ["outputs", "outcome", "conclusion"]}
 
@@ -190,7 +192,7 @@ def named_action(case: Case) -> Iterable[Repair]:
     steps = (here.value if case.code == "K2" else here.parent) if here else None
     for key, value in steps.entries if steps and steps.get("run") is None and steps.get("uses") is None else ():
         action = f"actions/{key.value}"
-        for version in versions(case.project, action) if action in VERSIONS and value.kind == "scalar" and value.value else ():
+        for version in versions(case.project, action) if action in VERSIONS and value.value in VALUES_OF_ACTIONS else ():
             yield case.replace(f'call "{action}@{version}"', f"uses: {action}@{version}", Span(key.span.start, value.span.end))
 
 

@@ -106,7 +106,8 @@ def _takes_texts(case: Case, span: Span) -> bool:
     shape = shape_at(case.file, place.path, (*place.around, {}))
     text = case.slice(span)
     is_text = shape is not None and not shape["items"] and not shape["free"] and "keys" not in shape and shape["scalars"] == "AnyScalar"
-    has_meaning = text.startswith(("|", ">", "'", '"', "`${{")) or "?" in text or IS_PAIR.match(text) is not None or OTHER_SIGN.match(text)
+    begins_other = text.startswith(("- ", "|", ">", "'", '"', "`${{"))
+    has_meaning = begins_other or "?" in text or IS_PAIR.match(text) is not None or OTHER_SIGN.match(text)
     return is_text and not has_meaning and place.path[-1:] not in (("if",), ("uses",))
 
 
@@ -209,10 +210,12 @@ def inner_quotes(case: Case) -> Iterable[Repair]:
 
 
 def list_in_line(case: Case) -> Iterable[Repair]:
-    """A list whose first dash follows its key on the same line, with the others there or on the lines below."""
+    """A list whose first dash follows its key on the same line, with the others there or on the lines below; or a script after a dash."""
     number = case.span.start.line
     span = case.rest_span(number)
     text = case.slice(span) if span else ""
+    if span and text.startswith("- ") and re.match(r" *(?:- +)?run: +- ", case.line):
+        yield case.replace("delete the dash", "", Span.on_line(number, span.start.column, span.start.column + 2))
     if span and text.startswith("- ") and ": " not in text:
         deeper = " " * (indent_of(case.line) + 1)
         below = itertools.takewhile(lambda line: line.startswith(deeper) and PLAIN_ITEM.fullmatch(line),
