@@ -328,7 +328,7 @@ WRONG_FIXES = (
     ("kinds_are_no_types", "other_keys.py", MORE, '"type": "kind"', '"type": "sort"'),
     ("backticks_are_meant", "repairs_leftovers.py", MORE, '"Y13": (side_of_conflicts, without_fences, without_backticks),',
      '"Y13": (side_of_conflicts, without_fences),'),
-    ("backticks_are_a_text", "repairs_yaml.py", MORE, """"'", '"', "`${{")) or""", """"'", '"')) or"""),
+    ("backticks_are_a_text", "repairs_yaml.py", MORE, """"'", '"', "`${{"))\n""", """"'", '"'))\n"""),
     ("a_script_is_an_expression", "repairs_yaml.py", MORE,
      ' and "}}" in text and key and key[0].name == "if":', ' and "}}" in text and key:'),
     ("seconds_are_minutes", "repairs_keys.py", MORE, "if here is None or UNIT_OF_LIMIT.fullmatch(wrong):", "if here is None:"),
