@@ -70,6 +70,21 @@ def _is_part(words: str, name: str) -> bool:
     return name.endswith(words) and SEPARATORS.fullmatch(name[-len(words) - 1]) is not None
 
 
+def short_forms(wrong: str, known: Iterable[str]) -> list[str]:
+    """The name that is a short form of a wrong one, or the other way round: the first letters of its words, or consonants of it."""
+    found = [name for name in islice(known, MAX_NAMES) if _is_short_form(name, wrong) or _is_short_form(wrong, name)]
+    return found if len(found) == 1 else []
+
+
+def _is_short_form(short: str, word: str) -> bool:
+    if not 2 <= len(short) <= len(word) // 2 or len(word) > MAX_WORD_CHARACTERS or not short.isalpha():
+        return False
+    short, parts = short.lower(), SEPARATORS.split(word.lower())
+    letters = iter(word.lower())
+    is_of_consonants = short[0] == word[0].lower() and not set(short) & set("aeiou") and all(sign in letters for sign in short)
+    return "".join(part[:1] for part in parts) == short or len(parts) == 1 and is_of_consonants
+
+
 def _opposites(name: str) -> bool:
     """Whether a name has a word that turns its meaning round."""
     return not OPPOSITES.isdisjoint(SEPARATORS.split(name.lower()))

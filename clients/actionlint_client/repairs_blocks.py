@@ -7,18 +7,22 @@ from itertools import takewhile
 from typing import Callable, Iterable, Iterator
 
 from .repair import Case, Edit, Repair
+from .repairs_keys import SHORT_FORMS
 from .repairs_levels import destination, indent_of, moved_line, section_of
-from .syntax import shape_at
+from .syntax import shape_at, table
 from .text import Point, Span
 
 PLAIN_KEY = re.compile(r"[\w.-]+")
 WORD_BEFORE_COLON = re.compile(r"\s([\w-]+)$")
 KEY_WITHOUT_SPACE = re.compile(r"(['\"]?[A-Za-z_][\w-]*['\"]?):(?![\s/:])(.+)")
 QUOTED_TEXTS = re.compile(r"""('[^']*'|"[^"\\]*")(?:\s*,\s*('[^']*'|"[^"\\]*"|[\w.-]+))+""")
+PLAIN_TEXT = re.compile(r"(?:[\w./:-]|\$\{\{[^{}]*\}\})+")
 CLOSERS = {"[": "]", "{": "}"}
 IN_QUOTES = re.compile(r"'[^']*'|\"[^\"]*\"")
 # What begins a value in brackets, quotes or lines, or a comment.
 NO_PLAIN_TEXT = ("|", ">", "'", '"', "[", "{", "&", "*", "!", "#", "%", "@", "`", "")
+# Of which a step has one.
+OF_ONE_STEP = {"run", "uses"}
 MAX_LINES_ABOVE = 200
 MAX_LINES_OF_ENTRY = 60
 
@@ -123,13 +127,38 @@ def entry_without_dash(case: Case) -> Iterable[Repair]:
         begun = case.of("add a dash", Edit(Span.at(Point(first, column)), "- "), *(Edit(Span.at(Point(one, 0)), "  ") for one in more))
         above = _keys_of_entry_above(case, first, column)
         keys = [first, *(one for one in rest if _is_key_at(case, one, column))]
-        if above and not above & {case.outline.lines[one].elements[0].name for one in keys}:
+        names = {case.outline.lines[one].elements[0].name for one in keys}
+        if above and not above & names and not (above & OF_ONE_STEP and names & OF_ONE_STEP):
             if keys == [case.span.start.line]:
                 yield from moved_line(case)
             lines = [one for one in (first, *rest) if case.lines[one].strip()]
             title = f"move it {destination(case, section_of(case, first, column + 2)[0], column + 2)}"
             yield case.of(title, *(Edit(Span.at(Point(one, 0)), "  ") for one in lines))
         yield begun
+
+
+def keys_below_short_form(case: Case) -> Iterable[Repair]:
+    """A section that is written as a text, on the line of its key or below it, with keys of the section below: the text as its first
+    key."""
+    number, outline, own = case.span.start.line, case.outline.lines, indent_of(case.line)
+    word = number - 1
+    is_alone = word > 0 and not outline[word].elements and indent_of(case.lines[word]) == own
+    header = word - is_alone
+    key = outline[header].elements[-1] if header >= 0 and outline[header].elements else None
+    if key is None or key.name not in SHORT_FORMS or key.column >= own or not _is_key_at(case, number, own):
+        return
+    first, shape = SHORT_FORMS[key.name]
+    text = case.lines[word].strip() if is_alone else outline[header].rest
+    if bool(outline[header].rest) == is_alone or not PLAIN_TEXT.fullmatch(text):
+        return
+    name, rest = outline[number].elements[0].name, outline[number].rest
+    end = Point(header, len(case.lines[header]))
+    if name == first and rest == text and not is_alone:
+        yield case.replace(f'delete "{text}" after "{key.name}"', "", Span(Point(header, key.end), end), deletes=True)
+    elif name != first and name in table()["shapes"][shape]["keys"]:
+        begin = Span.at(Point(word, own)) if is_alone else Span(Point(header, key.end), end)
+        entry = f"{first}: " if is_alone else "\n" + " " * own + f"{first}: {text}"
+        yield case.replace(f'write "{first}" before "{text}"', entry, begin)
 
 
 def first_entry_without_dash(case: Case) -> Iterable[Repair]:
@@ -239,6 +268,8 @@ def with_comma(case: Case) -> Iterable[Repair]:
         yield case.replace("write a comma", ",", Span.on_line(number, semicolon.start(), semicolon.end()))
     elif sign == ":" and key and "{" in before:
         yield case.replace(f'add a comma before "{key[1]}"', ",", Span.at(Point(number, len(before[:key.start()].rstrip()))))
+    elif sign == ";" and _ends_value(before, case.lines[number]):
+        yield case.replace("write a comma", ",", Span.on_line(case.span.start.line, column, column + 1))
     elif sign not in ("", ":", ",", "]", "}") and _ends_value(before, case.lines[number]):
         yield case.replace("add a comma", ",", Span.at(Point(number, len(before))))
 
@@ -276,8 +307,9 @@ def space_in_brackets(case: Case) -> Iterable[Repair]:
 
 
 REPAIRS: dict[str, tuple[Callable[[Case], Iterable[Repair]], ...]] = {
-    "Y4": (shallow_lines, key_with_dash, only_entry_without_dash, entry_without_dash, first_entry_without_dash, keys_with_dashes),
-    "Y13": (list_without_brackets, with_comma, other_bracket, shallow_lines, as_folded_text, key_with_dash, only_entry_without_dash,
-            entry_without_dash, first_entry_without_dash, keys_with_dashes),
+    "Y4": (keys_below_short_form, shallow_lines, key_with_dash, only_entry_without_dash, entry_without_dash, first_entry_without_dash,
+           keys_with_dashes),
+    "Y13": (keys_below_short_form, list_without_brackets, with_comma, other_bracket, shallow_lines, as_folded_text, key_with_dash,
+            only_entry_without_dash, entry_without_dash, first_entry_without_dash, keys_with_dashes),
     **{code: (space_in_brackets,) for code in ("K1", "G11", "G13", "G15", "C2", "C5")},
 }

@@ -468,6 +468,8 @@ def _first_value(case: Case, here: Found, name: str) -> str | None:
         return "number" if default and not default.style and re.fullmatch(r"-?\d+(?:\.\d+)?", default.value) else "string"
     if name == "description":
         return here.value.text("name") or MISSING[name]
+    if name == "run" and here.value.get("with") or name == "main" and here.value.get("steps"):
+        return None
     return MISSING.get(name)
 
 

@@ -5,7 +5,7 @@ import re
 from typing import Callable, Iterable
 
 from .expressions import chain_before
-from .names import likely, misspelled
+from .names import likely, misspelled, short_forms
 from .operators import grouped, parts
 from .other_keys import other_keys
 from .paths import is_workflow
@@ -13,8 +13,8 @@ from .repair import Case, Edit, Found, Repair, first_entry, next_entry, quoted, 
 from .other_syntax import with_empty_text
 from .repairs_expressions import choice_by_call, expression_of, in_yaml, is_alternative, is_in_condition, is_operand, rewritten
 from .repairs_needs import declared_output, is_in_other_words, is_written_elsewhere, needed_job, needs_for_jobs, output_of_job
-from .repairs_steps import (OF_CONTEXTS, PROPERTIES_OF_ALL, named_step, names_before, only_job, only_output, only_step, output_of_any_job,
-                            properties_before, same_name_elsewhere, scope_of, shorter_chain, unused_name)
+from .repairs_steps import (DECLARED, OF_CONTEXTS, PROPERTIES_OF_ALL, named_step, names_before, only_job, only_output, only_step,
+                            output_of_any_job, properties_before, same_name_elsewhere, scope_of, shorter_chain, unused_name)
 from .repairs_values import OF_FILES, joined_property
 from .syntax import shape_at, table
 from .text import Point, Span
@@ -56,6 +56,9 @@ def near_name(case: Case) -> Iterable[Repair]:
     word = misspelled(wrong, WORDS) if case.code == "X7" else None
     for name, is_slip in [(word, True)] if word else likely(wrong, known):
         yield case.replace(f'change to "{name}"', quote + name + quote, is_safe=is_slip)
+    if case.code == "X13" and not likely(wrong, known):
+        declared = known if (names_before(case) or ("",))[0].lower() in DECLARED else []
+        yield from (case.replace(f'change to "{name}"', quote + name + quote) for name in short_forms(wrong, declared))
     meant = OTHER_FUNCTIONS.get(wrong.lower()) if case.code == "X9" else None
     if meant in known:
         yield case.replace(f'change to "{meant}"', str(meant))
@@ -126,7 +129,7 @@ def declared_row(case: Case) -> Iterable[Repair]:
     include = case.at("jobs", case.job, "strategy", "matrix", "include")
     if include and include.kind == "mapping" or job.get("matrix") or len(chain) != 2 or chain[0].lower() != "matrix":
         return
-    if likely(chain[1], properties_before(case)):
+    if likely(chain[1], properties_before(case)) or short_forms(chain[1], properties_before(case)):
         return
     value = "ubuntu-latest" if chain[1] == "os" else ""
     row = f"{chain[1]}: [{value or quoted('')}]"

@@ -25,6 +25,7 @@ OTHER_EVENTS = {"tag": "push", "tags": "push", "commit": "push", "merge": "push"
 PRESETS = {"@hourly": "0 * * * *", "@daily": "0 0 * * *", "@midnight": "0 0 * * *", "@weekly": "0 0 * * 0", "@monthly": "0 0 1 * *",
            "@yearly": "0 0 1 1 *", "@annually": "0 0 1 1 *"}
 WORD_OF_CRON = re.compile(r"[A-Za-z]{3,}")
+DAYS = {day[:2]: day for day in ("SUN", "MON", "TUE", "WED", "THU", "FRI", "SAT")}
 TIME_OF_DAY = re.compile(r"^(\d{1,2}):(\d{2})(?=(?: [\w*/,-]+){3}$|$)")
 TO_SUNDAY = re.compile(r"^(\w+)-(7|SUN)$")
 HOUR_OF_HALF = re.compile(r"\b(\d{1,2})([ap]m)\b", re.I)
@@ -91,10 +92,27 @@ def near_listed(case: Case) -> Iterable[Repair]:
     meant = next((name for name in others.split() if name in known), OTHER_VALUES.get(wrong.lower()))
     if case.code == "G12" and wrong in INTERPRETERS:
         return
+    there = _types_there(case, here) if case.code == "G2" and here else []
+    if here and (meant if meant in known else found[0][0] if found else None) in there:
+        yield from _without_type(case, here)
+        return
     if meant in known and not any(is_slip for _, is_slip in found):
         yield in_its_quotes(case, str(meant))
         return
-    yield from (in_its_quotes(case, name, is_slip) for name, is_slip in found)
+    yield from (in_its_quotes(case, name, is_slip) for name, is_slip in found if name not in there)
+
+
+def _types_there(case: Case, here: Found) -> list[str]:
+    """The other activity types in a list."""
+    types = case.at(*here.path[:-1]) if isinstance(here.path[-1], int) else None
+    return [item.value for item in types.items if item.value != here.value.value] if types else []
+
+
+def _without_type(case: Case, here: Found) -> Iterable[Repair]:
+    """The list without a type that stands for one that the list has too."""
+    types = case.at(*here.path[:-1])
+    if types:
+        yield case.of(f'delete "{here.value.value}"', _without_item(case, types, here.value), deletes=True)
 
 
 def _listed(case: Case) -> list[str]:
@@ -204,6 +222,7 @@ def schedule(case: Case) -> Iterable[Repair]:
         return
     fields += ["*"] * (5 - len(fields))
     fields = [WORD_OF_CRON.sub(lambda match: match[0][:3].upper(), field) for field in fields]
+    fields[4] = WORD_OF_CRON.sub(lambda match: DAYS.get(match[0][:2], match[0]), fields[4])
     fields[4] = TO_SUNDAY.sub(_to_sunday, fields[4])
     changed = " ".join(_bounded(field, most) for field, most in zip(fields, GREATEST))
     if any(OF_ONE_VALUE.search(field) for field in changed.split()):

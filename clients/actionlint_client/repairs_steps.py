@@ -6,6 +6,7 @@ import re
 from typing import Callable, Iterable
 
 from . import project as files
+from .action_versions import VERSIONS, versions
 from .expressions import Scope, chain_before
 from .names import likely
 from .paths import is_workflow
@@ -18,6 +19,9 @@ from .tree import last_line
 OTHER_IDS = ("id", "ids", "step-id", "step_id", "stepid", "key")
 MAX_NAMES = 40
 STEP_STARTS = ("name", "id", "if")
+# Values of an action's name as a key that say nothing more.
+VALUES_OF_ACTIONS = ("self", "true", "yes", ".")
+USING_OF_KEYS = {"main": "node20", "steps": "composite", "image": "docker"}
 PROPERTIES_OF_ALL = {"needs": ["result", "outputs"], "steps": ["outputs", "outcome", "conclusion"]}
 
 
@@ -182,6 +186,28 @@ def shell_of_all_steps(case: Case) -> Iterable[Repair]:
         yield case.of("put it on each script", without_entry(case, here.parent, here.key), *edits)
 
 
+def named_action(case: Case) -> Iterable[Repair]:
+    """The call of an action that is known by its name, which is written as a key of a step."""
+    here = case.value if case.code == "K2" else case.key
+    steps = (here.value if case.code == "K2" else here.parent) if here else None
+    for key, value in steps.entries if steps and steps.get("run") is None and steps.get("uses") is None else ():
+        action = f"actions/{key.value}"
+        for version in versions(case.project, action) if action in VERSIONS and value.value in VALUES_OF_ACTIONS else ():
+            yield case.replace(f'call "{action}@{version}"', f"uses: {action}@{version}", Span(key.span.start, value.span.end))
+
+
+def using_of_keys(case: Case) -> Iterable[Repair]:
+    """The kind of action that the keys of `runs` belong to, if they are of another one."""
+    runs = None if is_workflow(case.file) else case.at("runs")
+    using = runs.get("using") if runs else None
+    keys = [key for key in USING_OF_KEYS if runs and runs.get(key)]
+    if runs is None or using is None or len(keys) != 1 or keys == ["main"] and not (runs.text("main") or "").endswith("js"):
+        return
+    meant = USING_OF_KEYS[keys[0]]
+    if using.value != meant and not likely(using.value, [meant]):
+        yield case.replace(f'change "using" to "{meant}"', meant, using.span)
+
+
 def new_step(case: Case) -> Iterable[Repair]:
     """A step that has a second `uses` or `run`, or another key twice, cut in two: at the name, the id or the condition before that key, or
     at the key. The key with which other steps begin comes first. A script before the inputs of a call becomes a step after it."""
@@ -230,5 +256,7 @@ def _first_keys(case: Case, here: Found) -> set[str]:
 
 
 REPAIRS: dict[str, tuple[Callable[[Case], Iterable[Repair]], ...]] = {
-    "K1": (shell_of_all_steps,),
+    "G20": (using_of_keys,),
+    "K1": (named_action, using_of_keys, shell_of_all_steps),
+    "K2": (named_action, using_of_keys),
 }

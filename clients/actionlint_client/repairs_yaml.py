@@ -40,6 +40,7 @@ ITEM = re.compile(r"""(?:[\w-]+: *)?(?:'[^']*'|"[^"]*"|[^'"]*)""")
 KEY_IN_VALUE = re.compile(r"(?<=[^\s,]) +(?=([a-z][\w-]*): )")
 # An entry of a list in brackets that begins with one quote and ends with the other.
 OTHER_QUOTE_AT_END = re.compile(r"""(?<=[\[,{])\s*(['"])(?!\1)[^'"\[\]{},]+(?!\1)['"](?=\s*[,\]}])""")
+SIGN_BEFORE_OWNER = re.compile(r"@[\w.-]+/[\w./-]+@[\w./-]+$")
 OTHER_CLOSER = re.compile(r"(?<![)}\]>])[)}\]>]$")
 # Several entries of a mapping beside each other.
 PAIRS = re.compile(r"[\w-]+: [^\s,\[\]{}:]+(?:, *[\w-]+: [^\s,\[\]{}:]+)+")
@@ -58,11 +59,24 @@ def with_quotes(case: Case) -> Iterable[Repair]:
         span = case.rest_span(line) if 0 <= line else None
         if span and span.start.column <= (case.span.start.column if line == number else span.end.column):
             text = case.slice(span)
+            if _has_sign_before_owner(case, span):
+                return
             if not _opens_quote(text) and not _is_collection(text):
                 is_whole = line == number and _takes_texts(case, span) and not _key_in_value(case, line)
                 is_whole = is_whole and not PAIRS.fullmatch(case.lines[line].strip())
                 yield case.replace("put it in quotes", quoted(text), span, is_safe=is_whole)
     yield from list(_quoted_expressions(case)) or _quoted_item(case)
+
+
+def without_sign_before_owner(case: Case) -> Iterable[Repair]:
+    """An action without the `@` before its owner."""
+    span = case.rest_span(case.span.start.line)
+    if span and _has_sign_before_owner(case, span):
+        yield case.replace('delete the "@"', "", Span.on_line(span.start.line, span.start.column, span.start.column + 1))
+
+
+def _has_sign_before_owner(case: Case, span: Span) -> bool:
+    return SIGN_BEFORE_OWNER.match(case.slice(span)) is not None and case.lines[span.start.line][:span.start.column].endswith("uses: ")
 
 
 def _is_collection(text: str) -> bool:
@@ -92,7 +106,8 @@ def _takes_texts(case: Case, span: Span) -> bool:
     shape = shape_at(case.file, place.path, (*place.around, {}))
     text = case.slice(span)
     is_text = shape is not None and not shape["items"] and not shape["free"] and "keys" not in shape and shape["scalars"] == "AnyScalar"
-    has_meaning = text.startswith(("|", ">", "'", '"', "`${{")) or "?" in text or IS_PAIR.match(text) is not None or OTHER_SIGN.match(text)
+    begins_other = text.startswith(("- ", "|", ">", "'", '"', "`${{"))
+    has_meaning = begins_other or "?" in text or IS_PAIR.match(text) is not None or OTHER_SIGN.match(text)
     return is_text and not has_meaning and place.path[-1:] not in (("if",), ("uses",))
 
 
@@ -195,10 +210,12 @@ def inner_quotes(case: Case) -> Iterable[Repair]:
 
 
 def list_in_line(case: Case) -> Iterable[Repair]:
-    """A list whose first dash follows its key on the same line, with the others there or on the lines below."""
+    """A list whose first dash follows its key on the same line, with the others there or on the lines below; or a script after a dash."""
     number = case.span.start.line
     span = case.rest_span(number)
     text = case.slice(span) if span else ""
+    if span and text.startswith("- ") and re.match(r" *(?:- +)?run: +- ", case.line):
+        yield case.replace("delete the dash", "", Span.on_line(number, span.start.column, span.start.column + 2))
     if span and text.startswith("- ") and ": " not in text:
         deeper = " " * (indent_of(case.line) + 1)
         below = itertools.takewhile(lambda line: line.startswith(deeper) and PLAIN_ITEM.fullmatch(line),
@@ -262,6 +279,10 @@ def closed_quote(case: Case) -> Iterable[Repair]:
         if of_one:
             return
     quote = line[case.span.start.column:case.span.start.column + 1]
+    other = next((match for match in OTHER_QUOTE_AT_END.finditer(line) if match.start(1) == case.span.start.column), None)
+    if other:
+        yield case.replace(f"close the quotes with {quote}", quote, Span.on_line(case.span.start.line, other.end() - 1, other.end()))
+        return
     signs = (at for at in (line.find(sign) for sign in (" #", "]", "}", ",")) if at > case.span.start.column)
     ends = dict.fromkeys([len(line.rstrip()), *(len(line[:at].rstrip()) for at in signs)])
     for end in ends:
@@ -501,9 +522,9 @@ REPAIRS: dict[str, tuple[Callable[[Case], Iterable[Repair]], ...]] = {
     "Y10": (with_quotes, without_line),
     "Y11": (without_line,),
     "Y12": (single_quotes,),
-    "Y13": (plain_spaces, comment, as_condition, as_expression, as_schedule, list_in_line, closed_above, inner_quotes, pair_below,
-            key_in_value, with_spaced_items, script_without_sign, script_in_lines, script_below, with_quotes, as_block, with_space,
-            with_colon, text_in_script, brackets_closed_above, moved_line, without_character),
+    "Y13": (plain_spaces, comment, without_sign_before_owner, as_condition, as_expression, as_schedule, list_in_line, closed_above,
+            inner_quotes, pair_below, key_in_value, with_spaced_items, script_without_sign, script_in_lines, script_below, with_quotes,
+            as_block, with_space, with_colon, text_in_script, brackets_closed_above, moved_line, without_character),
     "Y16": (text_on_next_line,),
     "Y17": (as_expression, with_colon, with_quotes, quoted_key),
     "Y18": (near_alias, with_quotes),
