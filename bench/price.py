@@ -5,7 +5,8 @@ gate runs there (`rt ci`): on a machine that has proved the sources as they are,
 their edits, and builds and runs all tests and programs. Prints for each change how many crates were proved again, the processor minutes,
 and the minutes on at most four processors until the program was built and the tests had passed. --write proves
 nothing: it adds up the noted seconds (tools/proof_seconds.txt) of the crates that change and of those above them, all of which the kit
-proves again, and writes the table of docs/PROVING.md. --check looks whether each change can be made and the table is that of these seconds.
+proves again, and writes the table of docs/PROVING.md and the line below the heading of each change in docs/CHANGING.md. --check looks whether
+each change can be made, and whether both pages have what these seconds give.
 
 A change is a list of replacements, each of three parts: a pattern of paths, a text that occurs once in the files of those paths (`all:` if
 more often), and its new lines. Files that change get a comment with the time, since what was once proved is never proved again.
@@ -35,6 +36,8 @@ from schedule import schedule
 CHANGES = TOP / "bench/changes"
 PAGE = TOP / "docs/PROVING.md"
 TABLE = re.compile(r"(<!-- made by bench/price\.py: prices -->\n)(?:\|.*\n)*")
+STEPS = TOP / "docs/CHANGING.md"
+PRICE = re.compile(r"(<!-- made by bench/price\.py: (\w+) -->\n)(?:.+\n)?")
 REPLACEMENT = re.compile(r"file: (.+)\n(old|all): (.+)\n((?:new: .*\n)+)")
 # a crate, and the seconds of its proof, its tests and its edits
 SECONDS = re.compile(r"^(\w+): (\d+) (\d+) (\d+)$", re.MULTILINE)
@@ -90,26 +93,58 @@ def crates_again(name: str) -> set[str]:
     return {it for it in named if changed & set(with_below(named, it))}
 
 
-def prices(names: list[str]) -> str:
-    """The table of the prices of changes by the noted seconds, in minutes."""
+@dataclass(frozen=True)
+class Price:
+    """What a change costs by the noted seconds: how many crates are proved again, the minutes of their proofs, tests and edits on one
+    processor, and those until the program is built."""
+
+    crates: int
+    parts: tuple[float, ...]
+    built: float
+
+    @property
+    def together(self) -> float:
+        return sum(self.parts)
+
+
+def price_of(name: str) -> Price:
+    """The price of a change."""
     seconds = {it: took for it, *took in SECONDS.findall((TOP / "tools/proof_seconds.txt").read_text())}
+    again = crates_again(name)
+    parts = tuple(sum(int(seconds[it][part]) for it in again if it in seconds) / 60 for part in range(3))
+    return Price(len(again), parts, schedule(TOP, again, PROCESSORS)["actionlint"] / 60)
+
+
+def table_of(prices: dict[str, Price]) -> str:
+    """The table of prices."""
     lines = ["| Change | Crates | Proofs | Tests | Edits | Together | Until the program is built |", "|---|--:|--:|--:|--:|--:|--:|"]
-    for name in names:
-        again = crates_again(name)
-        parts = [sum(int(seconds[it][part]) for it in again if it in seconds) / 60 for part in range(3)]
-        built = schedule(TOP, again, PROCESSORS)["actionlint"] / 60
-        lines.append(" | ".join([f"| {name}", str(len(again)), *(f"{it:.0f}" for it in (*parts, sum(parts), built))]) + " |")
+    for name, price in prices.items():
+        minutes = (*price.parts, price.together, price.built)
+        lines.append(" | ".join([f"| {name}", str(price.crates), *(f"{it:.0f}" for it in minutes)]) + " |")
     return "".join(f"{it}\n" for it in lines)
 
 
+def line_of(price: Price) -> str:
+    """What a page says of the price of a change."""
+    return f"*{price.together:.0f} processor minutes; {price.built:.0f} minutes until the program is built.*\n"
+
+
+def pages_with(prices: dict[str, Price]) -> dict[pathlib.Path, str]:
+    """The pages with these prices. Exits if one lacks the place of a price."""
+    page, steps = PAGE.read_text(encoding="utf-8"), STEPS.read_text(encoding="utf-8")
+    if not TABLE.search(page) or sorted(it[2] for it in PRICE.finditer(steps)) != sorted(prices):
+        sys.exit("a page lacks the place of a price, or has one of another change")
+    return {PAGE: TABLE.sub(lambda it: it[1] + table_of(prices), page), STEPS: PRICE.sub(lambda it: it[1] + line_of(prices[it[2]]), steps)}
+
+
 def check(names: list[str], is_written: bool) -> int:
-    """Looks whether all changes can be made, and whether the page has their prices, or writes these."""
-    text = PAGE.read_text(encoding="utf-8")
-    made = TABLE.sub(lambda it: it[1] + prices(names), text)
+    """Looks whether all changes can be made, and whether the pages have their prices, or writes these."""
+    made = pages_with({name: price_of(name) for name in names})
     if is_written:
-        PAGE.write_text(made, encoding="utf-8")
-    elif made != text or not TABLE.search(text):
-        print("docs/PROVING.md doesn't have the prices by the noted seconds: python3 bench/price.py --write renews them")
+        for page, text in made.items():
+            page.write_text(text, encoding="utf-8")
+    elif any(page.read_text(encoding="utf-8") != text for page, text in made.items()):
+        print("a page doesn't have the prices by the noted seconds: python3 bench/price.py --write renews them")
         return 1
     return 0
 
@@ -144,8 +179,8 @@ def main() -> int:
     every = sorted(it.stem for it in CHANGES.glob("*.change"))
     parser = argparse.ArgumentParser(description="Says what changes cost to prove.")
     parser.add_argument("changes", nargs="*", metavar="CHANGE", default=every, help="one of " + ", ".join(every))
-    parser.add_argument("--check", action="store_true", help="looks whether the changes can be made, and at the table of prices")
-    parser.add_argument("--write", action="store_true", help="writes the table of prices by the noted seconds")
+    parser.add_argument("--check", action="store_true", help="looks whether the changes can be made, and at the prices on pages")
+    parser.add_argument("--write", action="store_true", help="writes the prices by the noted seconds")
     given = parser.parse_args()
     if given.check or given.write:
         return check(every, given.write)
