@@ -37,7 +37,15 @@ CHANGES = TOP / "bench/changes"
 PAGE = TOP / "docs/PROVING.md"
 TABLE = re.compile(r"(<!-- made by bench/price\.py: prices -->\n)(?:\|.*\n)*")
 STEPS = TOP / "docs/CHANGING.md"
-PRICE = re.compile(r"(<!-- made by bench/price\.py: (\w+) -->\n)(?:.+\n)?")
+# below a heading
+PRICE = re.compile(r"(^## (.+)\n\n)\*\d+ processor minutes.+\n", re.MULTILINE)
+# the heading of each change on the second page, and the contract that has the crates above it proved again
+HEADINGS = {"event": "An event", "format": "A printed format", "function": "An expression function", "key": "A key of a section",
+            "message": "A message", "property": "A field of a context", "rule": "A rule"}
+HOLDERS = {"event": "`shape_faults` (`al_tree`): the table of sections", "format": "`write_fault` (`al_text`): each printed byte",
+           "function": "`signature_of` (`al_expr_names`): the table of functions", "key": "`shape_faults` (`al_tree`): the table of sections",
+           "message": "`write_fault` (`al_text`): each printed byte", "property": "`github_type` (`al_check_objects`): its fields",
+           "rule": "`fault_list` (`al_base`): the order of codes"}
 REPLACEMENT = re.compile(r"file: (.+)\n(old|all): (.+)\n((?:new: .*\n)+)")
 # a crate, and the seconds of its proof, its tests and its edits
 SECONDS = re.compile(r"^(\w+): (\d+) (\d+) (\d+)$", re.MULTILINE)
@@ -117,10 +125,10 @@ def price_of(name: str) -> Price:
 
 def table_of(prices: dict[str, Price]) -> str:
     """The table of prices."""
-    lines = ["| Change | Crates | Proofs | Tests | Edits | Together | Until the program is built |", "|---|--:|--:|--:|--:|--:|--:|"]
+    lines = ["| Change | Crates | Proofs | Tests | Edits | Together | Until built | Held by |", "|---|--:|--:|--:|--:|--:|--:|---|"]
     for name, price in prices.items():
         minutes = (*price.parts, price.together, price.built)
-        lines.append(" | ".join([f"| {name}", str(price.crates), *(f"{it:.0f}" for it in minutes)]) + " |")
+        lines.append(" | ".join([f"| {name}", str(price.crates), *(f"{it:.0f}" for it in minutes), HOLDERS[name]]) + " |")
     return "".join(f"{it}\n" for it in lines)
 
 
@@ -132,9 +140,10 @@ def line_of(price: Price) -> str:
 def pages_with(prices: dict[str, Price]) -> dict[pathlib.Path, str]:
     """The pages with these prices. Exits if one lacks the place of a price."""
     page, steps = PAGE.read_text(encoding="utf-8"), STEPS.read_text(encoding="utf-8")
-    if not TABLE.search(page) or sorted(it[2] for it in PRICE.finditer(steps)) != sorted(prices):
+    changes = {HEADINGS[name]: price for name, price in prices.items()}
+    if not TABLE.search(page) or sorted(it[2] for it in PRICE.finditer(steps)) != sorted(changes):
         sys.exit("a page lacks the place of a price, or has one of another change")
-    return {PAGE: TABLE.sub(lambda it: it[1] + table_of(prices), page), STEPS: PRICE.sub(lambda it: it[1] + line_of(prices[it[2]]), steps)}
+    return {PAGE: TABLE.sub(lambda it: it[1] + table_of(prices), page), STEPS: PRICE.sub(lambda it: it[1] + line_of(changes[it[2]]), steps)}
 
 
 def check(names: list[str], is_written: bool) -> int:
