@@ -10,7 +10,7 @@ from itertools import islice
 from typing import Callable, Iterable, NamedTuple, Sequence, Tuple
 
 from . import (repairs_blocks, repairs_calls, repairs_expressions, repairs_keys, repairs_kinds, repairs_leftovers, repairs_levels,
-               repairs_names, repairs_rules, repairs_scripts, repairs_steps, repairs_values, repairs_yaml)
+               repairs_names, repairs_rules, repairs_schedules, repairs_scripts, repairs_steps, repairs_values, repairs_yaml)
 from .child import LinterEnded
 from .entries import entries_by_code
 from .facts import EditRefused, Facts, NoAnswer
@@ -38,7 +38,7 @@ INDENT = re.compile(r" *(?:- +)*")
 KEY = re.compile(r"['\"]?[\w-]+['\"]?:(?:\s|$)|\s*$")
 LOCAL_CALL = re.compile(r"\./[^\s'\"#,}\]]*")
 MODULES = (repairs_leftovers, repairs_blocks, repairs_yaml, repairs_levels, repairs_steps, repairs_keys, repairs_kinds, repairs_rules,
-           repairs_expressions, repairs_names, repairs_values, repairs_scripts, repairs_calls)
+           repairs_schedules, repairs_expressions, repairs_names, repairs_values, repairs_scripts, repairs_calls)
 REPAIRS: dict[str, tuple[Callable[[Case], Iterable[Repair]], ...]] = {
     code: tuple(each for module in MODULES for each in module.REPAIRS.get(code, ())) for found in MODULES for code in found.REPAIRS}
 

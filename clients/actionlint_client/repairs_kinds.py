@@ -13,7 +13,7 @@ from .paths import is_workflow
 from .repair import Case, Edit, Found, Repair, indented, is_within_flow, quoted, tight
 from .repairs_keys import JOB, UNIT_OF_LIMIT
 from .repairs_levels import moved
-from .repairs_yaml import DASH_WITHOUT_SPACE
+from .repairs_spaces import DASH_WITHOUT_SPACE
 from .sections import activity_types
 from .stricter import takes_filter
 from .syntax import table

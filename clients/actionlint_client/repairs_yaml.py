@@ -13,16 +13,13 @@ from .repairs_blocks import CLOSERS, open_brackets
 from .repairs_expressions import title_of
 from .repairs_levels import indent_of, moved_line
 from .repairs_script_lines import MAX_LINES_ABOVE, as_block, script_below, script_in_lines, script_without_sign, text_in_script
+from .repairs_spaces import (MAX_LINES_OF_LIST, plain_spaces, spaces_for_tabs, with_colon, with_dash, with_space, with_spaced_items,
+                             without_spaces_after_dash)
 from .scripts import expressions_in
 from .syntax import shape_at
 from .text import Point, Span
 
 FLOW_ITEM = re.compile(r"[^,\[\]{}]*")
-COLON_WITHOUT_SPACE = re.compile(r"^ *(?:- +)?[A-Za-z_][\w-]*:(?=[^\s/:])")
-DASH_WITHOUT_SPACE = re.compile(r"^( *)-(?=[A-Za-z_][\w-]*:(?: |$))")
-SEMICOLON = re.compile(r"^ *(?:- +)?([A-Za-z_][\w-]*) *;(?=\s|$)")
-FIRST_WORD = re.compile(r"^ *(?:- +)?([A-Za-z_][\w-]*)(?= (?! *=)|$)")
-EQUALS = re.compile(r"^ *(?:- +)?([A-Za-z_][\w-]*) *= *(?=[^=\s])")
 KEY_IN_BRACKETS = re.compile(r"\s*[\w-]+: +")
 IS_PAIR = re.compile(r"[a-z][\w-]*: |[\[{].*[\]}]$|\*[\w-]+$")
 QUOTED_BRACES = re.compile(r"['\"]?\$\{\{([^{}]*)\}\}['\"]?")
@@ -31,10 +28,7 @@ NEGATED_BRACES = re.compile(r"! *\$\{\{([^{}]*)\}\}")
 CHAIN_IN_BRACES = re.compile(r"(?<!\$)\{\{(\s*(?:%s)\.[\w.-]+\s*)\}\}" % "|".join(names()["contexts"]))
 ANCHOR = re.compile(r"(?<!\S)&([^\s,\[\]{}]+)")
 ALIAS = re.compile(r"\*([^\s,\[\]{}]+)")
-ODD_SPACE = re.compile("[\u00a0\u2000-\u200a\u202f\u3000]")
-ODD_START = re.compile("[ \u00a0\u2000-\u200a\u202f\u3000-]*(?:[\\w-]+:)?[ \u00a0\u2000-\u200a\u202f\u3000]*")
 SIGNS_OF_LINES = re.compile(r"([|>])[|>:]* ?([-+]?)[-+]*:?")
-WIDE_DASH = re.compile(r"^( *)- {2,}(?=[A-Za-z_][\w-]*:)")
 PLAIN_ITEM = re.compile(r" *- [\w./*-]+")
 ITEM = re.compile(r"""(?:[\w-]+: *)?(?:'[^']*'|"[^"]*"|[^'"]*)""")
 KEY_IN_VALUE = re.compile(r"(?<=[^\s,]) +(?=([a-z][\w-]*): )")
@@ -44,9 +38,7 @@ SIGN_BEFORE_OWNER = re.compile(r"@[\w.-]+/[\w./-]+@[\w./-]+$")
 OTHER_CLOSER = re.compile(r"(?<![)}\]>])[)}\]>]$")
 # Several entries of a mapping beside each other.
 PAIRS = re.compile(r"[\w-]+: [^\s,\[\]{}:]+(?:, *[\w-]+: [^\s,\[\]{}:]+)+")
-ITEM_WITHOUT_SPACE = re.compile(r"( *)-(?=[\w./@'\"])")
 MAX_ITEMS = 30
-MAX_LINES_OF_LIST = 30
 # Words in quotes before others.
 QUOTED_WORDS = re.compile(r"""(['"])(?:(?!\1).)*(?<!\s)\1\s""")
 EXPRESSION_AS_ITEM = re.compile(r"(?<=[\[,])\s*(\$\{\{[^{}]*\}\})\s*(?=[\],])")
@@ -331,23 +323,6 @@ def _end_of_text(line: str) -> int:
     return len(COMMENT.sub("", line))
 
 
-def spaces_for_tabs(case: Case) -> Iterable[Repair]:
-    """Spaces in place of each tab at the start of lines. The text doesn't tell how many columns a tab has."""
-    tabs = [line for line in case.lines if "\t" in line[:len(line) - len(line.lstrip(" \t-"))]]
-    indent = next((len(line) - len(line.lstrip(" ")) for line in reversed(case.lines[:case.span.start.line]) if line.strip()), 0)
-    start = Span.on_line(case.span.start.line, 0, len(case.line) - len(case.line.lstrip(" \t")))
-    for spaces in (indent, indent + 2) if len(tabs) == 1 else ():
-        yield case.replace("replace tabs by spaces", " " * spaces, start)
-    for width in (2, 4, 8, 1):
-        edits = []
-        for number, line in enumerate(case.lines):
-            head = line[:len(line) - len(line.lstrip(" \t-"))]
-            if "\t" in head:
-                edits.append(Edit(Span.on_line(number, 0, len(head)), head.replace("\t", " " * width)))
-        if edits:
-            yield case.of("replace tabs by spaces", *edits)
-
-
 def as_expression(case: Case) -> Iterable[Repair]:
     """A condition that begins in double quotes, as in a shell, or with `!` before its braces, as one expression; or one whose braces lack
     the dollar."""
@@ -384,76 +359,6 @@ def near_alias(case: Case) -> Iterable[Repair]:
     for name, is_slip in likely(match[1], dict.fromkeys(ANCHOR.findall(case.text))):
         span = Span.on_line(case.span.start.line, match.start(1), match.end(1))
         yield case.replace(f'change to "*{name}"', name, span, is_slip)
-
-
-def plain_spaces(case: Case) -> Iterable[Repair]:
-    """Plain spaces in place of others at the start of the fault's line, or after its key."""
-    for line in (case.span.start.line, case.span.start.line - 1):
-        match = ODD_START.match(case.lines[line]) if line >= 0 else None
-        if match and ODD_SPACE.search(match[0]):
-            changed = ODD_SPACE.sub(" ", match[0])
-            yield case.replace("write plain spaces", changed, Span.on_line(line, 0, match.end()), is_safe=True)
-
-
-def with_space(case: Case) -> Iterable[Repair]:
-    """A space after a colon or a dash that has none."""
-    for place, match in _after_match(case, COLON_WITHOUT_SPACE, DASH_WITHOUT_SPACE):
-        yield case.replace(f"add a space after the {'colon' if match[0].endswith(':') else 'dash'}", " ", place, is_safe=True)
-
-
-def with_spaced_items(case: Case) -> Iterable[Repair]:
-    """The entries of a list that lack the space after the dash, with it, beside an entry that has it."""
-    number, lines = case.span.start.line, case.lines
-    match = next((found for one in (number, number - 1) if one >= 0 and (found := ITEM_WITHOUT_SPACE.match(lines[one]))), None)
-    if match is None:
-        return
-
-    dash = match[1] + "-"
-
-    def of_list(numbers: Iterable[int]) -> list[int]:
-        return list(itertools.takewhile(lambda one: lines[one].startswith(dash), numbers))
-    around = [*of_list(range(number, max(number - MAX_LINES_OF_LIST, -1), -1)),
-              *of_list(range(number + 1, min(number + MAX_LINES_OF_LIST, len(lines))))]
-    edits = [Edit(Span.at(Point(one, match.end())), " ") for one in around if ITEM_WITHOUT_SPACE.match(lines[one])]
-    if len(edits) < len(around):
-        yield case.of("add a space after the dash", *edits, is_safe=True)
-
-
-def without_spaces_after_dash(case: Case) -> Iterable[Repair]:
-    """An entry above whose first key is further right than the others, with one space after its dash."""
-    number = case.span.start.line - 1
-    match = WIDE_DASH.match(case.lines[number]) if number >= 0 else None
-    if match and len(match[1]) + 2 == indent_of(case.line):
-        span = Span.on_line(number, len(match[1]) + 1, match.end())
-        yield case.replace("write one space after the dash", " ", span, is_safe=True)
-
-
-def with_dash(case: Case) -> Iterable[Repair]:
-    """A dash before a text that follows an entry of a list of texts."""
-    number = case.span.start.line
-    above, here = (case.outline.lines[one].elements for one in (max(number - 1, 0), number))
-    if above and not here and above[-1].name is None and case.rest_span(number - 1):
-        yield case.replace("add a dash", " " * above[-1].column + "- ", Span.on_line(number, 0, indent_of(case.line)))
-
-
-def with_colon(case: Case) -> Iterable[Repair]:
-    """A colon after a word that is alone on its line, or before the value on it, also in place of an equals sign or a semicolon."""
-    for place, match in _after_match(case, EQUALS):
-        line = place.start.line
-        yield case.replace(f'write a colon after "{match[1]}"', ": ", Span.on_line(line, match.end(1), match.end()))
-    for place, match in _after_match(case, SEMICOLON):
-        yield case.replace(f'write a colon after "{match[1]}"', ":", Span.on_line(place.start.line, match.end(1), match.end()))
-    for place, match in _after_match(case, FIRST_WORD):
-        yield case.replace(f'add a colon after "{match[1]}"', ":", place)
-
-
-def _after_match(case: Case, *patterns: re.Pattern[str]) -> Iterable[tuple[Span, re.Match[str]]]:
-    """The matches of patterns on the fault's line and on the one above it, and the empty span after each."""
-    number = case.span.start.line
-    for line in (number, number - 1):
-        for pattern in patterns:
-            if line >= 0 and (match := pattern.match(case.lines[line])):
-                yield Span.at(Point(line, match.end())), match
 
 
 def single_quotes(case: Case) -> Iterable[Repair]:
