@@ -1,12 +1,12 @@
 -- Chunks, tokens, trees and faults are within the text or content that they were found in.
-use Rattle.std.proofs.Common.{◌≡◌, ◌<◌, ◌≤◌, ◌+◌, ◌-◌, ℕ, zero, suc, List, [], ◌∷◌, length, length-drop, drop, refl, ◌∙◌, subst, arith, Bool, true, false, cond, nat_lt, Option, Some, None}
-use Rattle.std.specs.Int.{is_in_range}
+use Rattle.std.proofs.Common.{◌≡◌, ◌<◌, ◌≤◌, ◌+◌, ◌-◌, ℕ, zero, suc, List, [], ◌∷◌, length, length-drop, drop, refl, ◌∙◌, subst, arith, Bool, true, false, cond, nat_lt, not, Option, Some, None}
 use Rattle.std.specs.List.{AllByRecursion}
 use Rattle.std.specs.Option.{option_map, option_to_list}
 use Rattle.std.proofs.lemmas.Bool.{cond_both}
 use Rattle.std.proofs.lemmas.Bool.Decides.{nat_tests}
 use Rattle.std.proofs.lemmas.List.Sums.{prefix_len-le-length}
 use Rattle.std.specs.Option.{option_or}
+use Rattle.al_base.specs.Positions.{begins_char}
 use Rattle.al_base.specs.Spans.{LiesIn, span}
 use Rattle.al_base.specs.declared.codes.ExpressionCode.TheVariants as code
 use Rattle.al_base.specs.declared.faults.Fault.{Fault}
@@ -93,7 +93,7 @@ module _ (size : ℕ) where
       ((from : ℕ) (rest : List ℕ) → from + length rest ≤ size → LexedLies from (tokens_within n from rest)) → LexedLies at (with_first (tokens_within n) r at (b ∷ bs))
   first_lies n Blank at b bs room fits ih = weaker_lexed at (at + 1) (tokens_within n (at + 1) bs) (omega arith) (ih (at + 1) bs (omega (arith, room)))
   first_lies n BadCharacter at b bs room fits ih =
-      let within = prefix_len-le-length (is_in_range 128 191) bs in
+      let within = prefix_len-le-length (λ b. not (begins_char b)) bs in
       record { ordered = omega arith; inside = omega (arith, within, room) }
   first_lies n OpenText at b bs room fits ih = tt
   first_lies n (Token k m) at b bs room fits ih =

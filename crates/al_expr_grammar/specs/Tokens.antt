@@ -5,6 +5,7 @@
 -- never closed.
 use Rattle.al_base.specs.Ascii.{ascii, is_sign}
 use Rattle.al_base.specs.FirstBytes.{first_is, begins_with}
+use Rattle.al_base.specs.Positions.{begins_char}
 use Rattle.al_expr_grammar.specs.declared.token.Operator.TheVariants.{Or, And, Equal, NotEqual}
 use Rattle.al_expr_grammar.specs.declared.token.Operator.TheVariants.{Less, LessEqual, Greater}
 use Rattle.al_expr_grammar.specs.declared.token.Operator.TheVariants.{GreaterEqual}
@@ -21,12 +22,11 @@ use Rattle.al_base.specs.Spans.{span}
 use Rattle.al_base.specs.declared.faults.Span.{Span}
 use Rattle.al_expr_grammar.specs.Lexeme.{Lexeme, lexeme}
 use Rattle.std.specs.Char.{is_ascii_alphabetic, is_ascii_digit, is_ascii_hexdigit}
-use Rattle.std.specs.Int.{is_in_range}
 use Rattle.std.specs.List.{prefix_len, starts_with}
 use Rattle.std.specs.Option.{option_map_or, option_or}
 use Rattle.std.specs.Str.{bytes_eq}
 use Rattle.std.specs.Prelude.{codes, ℕ, zero, suc, ◌+◌, List, [], ◌∷◌, Bool, ◌||◌, ◌==◌}
-use Rattle.std.specs.Prelude.{if◌then◌else◌, max, nat_eq}
+use Rattle.std.specs.Prelude.{if◌then◌else◌, max, nat_eq, not}
 use Rattle.std.specs.Prelude.{find, take, drop, Option, Some, None, option_map, length}
 
 abbrev pub begins_name : ℕ → Bool
@@ -145,9 +145,9 @@ abbrev pub then_token : Lexeme → Lexed → Lexed
 then_token t (AllRead ts) = AllRead (t ∷ ts)
 then_token t other = other
 
--- the span of the first character of bytes at an offset: bytes from 128 to 191 continue it
+-- the span of the first character of bytes at an offset
 abbrev pub character_span : ℕ → List ℕ → Span
-character_span at bs = span at (at + 1 + prefix_len (is_in_range 128 191) (drop 1 bs))
+character_span at bs = span at (at + 1 + prefix_len (λ b. not (begins_char b)) (drop 1 bs))
 
 -- the tokens of bytes, given the part that they begin with
 abbrev pub with_first : (ℕ → List ℕ → Lexed) → Read → ℕ → List ℕ → Lexed

@@ -1,12 +1,12 @@
 //! The tokens of a content, or the character at which they end early.
 
 ghost use Rattle.std.specs.Prelude.{map, IfOk, IfSome, All, MatchOption, MatchResult, drop};
-ghost use Rattle.std.specs.Prelude.{slice_index};
+ghost use Rattle.std.specs.Prelude.{not, slice_index};
 ghost use Rattle.std.specs.Prelude.{◌+◌, ◌≡◌, ◌≢◌, ◌≤◌, ◌<◌, Some, length};
-ghost use Rattle.std.specs.Int.{is_in_range};
 ghost use Rattle.std.specs.List.{prefix_len};
 ghost use Rattle.al_expr_grammar.specs.Lexeme.{seen};
 ghost use Rattle.al_base.specs.Limits.{longest_text};
+ghost use Rattle.al_base.specs.Positions.{begins_char};
 ghost use Rattle.al_expr_grammar.specs.Tokens.{goes_on_name, is_blank_byte, mark, word_kind};
 ghost use Rattle.al_expr_grammar.specs.Tokens.{text_tail, read, tokens_of, AllRead};
 ghost use Rattle.al_expr_grammar.specs.Refusal.{fault_of_lexed};
@@ -14,7 +14,7 @@ ghost use Rattle.al_expr_grammar.specs.Refusal.{fault_of_lexed};
 use crate::faults::{plain_fault, unclosed_text};
 use crate::number::number_len;
 use crate::token::{Keyword, Operator, Token, TokenKind};
-use al_base::{ExpressionCode, Fault, Span};
+use al_base::{ExpressionCode, Fault, Span, is_char_start};
 use std::alloc::{AllocError, Global};
 
 /// What the rest of a content begins with.
@@ -50,13 +50,10 @@ fn name_len(bytes: &[u8]) -> usize
 
 /// The number of bytes at the start that continue a character.
 fn inside_len(bytes: &[u8]) -> usize
-    ensures value { result ≡ prefix_len (is_in_range 128 191) bytes.now }
+    ensures value { result ≡ prefix_len (λ b. not (begins_char b)) bytes.now }
     ensures within { result ≤ length bytes.now }
 {
-    bytes
-        .iter()
-        .take_while(|b| 128 <= **b && **b <= 191)
-        .count()
+    bytes.iter().take_while(|b| !is_char_start(**b)).count()
 }
 
 /// The kind of a name: a keyword or any other name.

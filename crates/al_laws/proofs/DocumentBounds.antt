@@ -1,5 +1,6 @@
 -- Documents that are read with two bounds that suffice agree.
 use Rattle.std.proofs.Common.{◌≡◌, ℕ, suc, ◌+◌, ◌<◌, ◌≤◌, List, [], ◌∷◌, length, drop, ap, arith, true}
+use Rattle.std.proofs.lemmas.Bool.Decides.{nat_tests}
 use Rattle.al_scalar.specs.Line.{Line, lines}
 use Rattle.al_scalar.proofs.OffsetLemmas.{choose, lines-climb}
 use Rattle.al_scalar.proofs.Standing.{Stand, stand-lower, lines-end}
@@ -22,8 +23,8 @@ climb-from at bs size b = stand-lower size at 0 (lines at bs) (omega arith) (lin
 -- A byte order mark has three bytes.
 mark-long : (bs : List ℕ) → has_mark bs ≡ true → 3 + length (drop 3 bs) ≤ length bs
 mark-long [] e = absurd cc
-mark-long (a ∷ []) e = absurd cc
-mark-long (a ∷ b ∷ []) e = absurd cc
+mark-long (a ∷ []) e = grind (arith, nat_tests, e)
+mark-long (a ∷ b ∷ []) e = grind (arith, nat_tests, e)
 mark-long (a ∷ b ∷ c ∷ bs) e = omega arith
 
 file-left : (bs : List ℕ) → Left (length bs) 0 (file_lines bs)

@@ -9,6 +9,7 @@ pub mod KeyLemmas
 pub mod LineReadLemmas
 pub mod ReadLemmas
 pub mod ByteLemmas
+pub mod PrintableLemmas
 pub mod DocumentLemmas
 pub mod FlowNodeLemmas
 pub mod NoteLemmas

@@ -2,7 +2,7 @@
 use Rattle.std.proofs.Common.{◌≡◌, ℕ, suc, ◌+◌, ◌≤◌, List, [], ◌∷◌, ◌++◌, length, drop, arith, true, ◌||◌, nat_lt}
 use Rattle.std.proofs.Common.{Option, Some, None, Result}
 use Rattle.std.proofs.Math.Utf8.{encode}
-use Rattle.std.proofs.lemmas.Grind.{common_steps}
+use Rattle.std.proofs.lemmas.Bool.Decides.{nat_tests}
 use Rattle.std.proofs.lemmas.Str.{IsUtf8-past_char}
 use Rattle.std.specs.Prelude.{IsUtf8}
 use Rattle.al_base.specs.Limits.{deepest_collection, most_alias_text, most_nodes}
@@ -32,8 +32,8 @@ climb-from low at bs size a b = stand-lower size at low (lines at bs) a (lines-c
 -- A byte order mark has three bytes.
 mark-long : (bs : List ℕ) → has_mark bs ≡ true → 3 + length (drop 3 bs) ≤ length bs
 mark-long [] e = absurd cc
-mark-long (a ∷ []) e = absurd cc
-mark-long (a ∷ b ∷ []) e = absurd cc
+mark-long (a ∷ []) e = grind (arith, nat_tests, e)
+mark-long (a ∷ b ∷ []) e = grind (arith, nat_tests, e)
 mark-long (a ∷ b ∷ c ∷ bs) e = omega arith
 
 file-stands : (bs : List ℕ) → Stand (length bs) 0 (file_lines bs)
@@ -45,9 +45,9 @@ file-stands bs =
 mark-front : (bs : List ℕ) → has_mark bs ≡ true → bs ≡ encode 65279 ++ drop 3 bs
 unfolding encode
 mark-front [] e = absurd cc
-mark-front (a ∷ []) e = absurd cc
-mark-front (a ∷ b ∷ []) e = absurd cc
-mark-front (a ∷ b ∷ c ∷ bs) e = grind (arith, common_steps)
+mark-front (a ∷ []) e = grind (arith, nat_tests, e)
+mark-front (a ∷ b ∷ []) e = grind (arith, nat_tests, e)
+mark-front (a ∷ b ∷ c ∷ bs) e = grind (arith, nat_tests, e)
 
 mark-text : (bs : List ℕ) → has_mark bs ≡ true → IsUtf8 bs → IsUtf8 (drop 3 bs)
 mark-text bs e u = IsUtf8-past_char bs (drop 3 bs) 65279 u (mark-front bs e)

@@ -1,19 +1,21 @@
 -- The tree of a file is within it, and in order if no alias is read; its texts are UTF-8; its first fault is within the file, too.
-use Rattle.std.proofs.Common.{◌≡◌, refl, sym, ap, ◌∙◌, subst, ℕ, zero, suc, ◌+◌, ◌<◌, ◌≤◌, List, [], ◌∷◌, length, take, arith}
+use Rattle.std.proofs.Common.{◌≡◌, refl, sym, ap, ◌∙◌, subst, ℕ, zero, suc, ◌+◌, ◌<◌, ◌≤◌, List, [], ◌∷◌, length, length-append, take, arith}
 use Rattle.std.proofs.Common.{Bool, true, false, Option, Some, None, option_map, cond, Result, Ok, Err, IfOk, IsUtf8}
 use Rattle.std.specs.Prelude.{IfNone}
 use Rattle.std.proofs.Math.Seq.{take-length}
 use Rattle.std.proofs.lemmas.Bool.{false≢true}
 use Rattle.std.proofs.lemmas.Result.{IfOk-weaker}
-use Rattle.std.proofs.lemmas.Str.{is_utf8-from_IsUtf8, IsUtf8-from_is_utf8, IsUtf8-nil}
-use Rattle.std.specs.Str.{is_utf8}
+use Rattle.std.proofs.Math.Utf8.{encode, encodes}
+use Rattle.std.proofs.lemmas.Str.{encodes-chars, is_utf8-from_IsUtf8, IsUtf8-from_is_utf8, IsUtf8-nil, len_utf8_bounds, length-encode}
+use Rattle.std.specs.Char.{len_utf8}
+use Rattle.std.specs.Str.{chars, is_utf8}
 use Rattle.std.specs.Str.Lossy.{valid_len_up_to, utf8_valid_len}
 use Rattle.al_base.specs.Spans.{LiesIn}
 use Rattle.al_base.specs.declared.codes.YamlCode.TheVariants as yaml
 use Rattle.al_scalar.specs.declared.faults.FaultAt.{FaultAt}
 use Rattle.al_scalar.specs.declared.faults.YamlFault.{YamlFault}
 use Rattle.al_scalar.proofs.OffsetLemmas.{choose}
-use Rattle.al_yaml_tree.specs.Bytes.{byte_fault, is_unprintable, unprintable_at}
+use Rattle.al_yaml_tree.specs.Bytes.{byte_fault, is_printable, unprintable_at}
 use Rattle.al_scalar.specs.Characters.{character_at}
 use Rattle.al_yaml_tree.specs.Document.{document_of, HasNoAlias, tree_of}
 use Rattle.al_yaml_tree.specs.Limits.{unless_fault}
@@ -46,10 +48,12 @@ valid-short (b ∷ bs) e =
     choose (λ k. k < suc (length bs)) (is_utf8 (b ∷ take (length bs) bs))
     (λ t. absurd (false≢true (sym e ∙ ap (λ l. is_utf8 (b ∷ l)) (sym (take-length bs)) ∙ t))) (λ _. omega (arith, valid-below (b ∷ bs) (length bs)))
 
-unprintable-below : (high at : ℕ) (bs : List ℕ) → at + length bs ≤ high → IsBelow high (unprintable_at at bs)
+unprintable-below : (high at : ℕ) (cs : List ℕ) → at + length (encodes cs) ≤ high → IsBelow high (unprintable_at at cs)
 unprintable-below high at [] h = tt
-unprintable-below high at (b ∷ bs) h =
-    choose (IsBelow high) (is_unprintable (b ∷ bs)) (λ _. omega (arith, h)) (λ _. unprintable-below high (at + 1) bs (omega (arith, h)))
+unprintable-below high at (c ∷ cs) h =
+    let len = length-append (encode c) (encodes cs) in
+    let room : at + len_utf8 c + length (encodes cs) ≤ high = omega (arith, h, len, length-encode c) in
+    choose (IsBelow high) (is_printable c) (λ _. unprintable-below high (at + len_utf8 c) cs room) (λ _. omega (arith, room, len_utf8_bounds c))
 
 answered : {A : Type 0} (size : ℕ) (P : A → Type 0) (r : Result A FaultAt) → Answers size P r → IfOk r P
 answered size P (Ok x) h = h
@@ -94,9 +98,11 @@ module _ (bytes : List ℕ) where
   printed (Some at) h = character-inside bytes at (omega (arith, h))
 
   formed : (good : Bool) → is_utf8 bytes ≡ good → LiesAmong good (unless_fault
-      (cond good (option_map (λ at. record { code = yaml.ControlCharacter; at = at }) (unprintable_at 0 bytes))
+      (cond good (option_map (λ at. record { code = yaml.ControlCharacter; at = at }) (unprintable_at 0 (chars bytes)))
       (Some (record { code = yaml.NotUtf8; at = utf8_valid_len bytes }))) (document_of bytes))
-  formed true e = printed (unprintable_at 0 bytes) (unprintable-below (length bytes) 0 bytes (omega arith))
+  formed true e =
+      let whole = ap length (encodes-chars bytes (IsUtf8-from_is_utf8 bytes e)) in
+      printed (unprintable_at 0 (chars bytes)) (unprintable-below (length bytes) 0 (chars bytes) (omega (arith, whole)))
   formed false e = record { ordered = omega arith; inside = omega (arith, valid-short bytes e) }
 
   pub tree-laid_in : IsTreeLaid bytes (tree_of bytes)
