@@ -1,24 +1,23 @@
 //! The type of a scalar that is given to an input: that of its expression if it is one, otherwise
 //! by its class.
-ghost use Rattle.std.specs.Prelude.{◌≡◌, ◌≤◌, List, length, map, All, IfOk, IsUtf8};
-ghost use Rattle.std.specs.Option.{option_copied};
+ghost use Rattle.std.specs.Prelude.{◌≡◌, ◌≤◌, ◌-◌, false, true, length, map, slice_range};
+ghost use Rattle.std.specs.Prelude.{All, IfOk, IsUtf8, MatchOption};
 ghost use Rattle.al_base.specs.Growth.{BeginsWith};
 ghost use Rattle.al_base.specs.Limits.{longest_text};
 ghost use Rattle.al_check_calls.specs.Types as meant;
-ghost use Rattle.al_check_calls.specs.Types.{content_where_one};
 ghost use Rattle.al_expr_grammar.specs.Chunks.{IsCutFrom, chunks_of, span_of_chunk};
 ghost use Rattle.al_expr_types.specs.Tables.{objects_of, type_at};
-ghost use Rattle.al_expr_types.specs.Types.{type_in};
 ghost use Rattle.al_expr_typing.specs.Scopes.{IsShown, scope_view};
 ghost use Rattle.al_scalar.specs.Scalar.{text_of};
-ghost use Rattle.al_types.specs.Types.{Parts};
+ghost use Rattle.al_rules_formats.specs.Chunks.{is_lone as lone};
+ghost use Rattle.al_rules_formats.specs.declared.chunks.Around.TheVariants.{Nothing};
 
-use al_base::FaultSink;
-use al_check_expressions::is_one_expression;
+use al_base::{Fault, FaultSink};
 use al_check_objects::class_type_of;
 use al_expr_grammar::{Chunk, chunks, parse_expr};
 use al_expr_types::{Ty, Types};
 use al_expr_typing::{Scope, type_of};
+use al_rules_formats::{Around, is_lone};
 use al_scalar::Scalar;
 use al_tree::contains_chunk;
 use std::alloc::AllocError;
@@ -39,24 +38,16 @@ fn content_type(types: &mut Types<'_>, scope: &Scope, content: &str) -> Result<T
     type_of(types, scope, &expr, &mut faults)
 }
 
-/// The type of a text that isn't one expression: a string if it has expressions, otherwise by its
-/// class.
-fn text_type(scalar: &Scalar) -> Ty
-    ensures { (ms : List Parts) → type_in ms result ≡ meant.text_type scalar.now }
+/// The content of a text with these chunks and the fault after them, if it is one expression.
+fn content_of<'a>(text: &[u8], chunks: &[Chunk<'a>], fault: &Option<Fault>) -> Option<&'a str>
+    requires cut { All (IsCutFrom text.now) chunks.now }
+    requires found { map span_of_chunk chunks.now ≡ (chunks_of text.now).chunks }
+    ensures { MatchOption result
+        (lone Nothing text.now (map span_of_chunk chunks.now) fault.now ≡ false)
+        (λ c. (lone Nothing text.now (map span_of_chunk chunks.now) fault.now ≡ true)
+        × (c.now ≡ slice_range text.now 3 (length text.now - 2))) }
 {
-    if contains_chunk(scalar.text()) {
-        return Ty::STRING;
-    }
-    Ty::scalar(class_type_of(scalar.class()))
-}
-
-/// The content of a scalar with these chunks, if its text is one expression.
-fn content_of<'a>(scalar: &Scalar, chunks: &[Chunk<'a>]) -> Option<&'a str>
-    requires cut { All (IsCutFrom (text_of scalar.now)) chunks.now }
-    requires found { map span_of_chunk chunks.now ≡ (chunks_of (text_of scalar.now)).chunks }
-    ensures { option_copied result ≡ content_where_one (text_of scalar.now) }
-{
-    if !is_one_expression(scalar.text().len(), chunks) {
+    if !is_lone(Around::Nothing, text, chunks, fault) {
         return None;
     }
     Some(chunks.first()?.content)
@@ -76,9 +67,12 @@ pub(crate) fn scalar_type(
         ≡ meant.type_of_given (scope_view types.old scope.now) scalar.now) }
     ensures kept { BeginsWith (objects_of types.new) (objects_of types.old) }
 {
-    let (found, _) = chunks(types.alloc(), scalar.as_str())?;
-    match content_of(scalar, found.as_slice()) {
-        None => Ok(text_type(scalar)),
+    if !contains_chunk(scalar.text()) {
+        return Ok(Ty::scalar(class_type_of(scalar.class())));
+    }
+    let (found, fault) = chunks(types.alloc(), scalar.as_str())?;
+    match content_of(scalar.text(), found.as_slice(), &fault) {
+        None => Ok(Ty::STRING),
         Some(content) => content_type(types, scope, content),
     }
 }

@@ -33,7 +33,9 @@ use Rattle.al_check_places.specs.Places.{Place, places_of}
 use Rattle.al_check_contexts.specs.Contexts.{OutputNames}
 use Rattle.al_check_contexts.specs.Scopes.{scope_at}
 use Rattle.al_check_expressions.specs.FileExpressions.{expression_faults}
-use Rattle.al_check_expressions.specs.Contents.{chunk_faults, chunked_faults, collection_faults, content_faults, is_one_chunk, is_whole, span_in_file, fault_in_file, place_faults, tree_faults}
+use Rattle.al_rules_formats.specs.Chunks.{is_lone_chunk}
+use Rattle.al_rules_formats.specs.declared.chunks.Around.TheVariants.{Nothing}
+use Rattle.al_check_expressions.specs.Contents.{chunk_faults, chunked_faults, collection_faults, content_faults, is_whole, span_in_file, fault_in_file, place_faults, tree_faults}
 use Rattle.al_expr_grammar.specs.Inside.{AllLie}
 use Rattle.al_check_expressions.specs.Inside.{IsThere}
 use Rattle.al_scalar.proofs.Locating.{offset_or-end}
@@ -108,8 +110,8 @@ module _ (size : ℕ) (sc : Scope) (only : Bool) (s : Scalar) (there : LiesIn si
       let ordered = i.ordered in
       let inside = i.inside in
       let cut = length-take (c.end - c.start) (drop c.start (text_of s)) in
-      moved_lie size s there p from c.start (length (slice_range (text_of s) c.start c.end)) (content_faults sc (is_one_chunk (text_of s)) only (slice_range (text_of s) c.start c.end))
-      (content_lies sc (is_one_chunk (text_of s)) only (slice_range (text_of s) c.start c.end)) (omega (arith, cut, ordered, inside))
+      moved_lie size s there p from c.start (length (slice_range (text_of s) c.start c.end)) (content_faults sc (is_lone_chunk Nothing (text_of s)) only (slice_range (text_of s) c.start c.end))
+      (content_lies sc (is_lone_chunk Nothing (text_of s)) only (slice_range (text_of s) c.start c.end)) (omega (arith, cut, ordered, inside))
 
   chunked_lies : AllLie size (chunked_faults sc only s (chunks_of (text_of s)))
   chunked_lies =

@@ -1,6 +1,6 @@
 -- The faults of the expressions in a scalar, with their spans in the file.
-use Rattle.std.specs.Prelude.{ℕ, List, [], ◌∷◌, ◌++◌, ◌+◌, ◌-◌, ◌==◌, ◌<◌, ◌^◌, Bool, true, false}
-use Rattle.std.specs.Prelude.{◌||◌, ◌&&◌, not, length, map}
+use Rattle.std.specs.Prelude.{ℕ, List, [], ◌∷◌, ◌++◌, ◌+◌, ◌-◌, ◌==◌, ◌<◌, ◌^◌, Bool, true}
+use Rattle.std.specs.Prelude.{◌||◌, ◌&&◌, not, map}
 use Rattle.std.specs.Prelude.{slice_range, if◌then◌else◌}
 use Rattle.std.specs.List.{flat_map}
 use Rattle.std.specs.Option.{option_map_or, option_to_list}
@@ -14,18 +14,12 @@ use Rattle.al_expr_grammar.specs.Extents.{extent}
 use Rattle.al_expr_grammar.specs.Refusal.{expression_fault, fault_of_content}
 use Rattle.al_expr_grammar.specs.Tree.{Tree}
 use Rattle.al_expr_names.specs.Scopes.{Scope}
+use Rattle.al_rules_formats.specs.Chunks.{is_lone_chunk}
+use Rattle.al_rules_formats.specs.declared.chunks.Around.TheVariants.{Nothing}
 use Rattle.al_types.specs.Types.{Type', is_collection}
 use Rattle.al_expr_typing.specs.Meaning.{faults_found, meaning_of, type_found}
 use Rattle.al_tree.specs.Faults.{has_chunk}
 use Rattle.al_check_places.specs.Places.{Place}
-
--- whether a text with this many bytes is a single chunk, from its start to its end
-abbrev pub is_whole_span : ℕ → List Span → Bool
-is_whole_span len (s ∷ []) = (s.start == 3) && (s.end + 2 == len)
-is_whole_span len _ = false
-
-abbrev pub is_one_chunk : List ℕ → Bool
-is_one_chunk bytes = is_whole_span (length bytes) (chunks_of bytes).chunks
 
 -- there is an offset after each byte of the text, and after the scalar
 abbrev pub HasRoom : Scalar → Type 0
@@ -62,7 +56,7 @@ content_faults sc is_alone is_scalar_only bytes =
 abbrev pub chunk_faults : Scope → Bool → Scalar → Span → List Fault
 chunk_faults sc is_scalar_only s c =
     map (fault_in_file s c.start)
-    (content_faults sc (is_one_chunk (text_of s)) is_scalar_only
+    (content_faults sc (is_lone_chunk Nothing (text_of s)) is_scalar_only
     (slice_range (text_of s) c.start c.end))
 
 abbrev pub chunked_faults : Scope → Bool → Scalar → Chunked → List Fault

@@ -8,18 +8,19 @@ ghost use Rattle.al_expr_types.specs.Tables.{objects_of};
 ghost use Rattle.al_expr_typing.specs.Scopes.{IsShown, scope_view};
 ghost use Rattle.al_check_expressions.specs.Contents as contents;
 ghost use Rattle.al_check_expressions.specs.Contents.{chunked_faults, content_faults};
-ghost use Rattle.al_check_expressions.specs.Contents.{is_whole_span, fault_in_file, place_faults};
+ghost use Rattle.al_check_expressions.specs.Contents.{fault_in_file, place_faults};
 ghost use Rattle.al_check_expressions.specs.Contents.{tree_faults, HasRoom};
 ghost use Rattle.al_check_expressions.specs.Inside.{IsReadable};
-ghost use Rattle.al_expr_grammar.specs.Chunks.{chunks_of, span_of_chunk};
+ghost use Rattle.al_expr_grammar.specs.Chunks.{chunks_of};
 ghost use Rattle.al_check_places.specs.Places.{place_of};
 ghost use Rattle.al_base.specs.Growth.{BeginsWith};
 
 use al_base::{Code, ExpressionCode, Fault, FaultSink, Span};
 use al_check_places::Place;
-use al_expr_grammar::{Chunk, Expr, chunks, extent, parse_expr};
+use al_expr_grammar::{Expr, chunks, extent, parse_expr};
 use al_expr_types::Types;
 use al_expr_typing::{Scope, type_of};
+use al_rules_formats::{Around, is_lone};
 use al_scalar::Scalar;
 use al_tree::contains_chunk;
 use std::alloc::AllocError;
@@ -133,14 +134,6 @@ fn check_expression(
     Ok(())
 }
 
-/// Whether a text of `len` bytes with these chunks is one expression: it has a single chunk, which
-/// extends over all bytes.
-pub fn is_one_expression(len: usize, chunks: &[Chunk<'_>]) -> bool
-    ensures { result ≡ is_whole_span len (map span_of_chunk chunks.now) }
-{
-    matches!(chunks, [chunk] if chunk.span.start == 3 && chunk.span.end as usize + 2 == len)
-}
-
 /// Adds the faults of the chunks of the text at a place.
 fn check_chunks(
     types: &mut Types<'_>,
@@ -160,7 +153,12 @@ fn check_chunks(
     let text = Text {
         scope,
         scalar: place.scalar,
-        is_alone: is_one_expression(content.len(), found.as_slice()),
+        is_alone: is_lone(
+            Around::Nothing,
+            content.as_bytes(),
+            found.as_slice(),
+            &unclosed,
+        ),
         is_scalar_only: place.is_scalar_only,
     };
     for chunk in &found {

@@ -6,6 +6,5 @@ mod contents;
 mod expressions;
 mod law;
 
-pub use contents::is_one_expression;
 pub use expressions::expression_faults;
 pub use law::{all_lie_in_file, plain_texts_are_right};

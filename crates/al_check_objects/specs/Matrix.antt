@@ -4,43 +4,24 @@ use Rattle.std.specs.Prelude.{if◌then◌else◌}
 use Rattle.std.specs.List.{filter_map, fold, list_any}
 use Rattle.std.specs.Option.{option_map_or}
 use Rattle.al_scalar.specs.Scalar.{Scalar, text_of}
-use Rattle.al_scalar.specs.declared.styles.Class.{Class}
-use Rattle.al_scalar.specs.declared.styles.Class.TheVariants as class
-use Rattle.al_rules_formats.specs.Chunks.{is_lone_chunk}
-use Rattle.al_rules_formats.specs.declared.chunks.Around.TheVariants.{Nothing}
-use Rattle.al_types.specs.Types.{Type', Any, Null, Number, Bool', String, ArrayOf, Optional, Absent}
-use Rattle.al_types.specs.Types.{Present}
+use Rattle.al_types.specs.Types.{Type', Any, ArrayOf, Optional, Absent, Present}
 use Rattle.al_types.specs.Types.{fuse_optional, option_of, or_any}
 use Rattle.al_yaml_tree.specs.Access.{mapping_in, scalar_in}
 use Rattle.al_yaml_tree.specs.Node.{Node, Nodes, Entries, scalar, sequence, mapping, no_nodes, item}
 use Rattle.al_yaml_tree.specs.Node.{no_entries, entry}
 use Rattle.al_yaml_tree.specs.View.{entries_of, nodes_of}
-use Rattle.al_tree.specs.Faults.{has_chunk}
 use Rattle.al_tree.specs.Keys.{key_of}
 use Rattle.al_tree.specs.Names.{is_combination_key}
 use Rattle.al_tree.specs.Values.{entries_in, items_in, value_at, value_below}
 use Rattle.al_check_objects.specs.Objects.{loose_any, strictly}
+use Rattle.al_check_objects.specs.Scalars.{scalar_type_with}
 use Rattle.al_types.specs.Puts.{TypedName, firsts, put_or_fuse, put_all}
 
--- the type of a scalar, by its class; one with `${{` is any if it is one expression, otherwise a
--- string
-abbrev pub class_type : Class → Type'
-class_type class.Null = Null
-class_type class.Bool = Bool'
-class_type class.Int = Number
-class_type class.Float = Number
-class_type class.Str = String
-
-abbrev pub matrix_scalar_type : Scalar → Type'
-matrix_scalar_type s =
-    if has_chunk (text_of s) then (if is_lone_chunk Nothing (text_of s) then Any else String) else
-    class_type s.class
-
--- The type of a value: a sequence is an array of what its items have in common, a mapping a strict
--- object, where the first of equal names counts.
+-- The type of a value: an expression can have any type, a sequence is an array of what its items
+-- have in common, a mapping a strict object, where the first of equal names counts.
 abbrev mutual
   pub node_type : Node → Type'
-  node_type (scalar s) = matrix_scalar_type s
+  node_type (scalar s) = scalar_type_with Any s
   node_type (sequence ns at) = ArrayOf (or_any (option_of (items_type Absent ns)))
   node_type (mapping es at) = strictly (firsts (fields_of es))
 

@@ -5,10 +5,11 @@ ghost use Rattle.al_check_objects.specs.Matrix as matrix;
 ghost use Rattle.al_check_objects.specs.Matrix.{fields_of, include_all, items_type, rows_of};
 ghost use Rattle.al_check_objects.specs.Objects.{strictly};
 ghost use Rattle.al_check_objects.specs.Numbers.{Makes, Means};
+ghost use Rattle.al_check_objects.specs.Scalars.{scalar_type_with};
 ghost use Rattle.al_expr_types.specs.Tables.{is_known, objects_of};
 ghost use Rattle.al_expr_types.specs.declared.types.Types as declared;
 ghost use Rattle.al_types.specs.Puts.{TypedName, firsts};
-ghost use Rattle.al_types.specs.Types.{Absent, option_of, or_any};
+ghost use Rattle.al_types.specs.Types.{Absent, Any, option_of, or_any};
 ghost use Rattle.al_yaml_tree.specs.Access.{scalar_in};
 ghost use Rattle.al_yaml_tree.specs.View.{entries_of, entry_view, nodes_of, view};
 
@@ -25,7 +26,7 @@ use std::alloc::{AllocError, Global};
 /// The type of a scalar. Fails with `AllocError` when out of memory, as everything here does.
 fn scalar_type(alloc: Global, scalar: &Scalar) -> Result<Ty, AllocError>
     ensures { IfOk result
-        (λ t. (types : declared.Types) → Means types t (matrix.matrix_scalar_type scalar.now)) }
+        (λ t. (types : declared.Types) → Means types t (scalar_type_with Any scalar.now)) }
 {
     if !contains_chunk(scalar.text()) {
         return Ok(Ty::scalar(class_type_of(scalar.class())));

@@ -1,6 +1,6 @@
 //! The types of scalars and inputs.
 ghost use Rattle.std.specs.Prelude.{◌≡◌};
-ghost use Rattle.al_check_objects.specs.Matrix.{class_type};
+ghost use Rattle.al_check_objects.specs.Scalars.{class_type};
 ghost use Rattle.al_expr_types.specs.Types.{scalar_type};
 ghost use Rattle.al_check_objects.specs.Inputs.{input_type};
 

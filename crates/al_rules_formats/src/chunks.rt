@@ -1,12 +1,13 @@
 //! Texts that are one expression.
 
-ghost use Rattle.al_rules_formats.specs.Chunks.{is_lone_chunk as lone_chunk, is_short, is_lone};
-ghost use Rattle.al_rules_formats.specs.Chunks.{may_stand};
-ghost use Rattle.std.specs.Prelude.{◌≡◌, [], ◌∷◌, false, true, drop, IfOk, MatchOption, None};
+ghost use Rattle.al_expr_grammar.specs.Chunks.{span_of_chunk};
+ghost use Rattle.al_rules_formats.specs.Chunks.{is_lone as lone, is_lone_chunk as lone_chunk};
+ghost use Rattle.al_rules_formats.specs.Chunks.{is_short, may_stand};
+ghost use Rattle.std.specs.Prelude.{◌≡◌, [], ◌∷◌, false, true, drop, map, IfOk, MatchOption, None};
 
-use al_base::Span;
 use al_base::limits::LONGEST_TEXT;
-use al_expr_grammar::chunks;
+use al_base::{Fault, Span};
+use al_expr_grammar::{Chunk, chunks};
 use std::alloc::{AllocError, Global};
 
 /// What a text may have outside the braces of its one expression.
@@ -41,13 +42,24 @@ fn suffix(bytes: &[u8], count: usize) -> &[u8]
 
 /// Whether everything outside the braces of a chunk is allowed there.
 fn stands_alone(around: Around, bytes: &[u8], content: Span) -> bool
-    ensures { result ≡ is_lone around bytes.now (content ∷ []) None }
+    ensures { result ≡ lone around bytes.now (content ∷ []) None }
 {
     let before = bytes
         .iter()
         .take((content.start as usize).saturating_sub(3));
     let after = suffix(bytes, content.end as usize + 2).iter();
     before.chain(after).all(|byte| may_be(around, *byte))
+}
+
+/// Whether a text is one expression, `${{ .. }}`, with only what is allowed outside its braces,
+/// given its chunks and the fault after them.
+pub fn is_lone(around: Around, text: &[u8], chunks: &[Chunk<'_>], fault: &Option<Fault>) -> bool
+    ensures { result ≡ lone around text.now (map span_of_chunk chunks.now) fault.now }
+{
+    match chunks {
+        [chunk] if fault.is_none() => stands_alone(around, text, chunk.span),
+        _ => false,
+    }
 }
 
 /// A text as a string, if it is UTF-8 and has at most 4,194,304 bytes.
@@ -75,8 +87,5 @@ pub fn is_lone_chunk(alloc: Global, around: Around, text: &[u8]) -> Result<bool,
         return Ok(false);
     };
     let (found, fault) = chunks(alloc, text)?;
-    match found.as_slice() {
-        [chunk] if fault.is_none() => Ok(stands_alone(around, text.as_bytes(), chunk.span)),
-        _ => Ok(false),
-    }
+    Ok(is_lone(around, text.as_bytes(), found.as_slice(), &fault))
 }

@@ -9,7 +9,7 @@ mod schedules;
 mod texts;
 mod worked;
 
-pub use chunks::{Around, is_lone_chunk};
+pub use chunks::{Around, is_lone, is_lone_chunk};
 pub use names::{is_id, is_variable};
 pub use patterns::{Filter, is_pattern};
 pub use schedules::{Item, is_too_often, schedule};

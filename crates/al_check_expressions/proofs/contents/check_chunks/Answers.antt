@@ -8,7 +8,9 @@ use Rattle.al_base.specs.declared.faults.Span.{Span}
 use Rattle.al_expr_grammar.specs.Chunks.{IsCutFrom, chunks_of, span_of_chunk}
 use Rattle.al_expr_typing.proofs.Shown.{scope_stays, shown_stays}
 use Rattle.al_scalar.specs.Scalar.{text_of}
-use Rattle.al_check_expressions.specs.Contents.{is_one_chunk}
+use Rattle.al_rules_formats.specs.Chunks.{is_lone_chunk}
+use Rattle.al_rules_formats.specs.declared.chunks.Around.TheVariants.{Nothing}
+use Rattle.al_rules_formats.proofs.LoneChunks.{lone_if_short}
 use Rattle.al_check_expressions.proofs.contents.check_chunks.Goals as goal
 
 pub loop-chunk-preserved : goal.loop-chunk-preserved
@@ -18,7 +20,7 @@ loop-chunk-preserved c =
     let scope = c.args.scope.now in
     let bytes = text_of c.args.place.now.scalar.now in
     let cut : All (IsCutFrom bytes) c.deref-chunk-items.result.now = search rules in
-    let alone : c.is_one_expression.result ≡ is_one_chunk bytes = search rules in
+    let alone : c.is_lone.result ≡ is_lone_chunk Nothing bytes = search (rules, lone_if_short Nothing bytes c.requires.readable.utf8 c.requires.readable.small) in
     record {
       shown = shown_stays c.check_expression.new.types c.loop-chunk.types scope was.shown made.kept;
       kept = begins_trans _ _ _ was.kept made.kept;

@@ -1,16 +1,10 @@
-use Rattle.std.proofs.Common.{◌≡◌, ℕ, ◌≤◌, List, true, false, ◌&&◌, length, nat_le, arith, ap, ⊎_elim}
+use Rattle.std.proofs.Common.{◌≡◌, ℕ, List, false, ◌&&◌, length, nat_le, arith, ap, ⊎_elim}
 use Rattle.std.specs.Str.{IsUtf8, is_utf8}
-use Rattle.std.proofs.lemmas.Bool.{and_from, cases_Bool}
-use Rattle.std.proofs.lemmas.Bool.Decides.{nat_tests}
-use Rattle.std.proofs.lemmas.Str.{IsUtf8-from_is_utf8, is_utf8-from_IsUtf8}
+use Rattle.std.proofs.lemmas.Bool.{cases_Bool}
+use Rattle.std.proofs.lemmas.Str.{IsUtf8-from_is_utf8}
 use Rattle.al_rules_formats.specs.Chunks.{is_short}
+use Rattle.al_rules_formats.proofs.LoneChunks.{short}
 use Rattle.al_rules_formats.proofs.chunks.short_text.Goals as goal
-
-small : (n : ℕ) → n ≤ 4194304 → nat_le n 4194304 ≡ true
-small n h = grind (arith, nat_tests)
-
-short : (text : List ℕ) → IsUtf8 text → length text ≤ 4194304 → is_short text ≡ true
-short text u h = and_from _ _ (is_utf8-from_IsUtf8 text u) (small (length text) h)
 
 not_short : (text : List ℕ) → ¬ IsUtf8 text → is_short text ≡ false
 not_short text n =
