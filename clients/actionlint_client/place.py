@@ -1,5 +1,4 @@
-"""The place of a cursor, by the indentation of the lines around it, so that it is known in text that isn't YAML too, such as a half-typed
-key."""
+"""The place of a cursor by the indentation of the lines around it, for texts that aren't YAML, and what their lines have for repairs."""
 from __future__ import annotations
 
 import re
