@@ -66,10 +66,11 @@ class Spot(NamedTuple):
 
     def is_above_items(self, places: BytePlaces) -> bool:
         """Whether it is the only key of its mapping, above a list that begins at its column: then it is typed inside of that list."""
+        if not self.is_key or self.siblings:
+            return False
         mapping, number = self.around[-1]
         value = mapping["entries"][number][1]
-        is_list = self.is_key and len(mapping["entries"]) == 1 and value["kind"] == "sequence"
-        return is_list and places.point(value["start"]).column == places.point(self.scalar["start"]).column
+        return value["kind"] == "sequence" and places.point(value["start"]).column == places.point(self.scalar["start"]).column
 
 
 def place_at(project: Project, file: str, point: Point) -> Place | None:

@@ -149,6 +149,8 @@ TREE_PLACES = {
     "a colon in a word": (JOB + "    steps:\n      - uses: docker:|\n", {"./greet"}, {"name"}),
     "a colon before another key": ("on:\n  workflow_call:\n    secrets:|  token: {required: true}\njobs: {}\n", set(),
                                    {"secrets", "inputs"}),
+    "a text without keys": ("'a\n  na|'\n", set(), {"name", "on"}),
+    "a text in lines in a list": (JOB + "    steps:\n      - >\n        na|\n", set(), {"name"}),
     "a dash in a text": (JOB + "    steps:\n      - run: |\n          ${{ github.r }}\n          -|\n", set(), {"name", "run"}),
     "a tab behind a colon": (JOB + "    runs-on:\t|\n", {"ubuntu-latest"}, {"name"}),
     "the end of a text beyond ASCII": (JOB + "    name: \xe9\U0001F600 ${{ github.r|", {"ref"}, {"name"}),
