@@ -28,13 +28,13 @@ BLOCK_STYLES = ("literal", "folded")
 
 class Marked(NamedTuple):
     """A text with a word at the cursor, which begins at a byte; perhaps with a blank before it, a colon behind the word that the cursor is
-    in, or a dash before that one."""
+    in, at another byte, or a dash before that one."""
 
     data: bytes
     at: int
     has_blank: bool = False
-    has_colon: bool = False
     has_dash: bool = False
+    colon: int | None = None
 
 
 class Spot(NamedTuple):
@@ -65,12 +65,11 @@ class Spot(NamedTuple):
                      if number != own and item["kind"] == "scalar")
 
     def is_above_items(self, places: BytePlaces) -> bool:
-        """Whether it is the only key of its mapping, above a list that begins at its column: then it is typed inside of that list."""
-        if not self.is_key or self.siblings:
-            return False
+        """Whether it is the only key of a mapping, above a list that begins at its column: then it is typed inside of that list."""
         mapping, number = self.around[-1]
         value = mapping["entries"][number][1]
-        return value["kind"] == "sequence" and places.point(value["start"]).column == places.point(self.scalar["start"]).column
+        column, column_of_items = (places.point(one["start"]).column for one in (self.scalar, value))
+        return not self.siblings and value["kind"] == "sequence" and column == column_of_items
 
 
 def place_at(project: Project, file: str, point: Point) -> Place | None:
@@ -117,7 +116,8 @@ class _Cursor:
         is_first = self._is_in_first_word(before)
         if is_first:
             end = self._offset(self._end_of_word) - self._at
-            yield Marked(spaced + WORD + tail[:end] + b":" + tail[end:], len(spaced), self._is_after_sign, has_colon=True)
+            key = spaced + WORD + tail[:end]
+            yield Marked(key + b":" + tail[end:], len(spaced), self._is_after_sign, colon=len(key))
         elif self._is_after_sign:
             yield Marked(spaced + WORD + tail, len(spaced), has_blank=True)
         yield Marked(head + WORD + tail, len(head))
@@ -138,16 +138,16 @@ class _Cursor:
         if self._is_after_sign and not marked.has_blank and spot.is_key and spot.scalar["style"] == "plain":
             # The sign would be a part of the key.
             return False
-        return not (marked.has_colon and spot.is_above_items(BytePlaces(marked.data)))
+        return marked.colon is None or not spot.is_key or end == marked.colon and not spot.is_above_items(BytePlaces(marked.data))
 
     def place(self, spot: Spot, marked: Marked) -> Place:
         """The place of the word of a marked text."""
         scalar, siblings = spot.scalar, spot.siblings
         start = self._places.point(min(scalar["start"] - len(DASH) * marked.has_dash, self._at))
-        has_colon = spot.is_key and not marked.has_colon and COLON.match(marked.data, scalar["end"]) is not None
+        has_colon = spot.is_key and marked.colon is None and COLON.match(marked.data, scalar["end"]) is not None
         span = self._span(spot, start, marked, has_colon)
         is_value = not spot.is_key and not marked.has_dash
-        is_only_key = spot.is_key and not siblings and marked.has_colon
+        is_only_key = spot.is_key and not siblings and marked.colon is not None
         above = self._lines[start.line + (scalar["style"] in BLOCK_STYLES):self._point.line]
         path = spot.path[:-1] if marked.has_dash else spot.path
         return Place(

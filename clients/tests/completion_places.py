@@ -193,6 +193,7 @@ TAKEN = (
     (JOB + "    name: \xe9\U0001F600 ${{ github.r|", "ref", JOB + "    name: \xe9\U0001F600 ${{ github.ref"),
     (JOB + "    if: 'github.event_name == ''pu|'''\n", "push", JOB + "    if: 'github.event_name == ''push'''\n"),
     (JOB + "    if: \"github.event_name == 'a:| b'\"\n", "push", JOB + "    if: \"github.event_name == 'push'\"\n"),
+    ("on:\n  is|sue's:\n    types: opened\n", "issues", "on:\n  issues:\n    types: opened\n"),
     (JOB + "    'na|x': y\n", "name", JOB + "    'name': y\n"),
     (JOB + "    steps: [{'na|'}]\n", "name", JOB + "    steps: [{name: }]\n"),
     (JOB + "    steps: [{na|, run: x}]\n", "name", JOB + "    steps: [{name: , run: x}]\n"),
