@@ -13,7 +13,7 @@ import sys
 from unittest import mock
 
 from cases import Cases
-from completion_places import JOB, NOT_YAML, NOWHERE, PLACES, TAKEN, TREE_PLACES
+from completion_places import JOB, NOT_YAML, NOWHERE, PLACES, TAKEN, TREE_PLACES, Places
 from promises import end, start
 from readers import Linter, reader
 from repositories import FILE, WORKFLOWS
@@ -197,7 +197,7 @@ def end_of(text: str) -> Point:
     return Point(text.count("\n"), len(line))
 
 
-def check_places(places: dict[str, tuple[str, set[str], set[str]]], line_break: str = "\n") -> None:
+def check_places(places: Places, line_break: str = "\n") -> None:
     for what, (text, wanted, unwanted) in places.items():
         labels = [offer.label for offer in offered(text, line_break=line_break)]
         assert wanted <= set(labels), (what, wanted - set(labels), labels)

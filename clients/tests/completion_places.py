@@ -3,7 +3,8 @@ from __future__ import annotations
 
 JOB = "on: push\njobs:\n  a:\n    runs-on: u\n    steps:\n      - {id: one, run: make}\n      - {id: two, run: make}\n  b:\n    needs: a\n"
 # Texts with what must be offered there, and what must not be.
-PLACES = {
+Places = dict[str, tuple[str, set[str], set[str]]]
+PLACES: Places = {
     "keys of a workflow, needed ones first": ("|", {"on", "jobs", "name", "permissions"}, {"runs-on", "steps"}),
     "those that aren't there yet": ("on: push\n|\njobs: {}\n", {"env", "defaults"}, {"on", "jobs"}),
     "keys of a job": (JOB + "    |", {"runs-on", "uses", "strategy"}, {"needs", "on", "run"}),
@@ -122,7 +123,7 @@ PLACES = {
 # Those of them whose texts aren't YAML, whatever word is put in there: their lines are read.
 NOT_YAML = {"a line before is broken", "a bracket is open"}
 # Places in texts that are YAML, where lines alone tell less or something else than the tree does.
-TREE_PLACES = {
+TREE_PLACES: Places = {
     "a key in quotes with escapes": (JOB + '    steps:\n      - "\\x72un": x\n        |', {"shell", "env"}, {"run", "uses"}),
     "a line of a text in quotes that looks like a key": (JOB + "    steps:\n      - run: 'x\n        shell: y'\n        |", {"shell"},
                                                          {"run"}),
