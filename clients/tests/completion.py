@@ -20,12 +20,13 @@ from repositories import FILE, WORKFLOWS
 
 from actionlint_client import completion, place_in_tree, used
 from actionlint_client.completion import Offer, offers
-from actionlint_client.place import Outline
+from actionlint_client.place import Outline, Role
 from actionlint_client.project import Project
 from actionlint_client.report import Fault
 from actionlint_client.sections import can_stand
 from actionlint_client.syntax import available
 from actionlint_client.text import Point, Span
+from actionlint_client.tree import walk
 from actionlint_client.used import used_in
 
 CASES = Cases("completion")
@@ -247,6 +248,30 @@ def what_is_replaced(program: str) -> None:
         offer = next((offer for offer in found if offer.label == label), None)
         assert offer, (text, label)
         assert put(before + after, span, offer.text)[0] == expected, (text, put(before + after, span, offer.text)[0])
+
+
+@CASES.case
+def each_scalar(program: str) -> None:
+    """The place in a key or a value is that which it has in the tree of the text as it is."""
+    chance = random.Random(int(os.environ.get("SEED", "1")))
+    project, count = project_of(FOLDER), 0
+    for file in FOLDER:
+        tree = project.tree(file)
+        assert tree
+        for path, key, value in walk(tree):
+            for scalar, expected in ((key, path[:-1]), (value, path)):
+                if scalar is None or not scalar.pieces:
+                    continue
+                # At the start of one of its lines, or behind the first character there.
+                offset = chance.choice(scalar.pieces)[1] + chance.randrange(2)
+                place = place_in_tree.place_at(project, file, scalar.places.point(offset))
+                assert place and place.path == expected and (place.role is Role.KEY) == (scalar is key), (file, expected, offset, place)
+                nodes = [tree.at(path[:depth]) for depth in range(len(path))]
+                names = [set(node.names()) for node in nodes if node]
+                assert [set(keys) for keys in place.around] == names[:len(expected)], place
+                assert set(place.siblings) == (names[-1] - {path[-1]} if scalar is key else set()), place
+                count += 1
+    assert count > 200, count
 
 
 @CASES.case

@@ -472,6 +472,7 @@ WRONG_VERSIONS = {name: WrongVersion(*row) for name, *row in (
     ("a_key_is_in_its_own_path", "place_in_tree.py", "completion.py by_place",
      "steps = self.around[:-1] if self.is_key else self.around\n        return tuple(one[",
      "steps = self.around\n        return tuple(one["),
+    ("levels_are_those_below", "place_in_tree.py", "completion.py each_scalar", "spot.around[:len(path)]", "spot.around[1:len(path) + 1]"),
     ("levels_have_no_texts", "place_in_tree.py", "completion.py by_place", 'value.get("text", "") for', '"" for'),
     ("items_of_the_list_are_missed", "place_in_tree.py", "completion.py by_place",
      'if number != own and item["kind"] == "scalar"', "if False"),
