@@ -10,7 +10,8 @@ from .expressions import Before, Property, Scope, chain_before, expression_befor
 from .markdown import Markdown, escaped_or_none
 from .names import names
 from .paths import is_workflow
-from .place import Place, Role, outline_of
+from .place import Place, Role
+from .place_in_tree import place_at
 from .project import Project
 from .sections import activity_types, can_stand, github
 from .stricter import takes_access, takes_filter
@@ -72,16 +73,12 @@ class Cursor:
         return {key: text.strip("'\"") for key, text in found.items()}
 
 
-def cursor_at(project: Project, file: str, point: Point, is_strict: bool = True) -> Cursor:
-    return Cursor(project, file, outline_of(project.text(file)).place(point), is_strict)
-
-
 def offers(project: Project, file: str, point: Point, is_strict: bool = True) -> tuple[Span, list[Offer]]:
     """What is allowed at a point, and the characters that it replaces; `is_strict` is that of the cursor."""
-    cursor = cursor_at(project, file, point, is_strict)
-    place = cursor.place
-    if point < place.span.start or outline_of(project.text(file)).is_in_comment(point):
-        return place.span, []
+    place = place_at(project, file, point)
+    if place is None:
+        return Span.at(point), []
+    cursor = Cursor(project, file, place, is_strict)
     expression = None
     if place.role is not Role.KEY:
         expression = expression_before(place.before, is_condition(place.path))
@@ -101,7 +98,7 @@ def offers(project: Project, file: str, point: Point, is_strict: bool = True) ->
         found += [offer for offer in values(cursor) if offer.label not in known]
     if is_after_sign(project.lines(file)[point.line], place):
         found = [replace(offer, text=" " + offer.text) for offer in found]
-    if key_of(place.path)[1] == "cron" and place.before[:1] not in ("'", '"'):
+    if key_of(place.path)[1] == "cron" and not place.quote:
         line = project.lines(file)[point.line]
         rest = REST.match(line, point.column)
         return Span(place.span.start, Point(point.line, rest.end() if rest else point.column)), found
@@ -124,7 +121,7 @@ def names_in_expression(cursor: Cursor, before: Before) -> list[Offer]:
     if available(cursor.file, place.path) is None:
         return []
     scope = Scope(cursor.project, cursor.file, cursor.tree, place.path)
-    quote = "''''" if place.before[:1] == "'" else "''"
+    quote = "''''" if place.quote == "'" else "''"
     if before.is_compared:
         return [Offer(value, "value", value, "value") for value in dict.fromkeys(scope.values(before.chain))]
     if before.chain == ("secrets",):
@@ -153,7 +150,7 @@ def keys(cursor: Cursor) -> Iterable[Offer]:
     shape = shape_at(cursor.file, place.path, cursor.levels)
     if shape is not None and shape["items"] and not place.in_flow:
         yield from _first_keys(cursor, table()["shapes"][shape["items"]])
-    if shape is None or "keys" not in shape:
+    if shape is None or "keys" not in shape or place.needs_dash:
         return
     section, fields = shape["section"], shape["keys"]
     if section == "event" and cursor.is_strict:
@@ -234,7 +231,8 @@ def values(cursor: Cursor) -> list[Offer]:
     around, key = key_of(cursor.place.path)
     section = cursor.section(around) or ""
     found = [*_fixed_values(cursor, section, key, around), *_names_of_file(cursor, section, key), *_flags(cursor)]
-    return [replace(one, text=_quoted(cursor.place, one.text)) for one in found]
+    dash = "- " if cursor.place.needs_dash else ""
+    return [replace(one, text=dash + _quoted(cursor.place, one.text)) for one in found]
 
 
 def _fixed_values(cursor: Cursor, section: str, key: str | None, around: Path) -> list[Offer]:
@@ -357,13 +355,13 @@ def _flags(cursor: Cursor) -> list[Offer]:
         tree = cursor.project.good_tree(callee) if callee else None
         declared = files.declarations(callee, tree, "inputs", True) if callee else []
         is_flag = any(one.name.lower() == str(path[-1]).lower() and one.value.text("type") == "boolean" for one in declared)
-    if not is_flag or cursor.place.before[:1] in ("'", '"'):
+    if not is_flag or cursor.place.quote:
         return []
     return [Offer(word, "value", word, "boolean") for word in ("true", "false")]
 
 
 def _quoted(place: Place, text: str) -> str:
     """A text as a value: in quotes if YAML would read it differently without, unless quotes are already there."""
-    if place.before[:1] in ("'", '"') or PLAIN.fullmatch(text):
-        return text.replace("'", "''") if place.before[:1] == "'" else text
+    if place.quote or PLAIN.fullmatch(text):
+        return text.replace("'", "''") if place.quote == "'" else text
     return "'" + text.replace("'", "''") + "'"

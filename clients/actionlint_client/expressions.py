@@ -41,7 +41,7 @@ def expression_before(text: str, is_condition: bool) -> str | None:
     start = text.rfind("${{")
     if start < 0 and not is_condition:
         return None
-    expression = text.lstrip("'\"") if start < 0 else text[start + len("${{"):]
+    expression = text if start < 0 else text[start + len("${{"):]
     if len(expression) > MAX_EXPRESSION_BYTES or start >= 0 and "}}" in STRING.sub("", expression):
         return None
     return expression

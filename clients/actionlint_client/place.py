@@ -1,9 +1,8 @@
-"""The place of a cursor, by the indentation of the lines around it, so that it is known in text that isn't YAML too, such as a half-typed
-key."""
+"""The place of a cursor by the indentation of the lines around it, for texts that aren't YAML, and what their lines have for repairs."""
 from __future__ import annotations
 
 import re
-from dataclasses import dataclass, field
+from dataclasses import dataclass, field, replace
 from enum import Enum
 from functools import lru_cache
 from typing import NamedTuple, Sequence
@@ -20,8 +19,9 @@ NO_VALUE = re.compile(r"(?:[&!]\S+(?:\s+|$))*(?:#.*)?")
 BLOCK_SCALAR = re.compile(r"(?:[&!]\S+ +)*[|>][-+0-9]*\s*(?:#.*)?$")
 FLOW_TOKEN = re.compile(r"""\s+|\#[^\n]*|"[^"\\]*(?:\\.[^"\\]*)*"?|'[^']*(?:''[^']*)*'?|[\[\]{},]|:(?=[\s,\[\]{}]|$)"""
                         r"""|(?:[^\s,\[\]{}:"'\#]|:(?=[^\s,\[\]{}]))[^,\[\]{}:\n]*(?::(?=[^\s,\[\]{}])[^,\[\]{}:\n]*)*""")
-WORD = re.compile(r"[^\s,\[\]{}'\":]*(?::(?!\s|$)[^\s,\[\]{}'\":]*)*")
+WORD = re.compile(r"[^ \t,\[\]{}'\":]*(?::(?![ \t]|$)[^ \t,\[\]{}'\":]*)*")
 COLON = re.compile(r"['\"]? *:(?:\s|$)")
+QUOTES = ("'", '"')
 MAX_FLOW_LINES = 100
 MAX_CHARACTERS_AFTER = 10_000
 # No file that the linter accepts is as deep.
@@ -38,9 +38,10 @@ class Role(Enum):
 @dataclass(frozen=True)
 class Place:
     """What the cursor is on: a key of the mapping at `path`, or its value. `typed` is the part of it before the cursor, and `before` the
-    value's whole text up to there. `siblings` are the other keys of the mapping with the texts of their values, and `around` has the same
-    for each key of the path. `entries` are the texts of the other entries of the list that the cursor is in. Below a key with a value on
-    its own line nothing can begin: the place is `taken`, though text may continue there."""
+    value's whole text up to there without its opening `quote`. `siblings` are the other keys of the mapping with the texts of their values,
+    and `around` has the same for each key of the path. `entries` are the texts of the other entries of the list that the cursor is in.
+    Below a key with a value on its own line nothing can begin: the place is `taken`, though text may continue there. Where only an entry
+    of a list can begin that has no dash yet, the place `needs_dash`, and `path` is that of the list."""
 
     path: Path
     role: Role
@@ -54,6 +55,8 @@ class Place:
     in_flow: bool = False
     taken: bool = False
     entries: tuple[str, ...] = ()
+    quote: str = ""
+    needs_dash: bool = False
 
 
 class Element(NamedTuple):
@@ -116,7 +119,9 @@ class Outline:
         line = self.lines[point.line]
         if line.owner is not None and (self.texts[point.line].strip() or point.column > self.lines[line.owner].elements[-1].column):
             return self._place_in_block_scalar(line.owner, point)
-        return self._place_in_flow(point) or self._place_in_lines(point)
+        found = self._place_in_flow(point) or self._place_in_lines(point)
+        is_quoted = found.before[:1] in QUOTES
+        return replace(found, before=found.before[1:], quote=found.before[0]) if is_quoted else found
 
     def is_in_comment(self, point: Point) -> bool:
         """Whether a point is behind the sign of a comment. Block scalars have none."""
@@ -173,7 +178,7 @@ class Outline:
             closing = text.find(text[start - 1], point.column)
             end = closing if closing >= 0 else len(text)
         else:
-            end = _end_of_word(text, point.column)
+            end = end_of_word(text, point.column)
         return Span.on_line(point.line, start, end), text[start:end], text[start:point.column]
 
     def _place_in_flow(self, point: Point) -> Place | None:
@@ -205,7 +210,7 @@ class Outline:
         full = (*path, *below) if role is Role.VALUE else (*path, *below[:-1])
         last = frames[-1]
         closing = self.texts[point.line].find(flow.value_before[:1], point.column) if flow.value_before[:1] in ("'", '"') else -1
-        end = closing if closing >= 0 else _end_of_word(self.texts[point.line], point.column)
+        end = closing if closing >= 0 else end_of_word(self.texts[point.line], point.column)
         word = self.texts[point.line][column:end]
         has_colon = role is Role.KEY and COLON.match(self.texts[point.line], end) is not None
         siblings = {name: value for name, value in (last.keys or {}).items() if role is Role.KEY and name != word}
@@ -380,7 +385,8 @@ def outline_of(text: str) -> Outline:
     return Outline(text.split("\n"))
 
 
-def _end_of_word(text: str, start: int) -> int:
+def end_of_word(text: str, start: int) -> int:
+    """Where the word at a column of a line ends."""
     found = WORD.match(text, start)
     return found.end() if found else start
 

@@ -11,7 +11,7 @@ from .text import LINE_BREAK
 from .tree import Node, Path
 
 if TYPE_CHECKING:
-    from .facts_tree import Place
+    from .facts_tree import Json, Place
     from .reader import Reader
 
 # Files whose texts and trees are held, besides those that are open.
@@ -95,6 +95,13 @@ class Project:
             lines[line] = ""
         known.good = self._tree_of(file, "\n".join(lines).encode("utf-8", "surrogatepass")) or known.good
         return known.good
+
+    def answered_tree(self, file: str, data: bytes) -> Json | None:
+        """The tree of a file if it had these bytes, as actionlint-facts answers it. None if they aren't valid YAML."""
+        try:
+            return self._reader.answered_tree(file, data)
+        except LinterEnded:
+            return None
 
     def expressions(self, file: str) -> dict[int, Place]:
         """The scalars of a file that have expressions, by the byte at which they begin. None of them while it isn't valid YAML."""

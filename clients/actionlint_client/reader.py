@@ -5,7 +5,7 @@ from typing import Any, Callable
 
 from .child import LinterEnded, LinterMissing, LinterSilent
 from .facts import Facts, NoAnswer, NoTree
-from .facts_tree import Place, read_place
+from .facts_tree import Json, Place, read_place
 from .linter_limits import MAX_FILE_BYTES
 from .paths import is_linted, is_path
 from .program import find_facts
@@ -20,8 +20,13 @@ class Reader:
         self._started = started
 
     def tree(self, path: str, data: bytes) -> Node | None:
-        root = self._answer("tree", path, data)
+        root = self.answered_tree(path, data)
         return None if root is None else tree_of(root, data)
+
+    def answered_tree(self, path: str, data: bytes) -> Json | None:
+        """The tree as actionlint-facts answers it: most of the time of a long text's tree goes into its nodes."""
+        root: Json | None = self._answer("tree", path, data)
+        return root
 
     def expressions(self, path: str, data: bytes) -> list[Place]:
         """The scalars that have expressions."""

@@ -159,9 +159,8 @@ def _scalars_as_other(case: Case, here: Found) -> Iterable[Repair]:
         return
     if case.arguments[0] == "permissions":
         yield case.replace("make it a mapping", "{" + ", ".join(f"{scope}: read" for scope in texts) + "}", span)
-    line = case.outline.lines[here.value.span.start.line]
-    if case.arguments[0] == "run" and line.elements:
-        indent = "\n" + " " * (line.elements[-1].column + 2)
+    if case.arguments[0] == "run" and here.key:
+        indent = "\n" + " " * (here.key.span.start.column + 2)
         yield case.replace("write the script as a block", "|" + "".join(indent + text for text in texts), span)
     pairs = [re.fullmatch(r"([\w-]+)=(.*)", text) for text in texts]
     if all(pairs):

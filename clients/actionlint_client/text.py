@@ -74,16 +74,20 @@ class BytePlaces:
         return Span(self.point(start), self.point(end))
 
     def offset(self, point: Point) -> int:
-        """The byte at a point of the text."""
+        """The byte at a point of the text, at most that of its end."""
         characters = None if self._is_ascii else self._characters_of(point.line)
-        column = characters[point.column] if characters and point.column < len(characters) else point.column
-        return self._starts[point.line] + column
+        if not characters:
+            return min(self._starts[point.line] + point.column, len(self._data))
+        return self._starts[point.line] + characters[point.column] if point.column < len(characters) else self._start_of(point.line + 1)
+
+    def _start_of(self, line: int) -> int:
+        """Where a line begins, or the text ends if there is none."""
+        return self._starts[line] if line < len(self._starts) else len(self._data)
 
     def _characters_of(self, line: int) -> array[int]:
         found = self._characters.get(line)
         if found is None:
-            following = self._starts[line + 1] if line + 1 < len(self._starts) else len(self._data)
-            data = self._data[self._starts[line]:following]
+            data = self._data[self._starts[line]:self._start_of(line + 1)]
             found = array("L", () if data.isascii() else (at for at, byte in enumerate(data) if byte & 0xC0 != 0x80))
             self._characters[line] = found
         return found

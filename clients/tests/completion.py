@@ -10,20 +10,23 @@ import os
 import random
 import re
 import sys
+from unittest import mock
 
 from cases import Cases
-from completion_places import JOB, PLACES
+from completion_places import JOB, NOT_YAML, NOWHERE, PLACES, TAKEN, TREE_PLACES, Places
 from promises import end, start
 from readers import Linter, reader
 from repositories import FILE, WORKFLOWS
 
-from actionlint_client import used
+from actionlint_client import completion, place_in_tree, used
 from actionlint_client.completion import Offer, offers
+from actionlint_client.place import Outline, Role
 from actionlint_client.project import Project
 from actionlint_client.report import Fault
 from actionlint_client.sections import can_stand
 from actionlint_client.syntax import available
 from actionlint_client.text import Point, Span
+from actionlint_client.tree import walk
 from actionlint_client.used import used_in
 
 CASES = Cases("completion")
@@ -177,24 +180,111 @@ def project_of(texts: dict[str, str]) -> Project:
     return Project(reader(), files.get, lambda: list(files))
 
 
-def offered(text: str, file: str = FILE, folder: dict[str, str] = FOLDER) -> list[Offer]:
-    """The offers at the last `|` of a text."""
+def offered(text: str, file: str = FILE, folder: dict[str, str] = FOLDER, line_break: str = "\n") -> list[Offer]:
+    """The offers at the last `|` of a text, in which lines end with a line break."""
     before, _, after = text.rpartition("|")
-    return offers_between(before, after, file, folder)[1]
+    return offers_between(before, after, file, folder, line_break)[1]
 
 
-def offers_between(before: str, after: str, file: str = FILE, folder: dict[str, str] = FOLDER) -> tuple[Span, list[Offer]]:
+def offers_between(before: str, after: str, file: str = FILE, folder: dict[str, str] = FOLDER,
+                   line_break: str = "\n") -> tuple[Span, list[Offer]]:
     """The offers between the two parts of a text, and the span that they replace."""
-    point = Point(before.count("\n"), len(before) - before.rfind("\n") - 1)
-    return offers(project_of({**folder, file: before + after}), file, point)
+    return offers(project_of({**folder, file: (before + after).replace("\n", line_break)}), file, end_of(before))
+
+
+def end_of(text: str) -> Point:
+    """The end of a text. A byte order mark belongs to no line."""
+    line = text.removeprefix("\ufeff").rpartition("\n")[2]
+    return Point(text.count("\n"), len(line))
+
+
+def check_places(places: Places, line_break: str = "\n") -> None:
+    for what, (text, wanted, unwanted) in places.items():
+        labels = [offer.label for offer in offered(text, line_break=line_break)]
+        assert wanted <= set(labels), (what, wanted - set(labels), labels)
+        assert not unwanted & set(labels), (what, unwanted & set(labels))
 
 
 @CASES.case
 def by_place(program: str) -> None:
-    for what, (text, wanted, unwanted) in PLACES.items():
-        labels = [offer.label for offer in offered(text)]
-        assert wanted <= set(labels), (what, wanted - set(labels), labels)
-        assert not unwanted & set(labels), (what, unwanted & set(labels))
+    """A text's lines are read only if it isn't YAML, whatever word is put in there. The line breaks and a byte order mark don't matter."""
+    read_by_lines = []
+    outline_of = place_in_tree.outline_of
+
+    def outline_of_no_yaml(text: str) -> Outline:
+        assert reader().tree(FILE, text.encode()) is None, f"a text that is YAML is read line by line:\n{text}"
+        read_by_lines.append(text)
+        return outline_of(text)
+
+    with mock.patch.object(place_in_tree, "outline_of", outline_of_no_yaml):
+        for line_break in ("\n", "\r\n", "\r"):
+            check_places({**PLACES, **TREE_PLACES}, line_break)
+        assert {*read_by_lines} == {PLACES[what][0].replace("|", "") for what in NOT_YAML}
+        check_places({what: ("\ufeff" + text, wanted, unwanted) for what, (text, wanted, unwanted) in PLACES.items()})
+
+
+@CASES.case
+def by_lines(program: str) -> None:
+    """While a text isn't YAML, its lines tell the same."""
+    with mock.patch.object(completion, "place_at", place_in_tree.place_in_lines):
+        check_places(PLACES)
+
+
+@CASES.case
+def nowhere(program: str) -> None:
+    """Nothing is offered where nothing can begin."""
+    for what, text in NOWHERE.items():
+        before, _, after = text.rpartition("|")
+        assert reader().tree(FILE, (before + after).encode()), what
+        assert not offered(text), (what, offered(text)[:3])
+
+
+@CASES.case
+def what_is_replaced(program: str) -> None:
+    """An offer replaces what is typed of its word, and the rest of it, and nothing else."""
+    for text, label, expected in TAKEN:
+        before, _, after = text.rpartition("|")
+        span, found = offers_between(before, after)
+        offer = next((offer for offer in found if offer.label == label), None)
+        assert offer, (text, label)
+        assert put(before + after, span, offer.text)[0] == expected, (text, put(before + after, span, offer.text)[0])
+
+
+@CASES.case
+def each_scalar(program: str) -> None:
+    """The place in a key or a value is that which it has in the tree of the text as it is."""
+    chance = random.Random(int(os.environ.get("SEED", "1")))
+    project, count = project_of(FOLDER), 0
+    for file in FOLDER:
+        tree = project.tree(file)
+        assert tree
+        for path, key, value in walk(tree):
+            for scalar, expected in ((key, path[:-1]), (value, path)):
+                if scalar is None or not scalar.pieces:
+                    continue
+                # At the start of one of its lines, or behind the first character there.
+                offset = chance.choice(scalar.pieces)[1] + chance.randrange(2)
+                place = place_in_tree.place_at(project, file, scalar.places.point(offset))
+                assert place and place.path == expected and (place.role is Role.KEY) == (scalar is key), (file, expected, offset, place)
+                nodes = [tree.at(path[:depth]) for depth in range(len(path))]
+                names = [set(node.names()) for node in nodes if node]
+                assert [set(keys) for keys in place.around] == names[:len(expected)], place
+                assert set(place.siblings) == (names[-1] - {path[-1]} if scalar is key else set()), place
+                count += 1
+    assert count > 200, count
+
+
+@CASES.case
+def readings(program: str) -> None:
+    """At most three texts are read for a place: those with a key, with a word and with an entry."""
+    most = 0
+    for text in [*NOWHERE.values(), *(text for text, _, _ in (*PLACES.values(), *TREE_PLACES.values()))]:
+        before, _, after = text.rpartition("|")
+        project = project_of({FILE: before + after})
+        with mock.patch.object(project, "answered_tree", wraps=project.answered_tree) as read:
+            place_in_tree.place_at(project, FILE, end_of(before))
+        most = max(most, read.call_count)
+    assert most == 3, most
 
 
 @CASES.case
@@ -380,7 +470,7 @@ def each_is_taken_on_a_new_line(program: str) -> None:
         lines = whole.split("\n")
         for number, indent in itertools.product(range(len(lines)), range(0, 14, 2)):
             before, after = "\n".join([*lines[:number], " " * indent]), "".join("\n" + line for line in lines[number:])
-            count += check_some(linter, path, before, after, chance, 2)
+            count += check_some(linter, path, before, after, chance, 3)
             faults_after(linter, path, whole)
     assert count > PUTS / 2, count
 

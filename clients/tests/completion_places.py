@@ -1,9 +1,10 @@
-"""Places in texts, each at the last `|`, and what completion offers there."""
+"""Places in texts, each at the last `|`, and what completion offers there. What is YAML and what its scalars are follows YAML 1.2.2."""
 from __future__ import annotations
 
 JOB = "on: push\njobs:\n  a:\n    runs-on: u\n    steps:\n      - {id: one, run: make}\n      - {id: two, run: make}\n  b:\n    needs: a\n"
 # Texts with what must be offered there, and what must not be.
-PLACES = {
+Places = dict[str, tuple[str, set[str], set[str]]]
+PLACES: Places = {
     "keys of a workflow, needed ones first": ("|", {"on", "jobs", "name", "permissions"}, {"runs-on", "steps"}),
     "those that aren't there yet": ("on: push\n|\njobs: {}\n", {"env", "defaults"}, {"on", "jobs"}),
     "keys of a job": (JOB + "    |", {"runs-on", "uses", "strategy"}, {"needs", "on", "run"}),
@@ -119,3 +120,85 @@ PLACES = {
                               {"DEPLOY_KEY", "GITHUB_TOKEN"}, set()),
     "nothing in a script": (JOB + "    steps:\n      - run: |\n          na|", set(), {"name", "github"}),
 }
+# Those of them whose texts aren't YAML, whatever word is put in there: their lines are read.
+NOT_YAML = {"a line before is broken", "a bracket is open"}
+# Places in texts that are YAML, where lines alone tell less or something else than the tree does.
+TREE_PLACES: Places = {
+    "a key in quotes with escapes": (JOB + '    steps:\n      - "\\x72un": x\n        |', {"shell", "env"}, {"run", "uses"}),
+    "a line of a text in quotes that looks like a key": (JOB + "    steps:\n      - run: 'x\n        shell: y'\n        |", {"shell"},
+                                                         {"run"}),
+    # Neither U+0085 nor U+2028 is a blank or a line break.
+    "U+0085 behind a colon": (JOB + "    steps:\n      - run:\x85x: y\n        |", {"run", "uses"}, set()),
+    "U+2028 before what would be a comment": (JOB + "    steps:\n      - run: a\u2028# ${{ github.r|", {"ref"}, set()),
+    "U+2028 in a comment": (JOB + "    # a\u2028|", set(), {"steps", "runs-on"}),
+    "the text of an alias": (JOB + "    steps:\n      - uses: &a ./greet\n      - uses: *a\n        with:\n          |", {"who", "loud"},
+                             set()),
+    "an apostrophe in quotes": (JOB + "    if: 'github.event_name == ''pu|'''\n", {"push"}, {"github"}),
+    "quotes in quotes": (JOB + '    if: "\'\\x61\' == github.r|"\n', {"ref"}, set()),
+    "brackets over many lines": ("on: [\n" + "  # one\n" * 120 + "  push,\n  |\n]\njobs: {}\n", {"issues"}, {"push", "name"}),
+    "braces over many lines": (JOB + "    steps:\n      - {\n        run: x,\n" + "        # one\n" * 120 + "        |\n        }\n",
+                               {"shell"}, {"run", "uses"}),
+    "a value of several lines": (JOB + "    steps:\n      - name: x\n        if: github.ref ==\n           github.r|\n", {"ref"}, {"name"}),
+    "an entry without its dash": ("on:\n  - push\n  |\njobs: {}\n", {"issues"}, {"push", "name"}),
+    "an entry without its dash above others": ("on:\n  |\n  - push\njobs: {}\n", {"issues"}, {"push", "jobs"}),
+    "a key above a list at its column": (JOB + "    runs-on: u\n    |\n    - run: x\n", {"steps"}, {"runs-on", "run"}),
+    "a key above deeper lines": ("on:\n  |\n    branches: x\njobs: {}\n", {"push"}, set()),
+    "a level that ends above": (JOB + "    steps:\n      - run: x\n    |\n", {"runs-on"}, {"steps", "shell"}),
+    "a key before its colon": (JOB + "    steps:\n      - na| : x\n", {"name", "run"}, set()),
+    "behind a bare dash": (JOB + "    steps:\n      -|\n        run: x\n", {"shell"}, {"run", "uses"}),
+    "a colon in quotes": (JOB + "    runs-on: 'a:|\n    # '\n", set(), {"name", "steps"}),
+    "a colon in a word": (JOB + "    steps:\n      - uses: docker:|\n", {"./greet"}, {"name"}),
+    "a colon before another key": ("on:\n  workflow_call:\n    secrets:|  token: {required: true}\njobs: {}\n", set(),
+                                   {"secrets", "inputs"}),
+    "a text without keys": ("'a\n  na|'\n", set(), {"name", "on"}),
+    "a text in lines in a list": (JOB + "    steps:\n      - >\n        na|\n", set(), {"name"}),
+    "a dash in a text": (JOB + "    steps:\n      - run: |\n          ${{ github.r }}\n          -|\n", set(), {"name", "run"}),
+    "a tab behind a colon": (JOB + "    runs-on:\t|\n", {"ubuntu-latest"}, {"name"}),
+    "the end of a text beyond ASCII": (JOB + "    name: \xe9\U0001F600 ${{ github.r|", {"ref"}, {"name"}),
+}
+# Places in YAML where nothing can begin: whatever is typed there is a part of something else, or no YAML.
+NOWHERE = {
+    "behind a tab in place of indentation": JOB + "    steps:\n      - run: x\n\t|\n",
+    "a column of no level": JOB + "    steps:\n      - run: x\n     |\n",
+    "a level above that of a key below": "on:\n  push:\n      |\n    branches: x\njobs: {}\n",
+    "behind quotes": JOB + "    runs-on: 'u'|\n",
+    "behind brackets": JOB + "    steps: []|\n",
+    "right before brackets": "on:\n  issues:\n    types: |[opened]\njobs: {}\n",
+    "right before quotes": JOB + "    runs-on: |'u'\n",
+    "before a value behind a blank": JOB + "    runs-on: | u\n",
+    "before a comma behind a blank": "on: [| push]\njobs: {}\n",
+    "behind a comma before an entry": "on: [push,| issues]\njobs: {}\n",
+    "behind a colon before a value": "on: {push: {branches:| x}}\njobs: {}\n",
+    "behind a colon before a value in a list": "on:\n  - push:| x\njobs: {}\n",
+    "behind a dash before a key": JOB + "    steps:\n      -| run: x\n",
+    "right before a dash": JOB + "    steps:\n      |- run: x\n",
+    "right before a comment": JOB + "    |# x\n",
+    "in the indentation of a line": JOB + "  |  runs-on: u\n",
+    "behind a key with entries below": "on:|\n  push:\njobs: {}\n",
+    "behind a key with a list below": "on: |\n  - push\njobs: {}\n",
+    "in a text whose line looks like an entry": JOB + "    runs-on:\n      a\n      - |\n",
+    "in an alias": "on: &push push\nname: *pu|sh\njobs: {}\n",
+    "in an anchor": "on: &pu|sh push\njobs: {}\n",
+    "in the header of a script": JOB + "    steps:\n      - if: >| # ${{ github.\n          x\n",
+    "in the comment of a header": JOB + "    steps:\n      - if: > # ${{ github.|\n          x\n",
+    "below a list in brackets": JOB + "    needs: [a]\n      |\n",
+}
+# A place, an offer there, and the text with it.
+TAKEN = (
+    ("on:\n  - push\n  |\n", "issues", "on:\n  - push\n  - issues\n"),
+    ("on:\n  - push\n  is|\n", "issues", "on:\n  - push\n  - issues\n"),
+    ("on:|\n", "push", "on: push\n"),
+    ("on: [push,|]\n", "issues", "on: [push,issues]\n"),
+    (JOB + "    runs-on: &build.env |\n", "ubuntu-latest", JOB + "    runs-on: &build.env ubuntu-latest\n"),
+    (JOB + "    runs-on: 'ub|x y'\n", "ubuntu-latest", JOB + "    runs-on: 'ubuntu-latest'\n"),
+    (JOB + "    name: \xe9\U0001F600 ${{ github.r|", "ref", JOB + "    name: \xe9\U0001F600 ${{ github.ref"),
+    (JOB + "    if: 'github.event_name == ''pu|'''\n", "push", JOB + "    if: 'github.event_name == ''push'''\n"),
+    (JOB + "    if: \"github.event_name == 'a:| b'\"\n", "push", JOB + "    if: \"github.event_name == 'push'\"\n"),
+    ("on:\n  is|sue's:\n    types: opened\n", "issues", "on:\n  issues:\n    types: opened\n"),
+    (JOB + "    'na|x': y\n", "name", JOB + "    'name': y\n"),
+    (JOB + "    steps: [{'na|'}]\n", "name", JOB + "    steps: [{name: }]\n"),
+    (JOB + "    steps: [{na|, run: x}]\n", "name", JOB + "    steps: [{name: , run: x}]\n"),
+    (JOB + "    sta|\n    steps: []\n", "strategy", JOB + "    strategy:\n      \n    steps: []\n"),
+    (JOB + "    na|m : x\n", "name", JOB + "    name : x\n"),
+    (JOB + "    n|me foo\n", "name", JOB + "    name:  foo\n"),
+)
