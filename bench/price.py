@@ -3,10 +3,10 @@
 CHANGEs, by default all, are the names of files in bench/changes. For each the change is made in a copy of the repository, and the kit's
 gate runs there (`rt ci`): on a machine that has proved the sources as they are, it proves only what changed and the crates above it, tries
 their edits, and builds and runs all tests and programs. Prints for each change how many crates were proved again, the processor minutes,
-and the minutes on at most four processors until the program was built and the tests had passed. --write proves
-nothing: it adds up the noted seconds (tools/proof_seconds.txt) of the crates that change and of those above them, all of which the kit
-proves again, and writes the table of docs/PROVING.md and the line below the heading of each change in docs/CHANGING.md. --check looks whether
-each change can be made, and whether both pages have what these seconds give.
+and the minutes on at most four processors until the program was built and the tests had passed. --write proves nothing: it adds up the
+noted seconds (tools/proof_seconds.txt) of the crates that change and of those above them, all of which the kit proves again, and writes
+the table of docs/PROVING.md and the line below the heading of each change in docs/CHANGING.md. --check looks whether each change can be
+made, and whether both pages have what these seconds give.
 
 A change is a list of replacements, each of three parts: a pattern of paths, a text that occurs once in the files of those paths (`all:` if
 more often), and its new lines. Files that change get a comment with the time, since what was once proved is never proved again.
@@ -42,9 +42,9 @@ PRICE = re.compile(r"(^## (.+)\n\n)\*\d+ processor minutes.+\n", re.MULTILINE)
 # the heading of each change on the second page, and the contract that has the crates above it proved again
 HEADINGS = {"event": "An event", "format": "A printed format", "function": "An expression function", "key": "A key of a section",
             "message": "A message", "property": "A field of a context", "rule": "A rule"}
-HOLDERS = {"event": "`shape_faults` (`al_tree`): the table of sections", "format": "`write_fault` (`al_text`): each printed byte",
-           "function": "`signature_of` (`al_expr_names`): the table of functions", "key": "`shape_faults` (`al_tree`): the table of sections",
-           "message": "`write_fault` (`al_text`): each printed byte", "property": "`github_type` (`al_check_objects`): its fields",
+SECTIONS, PRINTED = "`shape_faults` (`al_tree`): the table of sections", "`write_fault` (`al_text`): each printed byte"
+HOLDERS = {"event": SECTIONS, "format": PRINTED, "function": "`signature_of` (`al_expr_names`): the table of functions", "key": SECTIONS,
+           "message": PRINTED, "property": "`github_type` (`al_check_objects`): its fields",
            "rule": "`fault_list` (`al_base`): the order of codes"}
 REPLACEMENT = re.compile(r"file: (.+)\n(old|all): (.+)\n((?:new: .*\n)+)")
 # a crate, and the seconds of its proof, its tests and its edits
