@@ -6,7 +6,7 @@ import json
 from typing import Any, Iterable
 
 from .child import Child
-from .facts_tree import CodedFault, Json, Node, Place, read_fault, read_node, read_place
+from .facts_tree import CodedFault, Json, read_fault
 from .limit import LIMIT
 
 MAX_ANSWER_BYTES = 64 * 1_048_576
@@ -23,11 +23,7 @@ class EditRefused(Exception):
 
 
 class NoTree(Exception):
-    """A file isn't valid YAML, and has this one fault."""
-
-    def __init__(self, fault: CodedFault):
-        super().__init__(fault.message)
-        self.fault = fault
+    """A text isn't valid YAML."""
 
 
 class NoAnswer(Exception):
@@ -46,7 +42,7 @@ class Facts(Child):
 
     def faults(self, path: str) -> list[CodedFault]:
         """The faults of a file, in order, with those of call cycles."""
-        return [read_fault(one) for one in self._asked("faults", "faults", path)]
+        return [read_fault(one) for one in self._asked(f"faults {path}", "faults")]
 
     def first_faults(self, path: str, most: int) -> tuple[list[CodedFault], int]:
         """The first faults of a file, at most so many, and how many more it has. Raises `NoAnswer` if they take too many bytes."""
@@ -65,17 +61,12 @@ class Facts(Child):
         """The paths that calls name and the folder doesn't have."""
         return list(self._asked("lacks", "lacks"))
 
-    def tree(self, path: str) -> Node:
-        """Raises `NoTree`."""
-        return read_node(self._asked("tree", "tree", path))
-
-    def expressions(self, path: str) -> list[Place]:
-        """The scalars of a file that have expressions. Raises `NoTree`."""
-        return [read_place(one) for one in self._asked("expressions", "expressions", path)]
-
     def of_bytes(self, question: str, path: str, data: bytes) -> Any:
         """What a question about a file would have for an answer if it had these bytes. Raises `NoTree`."""
-        return self._told(question, self._answer_to(f"bytes {question} {path} {len(data)}\n".encode(), data, b"\n"))
+        answer = self._answer_to(f"bytes {question} {path} {len(data)}\n".encode(), data, b"\n")
+        if "faults" in answer:
+            raise NoTree(answer["faults"][0]["message"])
+        return self._member(answer, question)
 
     def tables(self) -> dict[str, Any]:
         """What the linter accepts, its codes and its limits."""
@@ -87,15 +78,8 @@ class Facts(Child):
             raise EditRefused(answer["refused"], answer["reason"])
         return list(self._member(answer, "rechecked"))
 
-    def _asked(self, question: str, key: str, path: str | None = None, max_bytes: int | None = None) -> Any:
-        words = question if path is None else f"{question} {path}"
-        return self._told(key, self._answer_to(f"{words}\n".encode(), max_bytes=max_bytes))
-
-    def _told(self, key: str, answer: Json) -> Any:
-        """What an answer has under a key, if it isn't the fault of a file without a tree."""
-        if key != "faults" and "faults" in answer:
-            raise NoTree(read_fault(answer["faults"][0]))
-        return self._member(answer, key)
+    def _asked(self, question: str, key: str, max_bytes: int | None = None) -> Any:
+        return self._member(self._answer_to(f"{question}\n".encode(), max_bytes=max_bytes), key)
 
     def _answer_to(self, *parts: bytes, max_bytes: int | None = None) -> Json:
         most = MAX_ANSWER_BYTES if max_bytes is None else max_bytes

@@ -1,12 +1,10 @@
-"""What actionlint-facts says of a file: its faults, its tree as YAML and its expressions, with their places as offsets of bytes."""
+"""What actionlint-facts says of a file: its faults and its expressions, with their places as offsets of bytes."""
 from __future__ import annotations
 
-from dataclasses import dataclass, field
-from functools import cached_property
+from dataclasses import dataclass
 from typing import Any, Iterator, Union
 
 Json = dict[str, Any]
-Key = Union[str, int]
 
 
 @dataclass(frozen=True)
@@ -23,66 +21,6 @@ class CodedFault:
     column: int = 0
     end_line: int = 0
     end_column: int = 0
-
-
-@dataclass
-class Node:
-    """A node of a tree. A node behind an alias has the span of the node at its anchor."""
-
-    kind: str
-    start: int
-    end: int
-    # Whether it has an anchor, or an alias stands for it.
-    is_shared: bool = False
-    # Of a scalar: how it is written, its class by the core schema, its text, and where the bytes of that come from.
-    style: str = ""
-    schema_class: str = ""
-    text: str = ""
-    places: list[list[int]] = field(default_factory=list)
-    items: list[Node] = field(default_factory=list)
-    entries: list[tuple[Node, Node]] = field(default_factory=list)
-
-    @cached_property
-    def _by_key(self) -> dict[str, tuple[Node, Node]]:
-        """The entries by their keys, the first of those with equal keys."""
-        return {key.text: (key, value) for key, value in reversed(self.entries)}
-
-    @property
-    def is_null(self) -> bool:
-        return self.schema_class == "null"
-
-    @property
-    def is_empty(self) -> bool:
-        """Whether nothing is written in its place."""
-        return self.kind == "scalar" and self.start == self.end
-
-    def get(self, *path: Key) -> Node | None:
-        """The node at the end of a path of keys and positions."""
-        node: Node | None = self
-        for step in path:
-            if node is None:
-                return None
-            if isinstance(step, int):
-                node = node.items[step] if step < len(node.items) else None
-            else:
-                found = node._by_key.get(step)
-                node = found[1] if found else None
-        return node
-
-    def key(self, key: str) -> Node | None:
-        """The node of a key."""
-        found = self._by_key.get(key)
-        return found[0] if found else None
-
-    def scalar(self, *path: Key) -> str | None:
-        """The text of the scalar at the end of a path."""
-        node = self.get(*path)
-        return node.text if node and node.kind == "scalar" else None
-
-    def offset(self, index: int) -> int:
-        """Where a byte of the text, as UTF-8, comes from."""
-        before = [place for place in self.places if place[0] <= index]
-        return before[-1][1] + index - before[-1][0] if before else self.start
 
 
 @dataclass(frozen=True)
@@ -242,17 +180,6 @@ def _inner(expression: Expression) -> Expression:
 def read_fault(said: Json) -> CodedFault:
     places = {name: said.get(name, 0) for name in ("line", "column", "end_line", "end_column")}
     return CodedFault(said["code"], said["kind"], said["message"], tuple(said["arguments"]), said["start"], said["end"], **places)
-
-
-def read_node(said: Json) -> Node:
-    node = Node(said["kind"], said["start"], said["end"], said.get("shared", False))
-    if node.kind == "scalar":
-        node.style, node.schema_class, node.text, node.places = said["style"], said["class"], said["text"], said["places"]
-    elif node.kind == "sequence":
-        node.items = [read_node(item) for item in said["items"]]
-    else:
-        node.entries = [(read_node(key), read_node(value)) for key, value in said["entries"]]
-    return node
 
 
 def read_expression(said: Json) -> Expression:

@@ -81,7 +81,7 @@ def _given_elsewhere(case: Case, name: str) -> Counter[str]:
     for path in case.project.paths() if uses else ():
         tree = case.project.good_tree(path) if uses and uses in case.project.text(path) else None
         for _, _, value in walk(tree) if tree else ():
-            given = value.at(("with", name)) if value.kind == "mapping" and value.text("uses") == uses else None
+            given = value.get("with", name) if value.kind == "mapping" and value.text("uses") == uses else None
             if given and given.kind == "scalar" and PLAIN_VALUE.fullmatch(given.value):
                 found[given.value] += 1
     return found

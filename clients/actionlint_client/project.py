@@ -171,7 +171,7 @@ def declarations(file: str, tree: Node | None, what: str, of_call: bool = False)
         ways.append(("on", "workflow_dispatch", what))
     found: dict[str, Declaration] = {}
     for way in ways:
-        node = tree.at(way)
+        node = tree.get(*way)
         for key, value in node.entries if node else ():
             found.setdefault(key.value.lower(), Declaration(key.value, key, value))
     return list(found.values())
@@ -185,7 +185,7 @@ def is_callable(tree: Node | None) -> bool:
 
 def steps_of(tree: Node | None, job: str | None) -> list[Node]:
     """The steps of a job, or of a composite action."""
-    node = tree.at(("runs", "steps") if job is None else ("jobs", job, "steps")) if tree else None
+    node = tree and (tree.get("runs", "steps") if job is None else tree.get("jobs", job, "steps"))
     return node.items if node else []
 
 
@@ -213,7 +213,7 @@ def dependents(tree: Node, job: str) -> set[str]:
 
 def matrix_rows(tree: Node | None, job: str) -> dict[str, Node]:
     """The rows of a job's matrix and those that its `include` adds, each with its first node."""
-    matrix = tree.at(("jobs", job, "strategy", "matrix")) if tree else None
+    matrix = tree.get("jobs", job, "strategy", "matrix") if tree else None
     found: dict[str, Node] = {}
     for key, value in matrix.entries if matrix else ():
         if key.value not in ("include", "exclude"):

@@ -130,7 +130,7 @@ class _Finder:
         """The input or the secret of the called file that a key sets."""
         if len(path) < 3 or path[-2] not in ("with", "secrets"):
             return None
-        node = self.tree.at(path[:-2])
+        node = self.tree.get(*path[:-2])
         of_job = is_workflow(self.file) and len(path) == 4
         callee = self._callee(node.text("uses"), of_job) if node else None
         kind = "input" if path[-2] == "with" else "secret"

@@ -189,7 +189,7 @@ class Case:
         return levels_of(self.tree, path)
 
     def at(self, *path: str | int) -> Node | None:
-        return self.tree.at(path) if self.tree else None
+        return self.tree.get(*path) if self.tree else None
 
     @property
     def job(self) -> str | None:
@@ -264,7 +264,7 @@ def levels_of(tree: Node | None, path: Path) -> Levels:
     node = tree
     for step in path:
         found.append({key.value: value.value for key, value in node.entries} if node else {})
-        node = node.at((step,)) if node else None
+        node = node.get(step) if node else None
     return tuple(found)
 
 

@@ -57,7 +57,7 @@ def near_declared(what: str) -> Callable[[Case], Iterable[Repair]]:
                 # One of the free ones is meant.
                 return
             tree = case.project.good_tree(callee)
-            call = tree.at(("on", "workflow_call") if of_job else ()) if tree else None
+            call = tree.get("on", "workflow_call") if tree and of_job else tree
             if call and is_in_other_words(call, what, table()["shapes"]["Call" if of_job else "Action"]["keys"]):
                 return
         yield from _without(case)

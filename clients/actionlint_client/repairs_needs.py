@@ -77,7 +77,7 @@ def output_of_job(case: Case) -> Iterable[Repair]:
     if tree is None or job is None or len(chain) != 4 or chain[0].lower() != "steps" or chain[2].lower() != "outputs":
         return
     for other in tree.names("jobs"):
-        node = tree.at(("jobs", other))
+        node = tree.get("jobs", other)
         if other == job or node is None or chain[1] not in [step.text("id") for step in files.steps_of(tree, other)]:
             continue
         name, added = _output_with(case, node, chain[3], f"${{{{ steps.{chain[1]}.outputs.{chain[3]} }}}}")

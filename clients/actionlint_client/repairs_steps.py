@@ -176,7 +176,7 @@ def shell_of_all_steps(case: Case) -> Iterable[Repair]:
     here, steps = case.key, case.at("runs", "steps")
     if is_workflow(case.file) or here is None or here.key is None or not steps or len(here.parent.entries) < 2:
         return
-    settings = here.value.at(("run",)) if here.path[-1] == "defaults" else here.parent
+    settings = here.value.get("run") if here.path[-1] == "defaults" else here.parent
     edits = []
     for name in ("shell", "working-directory"):
         value = settings.text(name) if settings and here.path[-1] in ("defaults", name) else None

@@ -41,7 +41,7 @@ class Script:
 def scripts_of(root: Node, data: bytes) -> list[Script]:
     """The scripts of a file, each once."""
     jobs = [job for _, job in at.entries] if (at := root.get("jobs")) else []
-    steps = [(command_of(step, ""), step) for step in _items(root.at(("runs", "steps")))]
+    steps = [(command_of(step, ""), step) for step in _items(root.get("runs", "steps"))]
     for job in jobs:
         default = default_shell(root, job)
         steps += [(command_of(step, default), step) for step in _items(job.get("steps"))]
@@ -50,8 +50,7 @@ def scripts_of(root: Node, data: bytes) -> list[Script]:
         run = step.get("run")
         if name_of(command) in SHELLS and run is not None and run.kind == "scalar":
             # Aliases share it.
-            run = run.anchored or run
-            scripts[id(run)] = command, run
+            scripts[id(run.origin)] = command, run.origin
     # Where the characters of the file begin.
     characters = range(len(data)) if data.isascii() else [at for at, byte in enumerate(data) if byte & 0xC0 != 0x80]
     return [_script(command, node, characters) for command, node in scripts.values()]

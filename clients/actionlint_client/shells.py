@@ -59,7 +59,7 @@ def texts_in(node: Node | None) -> list[str]:
     waiting = [node] if node else []
     while waiting:
         one = waiting.pop()
-        one = one.anchored or one
+        one = one.origin
         if id(one) in seen:
             continue
         seen.add(id(one))

@@ -62,7 +62,7 @@ def part_of(project: Project, file: str) -> Part | None:
     if is_workflow(file):
         parts = tuple(_job(key, value, lines) for key, value in (jobs.entries if jobs else ()))
     else:
-        parts = tuple(_steps(tree.at(("runs", "steps")), lines))
+        parts = tuple(_steps(tree.get("runs", "steps"), lines))
     start = Point(0, 0)
     end = Point(len(lines) - 1, len(lines[-1]))
     name = tree.get("name")

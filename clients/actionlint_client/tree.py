@@ -23,7 +23,8 @@ Path = tuple[Union[str, int], ...]
 @dataclass
 class Node:
     """A node, from one byte of the text up to another. An alias has the contents of its anchor, at its own place, and that node as
-    `anchored`. `pieces` tell where the bytes of a scalar's text come from, as `places` in docs/FACTS.md."""
+    `anchored`. `schema_class` is the `class` of a scalar in docs/FACTS.md, and `pieces` tell where the bytes of its text come from, as
+    `places` there."""
 
     kind: str
     start: int
@@ -31,6 +32,7 @@ class Node:
     places: BytePlaces = field(repr=False)
     value: str = ""
     style: str = ""
+    schema_class: str = ""
     entries: list[tuple[Node, Node]] = field(default_factory=list)
     items: list[Node] = field(default_factory=list)
     anchor: str | None = None
@@ -50,16 +52,16 @@ class Node:
         """The entries by their keys, the first of those with equal keys."""
         return {name.value: (name, value) for name, value in reversed(self.entries)}
 
-    def get(self, key: str) -> Node | None:
-        found = self._by_key.get(key)
-        return found[1] if found else None
+    @property
+    def origin(self) -> Node:
+        """Where its contents are written: the node at the anchor of an alias, else itself."""
+        return self.anchored or self
 
-    def key(self, key: str) -> Node | None:
-        """The node of a key."""
-        found = self._by_key.get(key)
-        return found[0] if found else None
+    @property
+    def is_null(self) -> bool:
+        return self.schema_class == "null"
 
-    def at(self, path: Path) -> Node | None:
+    def get(self, *path: str | int) -> Node | None:
         """The node at the end of a path of keys and positions."""
         node: Node | None = self
         for step in path:
@@ -68,24 +70,30 @@ class Node:
             if isinstance(step, int):
                 node = node.items[step] if step < len(node.items) else None
             else:
-                node = node.get(step)
+                found = node._by_key.get(step)
+                node = found[1] if found else None
         return node
+
+    def key(self, key: str) -> Node | None:
+        """The node of a key."""
+        found = self._by_key.get(key)
+        return found[0] if found else None
 
     def text(self, *path: str | int) -> str | None:
         """The text of the scalar at the end of a path."""
-        node = self.at(path)
+        node = self.get(*path)
         return node.value if node and node.kind == "scalar" else None
 
     def texts(self, *path: str | int) -> list[str]:
         """The text of the scalar at the end of a path, or those of its list."""
-        node = self.at(path)
+        node = self.get(*path)
         if node is None or node.kind == "mapping":
             return []
         return [node.value] if node.kind == "scalar" else [item.value for item in node.items if item.kind == "scalar"]
 
     def names(self, *path: str | int) -> list[str]:
         """The keys of the mapping at the end of a path."""
-        node = self.at(path)
+        node = self.get(*path)
         return [key.value for key, _ in node.entries] if node else []
 
 
@@ -125,24 +133,27 @@ class _Builder:
         self._data, self._places = data, BytePlaces(data)
         # Where the last scalar, bracket, anchor or alias ends.
         self._end = self._places.begin
-        self._anchored: dict[str, Node] = {}
+        # The nodes with anchors, by where they begin.
+        self._anchored: dict[int, Node] = {}
 
     def node(self, said: Json, in_flow: bool) -> Node:
-        is_shared = "shared" in said
+        if "shared" not in said:
+            return self._written(said, in_flow)
         # What an alias stands for comes before it.
-        if is_shared and said["start"] < self._end:
-            return self._alias(said)
-        name, sign, _ = self._name() if is_shared else ("", 0, 0)
-        node = self._scalar(said) if said["kind"] == "scalar" else self._collection(said, in_flow)
-        if is_shared:
-            node.anchor, node.sign = name, sign
-            self._anchored[name] = node
+        if known := self._anchored.get(said["start"]):
+            return self._alias(known)
+        name, sign, _ = self._name()
+        node = self._anchored[said["start"]] = self._written(said, in_flow)
+        node.anchor, node.sign = name, sign
         return node
+
+    def _written(self, said: Json, in_flow: bool) -> Node:
+        return self._scalar(said) if said["kind"] == "scalar" else self._collection(said, in_flow)
 
     def _scalar(self, said: Json) -> Node:
         self._end = max(self._end, said["end"])
-        return Node("scalar", said["start"], said["end"], self._places, said["text"], SIGNS[said["style"]], NOTHING, NOTHING,
-                    pieces=said["places"])
+        return Node("scalar", said["start"], said["end"], self._places, said["text"], SIGNS[said["style"]], said["class"], NOTHING,
+                    NOTHING, pieces=said["places"])
 
     def _collection(self, said: Json, in_flow: bool) -> Node:
         start = said["start"]
@@ -158,11 +169,10 @@ class _Builder:
         self._end = max(self._end, said["end"])
         return node
 
-    def _alias(self, said: Json) -> Node:
+    def _alias(self, known: Node) -> Node:
         name, start, end = self._name()
-        known = self._anchored.get(name) or Node(said["kind"], start, end, self._places)
-        return Node(known.kind, start, end, self._places, known.value, known.style, known.entries, known.items, alias=name,
-                    anchored=known, sign=start)
+        return Node(known.kind, start, end, self._places, known.value, known.style, known.schema_class, known.entries, known.items,
+                    alias=name, anchored=known, sign=start)
 
     def _name(self) -> tuple[str, int, int]:
         """The next anchor or alias: its name, and where it begins and ends."""

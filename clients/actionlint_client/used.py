@@ -42,7 +42,7 @@ def _used(project: Project, file: str, data: bytes) -> Used:
     tree = project.good_tree(file)
     if tree is None:
         return Used(data)
-    jobs = [tree.at(("jobs", name)) for name in tree.names("jobs")] if is_workflow(file) else []
+    jobs = [tree.get("jobs", name) for name in tree.names("jobs")] if is_workflow(file) else []
     steps = [step for name in tree.names("jobs") for step in steps_of(tree, name)] if is_workflow(file) else steps_of(tree, None)
     calls = [call for node in (*jobs, *steps) if node and (call := node.text("uses"))]
     labels = [label for job in jobs if job for label in (*job.texts("runs-on"), *job.texts("runs-on", "labels"))]

@@ -65,34 +65,50 @@ def answers(program: str) -> None:
     except EditRefused as error:
         assert error.code == "E2", error.code
     try:
-        facts.put(FILE, b"a: 'b\n")
-        facts.tree(FILE)
+        facts.of_bytes("tree", FILE, b"a: 'b\n")
         raise AssertionError("a tree of what isn't YAML")
     except NoTree as error:
-        assert error.fault.code == "Y5", error.fault
+        assert str(error) == "quoted text is not closed", error
     assert facts.stop() == 0
 
 
 @CASES.case
 def trees(program: str) -> None:
-    facts = Facts([find_facts(program)], SECONDS)
+    started = Started(program, SECONDS)
+    reader = Reader(started)
     text = "name: é\nrun-name: \"\\x41 ${{ github.ref == 'x' }}\"\non: &a [push]\njobs: {}\n".encode()
-    facts.put(FILE, text)
-    root = facts.tree(FILE)
-    assert [key.text for key, _ in root.entries] == ["name", "run-name", "on", "jobs"], root
+    root = reader.tree(FILE, text)
+    assert root and root.names() == ["name", "run-name", "on", "jobs"], root
     name, on, jobs = root.get("name"), root.get("on"), root.get("jobs")
-    assert name and on and jobs and (name.text, name.start, name.end, name.style, name.schema_class) == ("é", 6, 8, "plain", "str"), name
-    assert on.is_shared and root.scalar("on", 0) == "push" and root.get("on", 1) is None and jobs.entries == [] and root.get("x") is None
+    assert name and on and jobs and (name.value, name.start, name.end, name.style, name.schema_class) == ("é", 6, 8, "", "str"), name
+    assert on.anchor == "a" and root.text("on", 0) == "push" and root.get("on", 1) is None and jobs.entries == [] and root.get("x") is None
     title = root.get("run-name")
-    assert title and title.text.startswith("A ${{") and text[title.offset(2):].startswith(b"${{"), title
-    place = facts.expressions(FILE)[0]
+    assert title and title.value.startswith("A ${{") and title.pieces == [[0, 20], [1, text.index(b" ${{")]], title
+    place = reader.expressions(FILE, text)[0]
     assert (place.start, place.end, place.is_condition) == (title.start, title.end, False), place
     assert place.contexts == ("github", "inputs", "vars"), place
     tree = place.chunks[0].tree
     assert isinstance(tree, Chain) and tree.rest[0][0] == "==" and isinstance(tree.first, Dotted) and tree.first.steps[0].text == "ref"
     assert [part.text for part in walk(tree) if isinstance(part, Word)] == ["github", "'x'"]
     assert [token.text for token in place.chunks[0].tokens] == ["github", ".", "ref", "==", "'x'"]
-    facts.stop()
+    started().stop()
+
+
+@CASES.case
+def aliases(program: str) -> None:
+    """An alias has its own place, and the contents and the class of the last anchor of its name before it, which can be in a node of that
+    name."""
+    started = Started(program, SECONDS)
+    text = b"a: &x\n  b: &x {c: 1}\nd: [*x, &y 2, *y]\ne: &y ~\nf: *y\n"
+    root = Reader(started).tree(FILE, text)
+    assert root
+    for path, anchored, spelled in ((("d", 0), ("a", "b"), "*x"), (("d", 2), ("d", 1), "*y"), (("f",), ("e",), "*y")):
+        alias, node = root.get(*path), root.get(*anchored)
+        assert alias and node and alias.origin is node is node.origin and alias.alias == node.anchor == spelled[1:], path
+        assert text[alias.start:alias.end] == spelled.encode() and (alias.value, alias.kind) == (node.value, node.kind), path
+    null, number = root.get("f"), root.get("d", 0, "c")
+    assert null and null.is_null and number and number.schema_class == "int" and not number.is_null, root
+    started().stop()
 
 
 @CASES.case

@@ -78,7 +78,7 @@ def each_entry(program: str) -> None:
         assert has.notes and all(is_of(entry.message, line) for line in has.notes) and not repaired.notes and not near.notes, entry.code
         for case, left_out in ((has, "+"), (repaired, "-")):
             assert have([line[1:] for line in entry.shown if line[0] != left_out], next(iter(case.files.values())).encode()), entry.code
-    named = {code for file in HERE.glob("*.py") for code in re.findall(r'note\("(N\d+)"', file.read_text(encoding="utf-8"))}
+    named = {code for file in HERE.glob("*.py") for code in re.findall(r'"(N\d+)"', file.read_text(encoding="utf-8"))}
     assert named == set(entries_of_notes()), named ^ set(entries_of_notes())
 
 

@@ -14,7 +14,7 @@ def versions(file: File) -> Iterator[Finding]:
     """N15: a version that GitHub fails. N16: a version that was made for a Node that GitHub no longer has."""
     for _, step in file.steps:
         uses = step.get("uses")
-        name, _, version = (uses.text if uses else "").partition("@")
+        name, _, version = (uses.value if uses else "").partition("@")
         found, row = VERSION.fullmatch(version), TABLE["actions"].get(name.lower())
         if uses is None or found is None or row is None:
             continue
@@ -23,6 +23,6 @@ def versions(file: File) -> Iterator[Finding]:
             continue
         node = next((node for node in ("12", "16") if major in row.get(f"node {node}", [])), None)
         if major in row.get("fail", []) or minor is not None and minor < row.get("fail before", {}).get(str(major), 0):
-            yield note("N15", uses, uses.text)
+            yield note("N15", uses, uses.value)
         elif node:
-            yield note("N16", uses, uses.text, node)
+            yield note("N16", uses, uses.value, node)

@@ -3,8 +3,9 @@ from __future__ import annotations
 
 from typing import Iterator
 
-from ..facts_tree import Call, Chain, Expression, Group, Node, Not, Word
+from ..facts_tree import Call, Chain, Expression, Group, Not, Word
 from ..facts_tree import walk as parts_of
+from ..tree import Node
 from .file import File, Finding, inner, names_of, note, text_of
 from .values import COMPARISONS, kind_of
 
@@ -34,7 +35,7 @@ def constant_conditions(file: File) -> Iterator[Finding]:
     for condition in _conditions(file):
         place = file.place(condition)
         tree = place.chunks[0].tree if place and len(place.chunks) == 1 else None
-        is_alone = "${{" not in condition.text or file.whole(condition) is not None
+        is_alone = "${{" not in condition.value or file.whole(condition) is not None
         if tree and is_alone and _is_constant(tree) and not _switches_off(tree):
             yield note("N17", condition)
 
@@ -42,7 +43,7 @@ def constant_conditions(file: File) -> Iterator[Finding]:
 def blanks_outside(file: File) -> Iterator[Finding]:
     """N18: a condition with blanks or a line break outside of `${{ }}`, which makes it a text, so it is always true."""
     for condition in _conditions(file):
-        text = condition.text
+        text = condition.value
         if file.whole(condition) is not None and text != text.strip():
             yield note("N18", condition)
 
@@ -51,10 +52,10 @@ def compared_kinds(file: File) -> Iterator[Finding]:
     """N19: a boolean that is compared with a text that is no number, or a text with `true`: the two are never equal."""
     kinds: dict[str, set[str]] = {}
     for _, key, declared in file.inputs:
-        kinds.setdefault(key.text.lower(), set()).add(declared.scalar("type") or "string")
+        kinds.setdefault(key.value.lower(), set()).add(declared.text("type") or "string")
     declared_inputs = None if file.is_workflow else file.root.get("inputs")
     for key, _ in declared_inputs.entries if declared_inputs else []:
-        kinds[key.text.lower()] = {"string"}
+        kinds[key.value.lower()] = {"string"}
     for part in (part for tree in file.expressions() for part in parts_of(tree)):
         if isinstance(part, Chain) and len(part.rest) == 1:
             (operator, other), one = part.rest[0], part.first

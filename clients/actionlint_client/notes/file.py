@@ -9,8 +9,9 @@ from functools import cached_property
 from pathlib import Path
 from typing import Any, Callable, Iterator, NamedTuple
 
-from ..facts_tree import Expression, Group, Node, Place, Word
+from ..facts_tree import Expression, Group, Place, Word
 from ..facts_tree import Path as Dotted
+from ..tree import Node, walk
 
 HERE = Path(__file__).parent
 _SIGNS = re.compile(r"[^A-Za-z]")
@@ -25,8 +26,10 @@ class Finding(NamedTuple):
     arguments: tuple[str, ...]
 
 
-def note(code: str, node: Node | Expression, *arguments: str) -> Finding:
-    return Finding(node.start, node.end, code, arguments)
+def note(code: str, part: Node | Expression, *arguments: str) -> Finding:
+    """A note on what is written. For an alias that is at its anchor."""
+    origin = part.origin if isinstance(part, Node) else part
+    return Finding(origin.start, origin.end, code, arguments)
 
 
 def table(name: str) -> Any:
@@ -50,6 +53,11 @@ class File:
         return self.path.startswith(".github/workflows/")
 
     @cached_property
+    def nodes(self) -> list[Node]:
+        """The root and all nodes below it, without keys and the contents of aliases."""
+        return [self.root, *(node for _, _, node in walk(self.root))]
+
+    @cached_property
     def jobs(self) -> list[tuple[Node, Node]]:
         """The ids of jobs and the jobs, as far as these are mappings."""
         found = self.root.get("jobs") if self.is_workflow else None
@@ -68,8 +76,8 @@ class File:
     @cached_property
     def inputs(self) -> list[tuple[str, Node, Node]]:
         """The inputs of workflow_dispatch and workflow_call: the event, the name, and what it is."""
-        return [(event.text, key, value) for event, below in self.events
-                if event.text in ("workflow_dispatch", "workflow_call") and below and (declared := below.get("inputs"))
+        return [(event.value, key, value) for event, below in self.events
+                if event.value in ("workflow_dispatch", "workflow_call") and below and (declared := below.get("inputs"))
                 for key, value in declared.entries]
 
     @cached_property
@@ -85,7 +93,7 @@ class File:
 
     def place(self, node: Node) -> Place | None:
         """The expressions of a scalar, if it has some."""
-        return self._by_span.get((node.start, node.end))
+        return self._by_span.get((node.origin.start, node.origin.end))
 
     def expressions(self) -> Iterator[Expression]:
         """The expressions that have a tree."""
@@ -109,17 +117,8 @@ class File:
         place = self.place(node) if node else None
         if node is None or place is None or len(place.chunks) != 1:
             return None
-        text = node.text.strip()
+        text = node.value.strip()
         return place.chunks[0].tree if text.startswith("${{") and text.endswith("}}") else None
-
-
-def walk(node: Node) -> Iterator[Node]:
-    """A node and those below it, without keys."""
-    yield node
-    for _, value in node.entries:
-        yield from walk(value)
-    for item in node.items:
-        yield from walk(item)
 
 
 def inner(expression: Expression) -> Expression:

@@ -30,7 +30,7 @@ def inputs_of_actions(file: File) -> Iterator[Finding]:
         if uses is None:
             continue
         # (a blank in a name is the same as `_`)
-        names = [(key, key.text.lower().replace(" ", "_")) for key, _ in (given.entries if given else [])]
-        yield from (note("N33", key, uses.text, key.text) for key, name in names if lacks(uses.text, "inputs", name))
-        needed = ACTIONS.get(uses.text.partition("@")[0].lower(), {}).get("needed", [])
-        yield from (note("N34", uses, uses.text, one) for one in needed if one not in [name for _, name in names])
+        names = [(key, key.value.lower().replace(" ", "_")) for key, _ in (given.entries if given else [])]
+        yield from (note("N33", key, uses.value, key.value) for key, name in names if lacks(uses.value, "inputs", name))
+        needed = ACTIONS.get(uses.value.partition("@")[0].lower(), {}).get("needed", [])
+        yield from (note("N34", uses, uses.value, one) for one in needed if one not in [name for _, name in names])

@@ -3,9 +3,10 @@ from __future__ import annotations
 
 from typing import Any, Iterator
 
-from ..facts_tree import Chain, Expression, Node
+from ..facts_tree import Chain, Expression
 from ..facts_tree import walk as parts_of
-from .file import File, Finding, has_expression, inner, names_of, note, text_of, walk
+from ..tree import Node
+from .file import File, Finding, has_expression, inner, names_of, note, text_of
 
 OPTIONS = ("include", "exclude")
 
@@ -13,14 +14,18 @@ OPTIONS = ("include", "exclude")
 def rows(job: Node) -> list[tuple[Node, Node]]:
     """The rows of a job's matrix, as far as they are lists."""
     matrix = job.get("strategy", "matrix")
-    return [(key, row) for key, row in matrix.entries if key.text not in OPTIONS and row.kind == "sequence"] if matrix else []
+    return [(key, row) for key, row in matrix.entries if key.value not in OPTIONS and row.kind == "sequence"] if matrix else []
 
 
 def is_literal(job: Node) -> bool:
     """Whether a job has a matrix, and each of its values is written there."""
     matrix = job.get("strategy", "matrix")
-    return matrix is not None and matrix.kind == "mapping" and not any(
-        has_expression(one.text) for node in walk(matrix) for one in [node, *(key for key, _ in node.entries)])
+    return matrix is not None and matrix.kind == "mapping" and _is_written(matrix)
+
+
+def _is_written(node: Node) -> bool:
+    below = [*node.items, *(one for entry in node.entries for one in entry)]
+    return not has_expression(node.value) and all(map(_is_written, below))
 
 
 def values_of(job: Node, names: list[str]) -> list[Node]:
@@ -29,15 +34,15 @@ def values_of(job: Node, names: list[str]) -> list[Node]:
     if matrix is None or not names or "*" in names:
         return []
     include = matrix.get("include")
-    found = [item for key, row in rows(job) if key.text.lower() == names[0] for item in row.items]
-    found += [value for entry in (include.items if include else []) for key, value in entry.entries if key.text.lower() == names[0]]
+    found = [item for key, row in rows(job) if key.value.lower() == names[0] for item in row.items]
+    found += [value for entry in (include.items if include else []) for key, value in entry.entries if key.value.lower() == names[0]]
     for name in names[1:]:
-        found = [value for node in found for key, value in node.entries if key.text.lower() == name]
+        found = [value for node in found for key, value in node.entries if key.value.lower() == name]
     return found
 
 
 def repeated_values(file: File) -> Iterator[Finding]:
-    """N21: a row of the matrix, a value of a row, or a job under `needs` that is there twice."""
+    """N21: a row of the matrix, a value of a row, or a job under `needs` that is there twice. An alias is where it stands."""
     for _, job in file.jobs:
         matrix, needs = job.get("strategy", "matrix"), job.get("needs")
         named = [key for key, _ in matrix.entries] if matrix else []
@@ -46,31 +51,31 @@ def repeated_values(file: File) -> Iterator[Finding]:
             for item in items:
                 value, text = _value(item), _in_a_line(item)
                 if value in seen and not has_expression(text):
-                    yield note("N21", item, text)
+                    yield Finding(item.start, item.end, "N21", (text,))
                 seen.add(value)
 
 
 def _value(node: Node) -> tuple[Any, ...]:
     """What two equal values have in common."""
-    below: list[Any] = [(key.text, _value(value)) for key, value in node.entries] or [_value(item) for item in node.items]
-    return node.kind, node.schema_class, node.text, *below
+    below: list[Any] = [(key.value, _value(value)) for key, value in node.entries] or [_value(item) for item in node.items]
+    return node.kind, node.schema_class, node.value, *below
 
 
 def _in_a_line(node: Node) -> str:
     if node.kind == "mapping":
-        return "{" + ", ".join(f"{key.text}: {_in_a_line(value)}" for key, value in node.entries) + "}"
-    return "[" + ", ".join(map(_in_a_line, node.items)) + "]" if node.kind == "sequence" else node.text
+        return "{" + ", ".join(f"{key.value}: {_in_a_line(value)}" for key, value in node.entries) + "}"
+    return "[" + ", ".join(map(_in_a_line, node.items)) + "]" if node.kind == "sequence" else node.value
 
 
 def excluded_values(file: File) -> Iterator[Finding]:
     """N20: a value under `exclude` that its row doesn't have."""
     for _, job in file.jobs:
         exclude = job.get("strategy", "matrix", "exclude")
-        known = {key.text.lower(): _texts(row.items) for key, row in rows(job) if exclude}
+        known = {key.value.lower(): _texts(row.items) for key, row in rows(job) if exclude}
         for key, value in (entry for one in (exclude.items if exclude else []) for entry in one.entries):
-            texts = known.get(key.text.lower())
-            if texts and value.kind == "scalar" and not has_expression(value.text) and _folded(value.text) not in texts:
-                yield note("N20", value, f"matrix.{key.text}", value.text)
+            texts = known.get(key.value.lower())
+            if texts and value.kind == "scalar" and not has_expression(value.value) and _folded(value.value) not in texts:
+                yield note("N20", value, f"matrix.{key.value}", value.value)
 
 
 def compared_values(file: File) -> Iterator[Finding]:
@@ -100,9 +105,9 @@ def _never_equal(job: Node, known: dict[tuple[str, ...], set[str]], one: Express
 
 def _texts(nodes: list[Node]) -> set[str]:
     """The texts of scalars as GitHub compares them. None if one isn't known, or isn't a scalar."""
-    if any(node.kind != "scalar" or has_expression(node.text) for node in nodes):
+    if any(node.kind != "scalar" or has_expression(node.value) for node in nodes):
         return set()
-    return {_folded(node.text) for node in nodes}
+    return {_folded(node.value) for node in nodes}
 
 
 def _folded(text: str) -> str:

@@ -40,7 +40,7 @@ def unwritten_outputs(file: File) -> Iterator[Finding]:
     written: dict[tuple[int, str], set[str] | None] = {}
     called: dict[tuple[int, str], str] = {}
     for job, step in file.steps:
-        identifier, script, uses = step.scalar("id"), step.scalar("run"), step.scalar("uses")
+        identifier, script, uses = step.text("id"), step.text("run"), step.text("uses")
         if identifier and script:
             written[(job or file.root).start, identifier.lower()] = names_written(script)
         elif identifier and uses:

@@ -4,7 +4,7 @@ from __future__ import annotations
 import re
 from typing import Iterator
 
-from ..facts_tree import Node
+from ..tree import Node
 from .file import File, Finding, note
 
 EVENTS = ("push", "pull_request", "pull_request_target", "workflow_run")
@@ -19,18 +19,18 @@ ITEM = re.compile(r"\\.|\[[^\]]*\]|.", re.S)
 def _patterns(file: File) -> Iterator[tuple[str, Node, str]]:
     """The name of a filter without `-ignore`, an entry, and its pattern without the `!` before it."""
     for event, below in file.events:
-        for key, value in below.entries if below and event.text in EVENTS else []:
-            name = key.text.removesuffix("-ignore")
+        for key, value in below.entries if below and event.value in EVENTS else []:
+            name = key.value.removesuffix("-ignore")
             for one in (value.items or [value]) if name in FILTERS else []:
-                if one.kind == "scalar" and one.text:
-                    yield name, one, one.text.removeprefix("!")
+                if one.kind == "scalar" and one.value:
+                    yield name, one, one.value.removeprefix("!")
 
 
 def patterns(file: File) -> Iterator[Finding]:
     """N22: a pattern that matches no path, or no name of a branch or tag."""
     for name, one, pattern in _patterns(file):
         if (NO_PATH if name == "paths" else NO_NAME).search(pattern):
-            yield note("N22", one, one.text)
+            yield note("N22", one, one.value)
 
 
 def regular_expressions(file: File) -> Iterator[Finding]:
@@ -39,4 +39,4 @@ def regular_expressions(file: File) -> Iterator[Finding]:
         items = ITEM.findall(pattern)
         wrong = [item for item in items if item[0] == "\\" and item[1:].isalnum()]
         wrong += [before + item for before, item in zip(items, items[1:]) if before in ("*", "+", "?") and item in ("+", "?")]
-        yield from (note("N32", one, found, one.text) for found in wrong[:1])
+        yield from (note("N32", one, found, one.value) for found in wrong[:1])

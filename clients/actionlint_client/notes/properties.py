@@ -14,9 +14,9 @@ TABLE = table("properties")
 def unknown_properties(file: File) -> Iterator[Finding]:
     """N28: a property of `runner` or `job` that is a slip of a known one, one that a container, a service or constant JSON doesn't have, a
     number in place of a name, or an input of the event that the file doesn't declare."""
-    events = [event.text for event, _ in file.events]
+    events = [event.value for event, _ in file.events]
     is_dispatched = "workflow_dispatch" in events and "workflow_call" not in events and bool(file.inputs)
-    declared = {"*", *(key.text.lower() for _, key, _ in file.inputs)}
+    declared = {"*", *(key.value.lower() for _, key, _ in file.inputs)}
     for part in (part for tree in file.expressions() for part in parts_of(tree)):
         yield from (*_of_numbers(part), *_of_json(part))
         names = names_of(part)

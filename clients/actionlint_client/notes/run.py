@@ -12,11 +12,13 @@ from ..child import LinterEnded
 from ..disk import Disk
 from ..entries import Entry
 from ..facts import EditRefused, Facts, NoAnswer, NoTree
+from ..facts_tree import read_place
 from ..paths import ACTION_NAMES
 from ..positions import lines_of
 from ..problems import ERROR, NOTE, NOTE_KIND, Problem, snippet_of
 from ..program import FACTS, find_facts
 from ..report import Fault
+from ..tree import Node, tree_of
 from .entries import NoNotes, entry_of_note
 from .file import File, Finding
 from .rules import findings
@@ -59,13 +61,20 @@ class Folder:
 
     def notes(self, path: str, counts: bool) -> Iterator[Problem]:
         """The notes of a file, none if it isn't valid YAML. With `counts` they are errors. Raises `NoAnswer`."""
+        data = self._data[path]
         try:
-            file = File(path, self._facts.tree(path), self._facts.expressions(path), self._is_there, self.deprecated)
+            expressions = [read_place(one) for one in self._facts.of_bytes("expressions", path, data)]
+            file = File(path, self._tree(path), expressions, self._is_there, self.deprecated)
         except NoTree:
             return
-        places = Places(self._data[path])
+        places = Places(data)
         for found in findings(file):
             yield _problem(path, places, found, ERROR if counts else NOTE)
+
+    def _tree(self, path: str) -> Node:
+        """The tree of a file. Raises `NoTree` and `NoAnswer`."""
+        data = self._data[path]
+        return tree_of(self._facts.of_bytes("tree", path, data), data)
 
     def deprecated(self, folder: str) -> dict[str, str]:
         """What the action in a folder says of its deprecated inputs, by their names in lower case."""
@@ -76,10 +85,10 @@ class Folder:
     def _read_deprecated(self, folder: str) -> dict[str, str]:
         path = next((path for name in ACTION_NAMES if (path := posixpath.normpath(f"{folder}/{name}")) in self._data), None)
         try:
-            inputs = self._facts.tree(path).get("inputs") if path else None
+            inputs = self._tree(path).get("inputs") if path else None
         except (NoTree, NoAnswer):
             inputs = None
-        return {key.text.lower(): said for key, one in (inputs.entries if inputs else []) if (said := one.scalar("deprecationMessage"))}
+        return {key.value.lower(): said for key, one in (inputs.entries if inputs else []) if (said := one.text("deprecationMessage"))}
 
 
 class Places:

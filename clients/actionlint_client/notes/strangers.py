@@ -48,7 +48,7 @@ def _has_text(names: list[str]) -> bool:
 def untrusted_texts(file: File) -> Iterator[Finding]:
     """N31: such a text in a script of github-script, by a filter, or as JSON in a script of a shell."""
     for _, step in file.steps:
-        is_script = (step.scalar("uses") or "").lower().startswith("actions/github-script@")
+        is_script = (step.text("uses") or "").lower().startswith("actions/github-script@")
         node = step.get("with", "script") if is_script else step.get("run")
         place = file.place(node) if node else None
         for chunk in place.chunks if place else ():

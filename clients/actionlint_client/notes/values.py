@@ -6,8 +6,9 @@ import re
 from collections import Counter
 from typing import Iterator
 
-from ..facts_tree import Call, Chain, Expression, Node, Not, Path, Word
+from ..facts_tree import Call, Chain, Expression, Not, Path, Word
 from ..facts_tree import walk as parts_of
+from ..tree import Node
 from .file import File, Finding, has_expression, inner, names_of, note, table, text_of
 
 EVENTS, VALUES = table("events"), table("values")
@@ -20,19 +21,19 @@ COMPARISONS = ("==", "!=", "<", "<=", ">", ">=")
 def filters(file: File) -> Iterator[Finding]:
     """N8: a filter that its event hasn't."""
     for event, below in file.events:
-        row = EVENTS["filters"].get(event.text)
+        row = EVENTS["filters"].get(event.value)
         for key, _ in below.entries if below and row is not None else []:
-            if key.text in EVENTS["all filters"] and key.text.removesuffix("-ignore") not in row:
-                yield note("N8", key, event.text, key.text)
+            if key.value in EVENTS["all filters"] and key.value.removesuffix("-ignore") not in row:
+                yield note("N8", key, event.value, key.value)
 
 
 def activity_types(file: File) -> Iterator[Finding]:
     """N9: an activity type that its event hasn't, of the events whose types the linter doesn't check."""
     for event, below in file.events:
-        row, types = GITHUB["activity types"].get(event.text), below.get("types") if below else None
+        row, types = GITHUB["activity types"].get(event.value), below.get("types") if below else None
         for one in (types.items or [types]) if row and types else []:
-            if one.kind == "scalar" and not has_expression(one.text) and not one.is_null and one.text not in row:
-                yield note("N9", one, event.text, one.text)
+            if one.kind == "scalar" and not has_expression(one.value) and not one.is_null and one.value not in row:
+                yield note("N9", one, event.value, one.value)
 
 
 def fixed_values(file: File) -> Iterator[Finding]:
@@ -40,19 +41,19 @@ def fixed_values(file: File) -> Iterator[Finding]:
     for _, job in file.jobs:
         yield from _wrong(job, "secrets", ["inherit"])
         parallel = job.get("strategy", "max-parallel")
-        if parallel and parallel.schema_class in ("int", "float") and not re.fullmatch(r"\+?0*[1-9]\d*(\.0*)?", parallel.text):
-            yield note("N7", parallel, parallel.text, "max-parallel")
+        if parallel and parallel.schema_class in ("int", "float") and not re.fullmatch(r"\+?0*[1-9]\d*(\.0*)?", parallel.value):
+            yield note("N7", parallel, parallel.value, "max-parallel")
     for _, step in file.steps:
         uses, minutes = step.get("uses"), step.get("timeout-minutes")
-        if uses and uses.text.startswith("docker://") and uses.text.endswith(":"):
-            yield note("N7", uses, uses.text, "uses")
-        if minutes and minutes.schema_class in ("int", "float") and re.fullmatch(r"-.*|[+]?[0.]+", minutes.text):
-            yield note("N7", minutes, minutes.text, "timeout-minutes")
+        if uses and uses.value.startswith("docker://") and uses.value.endswith(":"):
+            yield note("N7", uses, uses.value, "uses")
+        if minutes and minutes.schema_class in ("int", "float") and re.fullmatch(r"-.*|[+]?[0.]+", minutes.value):
+            yield note("N7", minutes, minutes.value, "timeout-minutes")
     for owner in [file.root, *(job for _, job in file.jobs)] if file.is_workflow else []:
         scopes = owner.get("permissions")
         for key, _ in scopes.entries if scopes else []:
-            if key.text in VALUES["levels"]:
-                yield from _wrong(scopes, key.text, VALUES["levels"][key.text])
+            if key.value in VALUES["levels"]:
+                yield from _wrong(scopes, key.value, VALUES["levels"][key.value])
     branding = None if file.is_workflow else file.root.get("branding")
     for name in ("icon", "color") if branding else ():
         yield from _wrong(branding, name, GITHUB["branding"][name])
@@ -60,30 +61,30 @@ def fixed_values(file: File) -> Iterator[Finding]:
 
 def _wrong(section: Node | None, key: str, taken: list[str]) -> Iterator[Finding]:
     value = section.get(key) if section else None
-    if value and value.kind == "scalar" and value.text and value.text not in taken and not has_expression(value.text):
-        yield note("N7", value, value.text, key)
+    if value and value.kind == "scalar" and value.value and value.value not in taken and not has_expression(value.value):
+        yield note("N7", value, value.value, key)
 
 
 def inputs(file: File) -> Iterator[Finding]:
     """N10: options and defaults of inputs, and their number."""
     for event, key, declared in file.inputs:
-        options, default, kind = declared.get("options"), declared.get("default"), declared.scalar("type")
-        texts = [one.text for one in options.items] if options else []
+        options, default, kind = declared.get("options"), declared.get("default"), declared.text("type")
+        texts = [one.value for one in options.items] if options else []
         repeated = (text for text, count in Counter(texts).items() if count > 1)
-        yield from (note("N10", key, key.text, f'has the option "{text}" twice') for text in repeated)
-        if default is None or default.kind != "scalar" or not default.text or default.is_null or has_expression(default.text):
+        yield from (note("N10", key, key.value, f'has the option "{text}" twice') for text in repeated)
+        if default is None or default.kind != "scalar" or not default.value or default.is_null or has_expression(default.value):
             continue
-        if kind == "choice" and texts and default.text not in texts:
-            yield note("N10", default, key.text, "has a default that is none of its options")
-        elif kind == "boolean" and default.text.lower() not in ("true", "false"):
-            yield note("N10", default, key.text, "has a default that is no boolean")
-        elif kind == "number" and not NUMBER.fullmatch(default.text):
-            yield note("N10", default, key.text, "has a default that is no number")
-        if event == "workflow_call" and declared.scalar("required") == "true":
-            yield note("N10", default, key.text, "is required, so its default is never used")
+        if kind == "choice" and texts and default.value not in texts:
+            yield note("N10", default, key.value, "has a default that is none of its options")
+        elif kind == "boolean" and default.value.lower() not in ("true", "false"):
+            yield note("N10", default, key.value, "has a default that is no boolean")
+        elif kind == "number" and not NUMBER.fullmatch(default.value):
+            yield note("N10", default, key.value, "has a default that is no number")
+        if event == "workflow_call" and declared.text("required") == "true":
+            yield note("N10", default, key.value, "is required, so its default is never used")
     dispatched = [key for event, key, _ in file.inputs if event == "workflow_dispatch"]
     for key in dispatched[VALUES["most dispatch inputs"]:]:
-        yield note("N10", key, key.text, f"is one of more than {VALUES['most dispatch inputs']}")
+        yield note("N10", key, key.value, f"is one of more than {VALUES['most dispatch inputs']}")
 
 
 def constant_json(file: File) -> Iterator[Finding]:
@@ -133,10 +134,10 @@ def expression_types(file: File) -> Iterator[Finding]:
     strategies = [found for _, job in file.jobs if (found := job.get("strategy"))]
     for section in owners + strategies:
         for key, value in section.entries:
-            taken = VALUES["types"].get(key.text)
+            taken = VALUES["types"].get(key.value)
             tree = file.whole(value) if taken and value.kind == "scalar" else None
             if tree and kind_of(tree) not in ("", taken):
-                yield note("N12", value, key.text, taken)
+                yield note("N12", value, key.value, taken)
     for name, section in [("env", file.root), *(("env", one) for one in owners), *(("matrix", one) for one in strategies)]:
         found = section.get(name)
         tree = file.whole(found) if found and found.kind == "scalar" else None
