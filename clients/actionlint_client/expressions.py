@@ -134,11 +134,11 @@ class Scope:
         uses = self.tree.text("jobs", job, "uses")
         if uses is None:
             return [Property(name, "output of the job", None) for name in self.tree.names("jobs", job, "outputs")]
-        return self._declared(self.project.callee(uses, True), "outputs")
+        return self._declared_outputs(self.project.callee(uses, True))
 
-    def _declared(self, file: str | None, what: str) -> list[Property]:
-        found = files.declarations(file, self.project.good_tree(file), what) if file else []
-        return [property_of(one, what.removesuffix("s")) for one in found]
+    def _declared_outputs(self, file: str | None) -> list[Property]:
+        found = files.declarations(file, self.project.good_tree(file), "outputs") if file else []
+        return [property_of(one, "output") for one in found]
 
     def _steps(self, names: tuple[str, ...]) -> list[Property]:
         steps = {name: step for step in self.visible_steps() if (name := step.text("id"))}
@@ -156,7 +156,7 @@ class Scope:
     def _outputs_of_step(self, step: Node) -> list[Property]:
         callee = self.project.callee(step.text("uses"), False)
         if callee:
-            return self._declared(callee, "outputs")
+            return self._declared_outputs(callee)
         return [Property(name, "output of the script", None) for name in dict.fromkeys(files.written_outputs(step))]
 
     def visible_steps(self) -> list[Node]:

@@ -9,7 +9,7 @@ Json = dict[str, Any]
 
 @dataclass(frozen=True)
 class CodedFault:
-    """A fault of a file or, without lines and columns, of an expression. Lines and columns count from 1, columns in characters."""
+    """A fault of a file. Lines and columns count from 1, columns in characters."""
 
     code: str
     kind: str
@@ -17,10 +17,10 @@ class CodedFault:
     arguments: tuple[str, ...]
     start: int
     end: int
-    line: int = 0
-    column: int = 0
-    end_line: int = 0
-    end_column: int = 0
+    line: int
+    column: int
+    end_line: int
+    end_column: int
 
 
 @dataclass(frozen=True)
@@ -90,38 +90,21 @@ Expression = Union[Word, Group, Not, Call, Path, Chain]
 
 
 @dataclass(frozen=True)
-class Token:
-    """A `name`, `keyword`, `number`, `string`, `operator` or `mark`, as written."""
-
-    kind: str
-    text: str
-    start: int
-    end: int
-
-
-@dataclass(frozen=True)
 class Chunk:
-    """An expression of a text: its tree, or its fault."""
+    """An expression of a text, without a tree if it has a fault."""
 
-    tokens: tuple[Token, ...]
     tree: Expression | None
-    fault: CodedFault | None
     start: int
     end: int
 
 
 @dataclass(frozen=True)
 class Place:
-    """A scalar that has expressions. `contexts` and `functions` are None where all are available."""
+    """A scalar that has expressions."""
 
     start: int
     end: int
-    is_condition: bool
-    is_script: bool
-    contexts: tuple[str, ...] | None
-    functions: tuple[str, ...] | None
     chunks: tuple[Chunk, ...]
-    fault: CodedFault | None
 
 
 def walk(expression: Expression) -> Iterator[Expression]:
@@ -178,30 +161,28 @@ def _inner(expression: Expression) -> Expression:
 
 
 def read_fault(said: Json) -> CodedFault:
-    places = {name: said.get(name, 0) for name in ("line", "column", "end_line", "end_column")}
-    return CodedFault(said["code"], said["kind"], said["message"], tuple(said["arguments"]), said["start"], said["end"], **places)
+    return CodedFault(said["code"], said["kind"], said["message"], tuple(said["arguments"]), said["start"], said["end"], said["line"],
+                      said["column"], said["end_line"], said["end_column"])
 
 
-def read_expression(said: Json) -> Expression:
+def _expression(said: Json) -> Expression:
     kind, start, end = said["kind"], said["start"], said["end"]
     if kind == "group":
-        return Group(read_expression(said["inner"]), start, end)
+        return Group(_expression(said["inner"]), start, end)
     if kind == "not":
-        return Not(read_expression(said["operand"]), start, end)
+        return Not(_expression(said["operand"]), start, end)
     if kind == "call":
-        return Call(_word(said["name"]), tuple(map(read_expression, said["arguments"])), start, end)
+        return Call(_word(said["name"]), tuple(map(_expression, said["arguments"])), start, end)
     if kind == "path":
-        return Path(read_expression(said["base"]), tuple(map(_step, said["steps"])), start, end)
+        return Path(_expression(said["base"]), tuple(map(_step, said["steps"])), start, end)
     if kind == "chain":
-        rest = tuple((one["operator"], read_expression(one["operand"])) for one in said["rest"])
-        return Chain(read_expression(said["first"]), rest, start, end)
+        rest = tuple((one["operator"], _expression(one["operand"])) for one in said["rest"])
+        return Chain(_expression(said["first"]), rest, start, end)
     return _word(said)
 
 
 def read_place(said: Json) -> Place:
-    contexts, functions = said.get("contexts"), said.get("functions")
-    return Place(said["start"], said["end"], said["condition"], said["script"], None if contexts is None else tuple(contexts),
-                 None if functions is None else tuple(functions), tuple(map(_chunk, said["chunks"])), _fault_in(said))
+    return Place(said["start"], said["end"], tuple(map(_chunk, said["chunks"])))
 
 
 def _word(said: Json) -> Word:
@@ -209,15 +190,9 @@ def _word(said: Json) -> Word:
 
 
 def _step(said: Json) -> Step:
-    index = read_expression(said["index"]) if "index" in said else None
+    index = _expression(said["index"]) if "index" in said else None
     return Step(said["kind"], said.get("text", ""), index, said["start"], said["end"])
 
 
 def _chunk(said: Json) -> Chunk:
-    tokens = tuple(Token(one["kind"], one["text"], one["start"], one["end"]) for one in said["tokens"])
-    tree = read_expression(said["tree"]) if "tree" in said else None
-    return Chunk(tokens, tree, _fault_in(said), said["start"], said["end"])
-
-
-def _fault_in(said: Json) -> CodedFault | None:
-    return read_fault(said["fault"]) if "fault" in said else None
+    return Chunk(_expression(said["tree"]) if "tree" in said else None, said["start"], said["end"])

@@ -32,12 +32,12 @@ def names() -> dict[str, list[str]]:
     return found
 
 
-def near(wrong: str, known: Iterable[str], count: int = 3, likeness: float = LEAST_LIKENESS) -> list[str]:
-    """The names that are like a wrong one, the nearest first. Dashes, `_` and case make no difference."""
+def near(wrong: str, known: Iterable[str]) -> list[str]:
+    """The three names that are most like a wrong one, the nearest first. Dashes, `_` and case make no difference."""
     if len(wrong) > MAX_NAME_CHARACTERS:
         return []
     plain = {name.lower().replace("_", "-"): name for name in known if name != wrong}
-    return [plain[name] for name in difflib.get_close_matches(wrong.lower().replace("_", "-"), plain, count, likeness)]
+    return [plain[name] for name in difflib.get_close_matches(wrong.lower().replace("_", "-"), plain, 3, LEAST_LIKENESS)]
 
 
 def misspelled(wrong: str, known: Iterable[str]) -> str | None:

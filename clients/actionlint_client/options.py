@@ -9,8 +9,8 @@ from .program import WHICH, find_program
 MAX_SECONDS = 3_600
 
 
-def options(words: list[str] | None = None) -> argparse.Namespace:
-    """The options, by default those of the command line. Ends the program if they are wrong or ask for help."""
+def options() -> argparse.Namespace:
+    """The options of the command line. Ends the program if they are wrong or ask for help."""
     parser = argparse.ArgumentParser(prog="actionlint-lsp", description="A language server that shows the faults of actionlint.",
                                      add_help=False)
     add_help_and_version(parser)
@@ -27,7 +27,7 @@ def options(words: list[str] | None = None) -> argparse.Namespace:
     parser.add_argument("--timeout", metavar="SECONDS", type=_seconds, default=20.0,
                         help="how long the linter may take to answer (default: %(default)s)")
     parser.add_argument("--stdio", action="store_true", help="use standard input and output, which is the default")
-    given = parser.parse_args(words)
+    given = parser.parse_args()
     given.program = find_program(given.program)
     given.docs = given.docs and given.docs.rstrip("/")
     return given

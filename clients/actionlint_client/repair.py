@@ -285,7 +285,7 @@ def is_within_flow(case: Case, path: Path) -> bool:
     return any(node is not None and node.is_flow for node in nodes)
 
 
-def first_entry(case: Case, mapping: Node, entry: str) -> Edit:
+def first_entry(mapping: Node, entry: str) -> Edit:
     """An entry at the start of a mapping; its further lines are indented with it."""
     start = mapping.span.start
     if mapping.is_flow:

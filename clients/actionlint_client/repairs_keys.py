@@ -105,8 +105,8 @@ def one_level_deeper(case: Case) -> Iterable[Repair]:
             yield from _below(case, here, "permissions", lambda key: key in names()["permission scopes"])
         elif given.entries and not given.is_flow and here.key:
             entry = case.slice(Span(here.key.span.start, here.value.span.end))
-            yield case.of('put it below "permissions"', without_entry(case, here.parent, here.key), first_entry(case, given, entry))
-    elif here.path[:1] == ("on",) and here.path[-2] in ("workflow_dispatch", "workflow_call") and _is_input(case, here):
+            yield case.of('put it below "permissions"', without_entry(case, here.parent, here.key), first_entry(given, entry))
+    elif here.path[:1] == ("on",) and here.path[-2] in ("workflow_dispatch", "workflow_call") and _is_input(here):
         known = table()["shapes"]["Call"]["keys"]
         yield from _below(case, here, "inputs", lambda key: key not in known) if here.parent.get("inputs") is None else ()
     elif here.path[-2:-1] == ("strategy",) and here.parent.get("matrix") is None:
@@ -116,7 +116,7 @@ def one_level_deeper(case: Case) -> Iterable[Repair]:
         yield case.replace('put it below "defaults"', "defaults: {run: {" + case.slice(span) + "}}", span)
 
 
-def _is_input(case: Case, here: Found) -> bool:
+def _is_input(here: Found) -> bool:
     """Whether all entries beside a key that the section of a call doesn't have look like inputs."""
     shapes = table()["shapes"]
     known, keys = shapes["Call"]["keys"], {*shapes["DispatchInput"]["keys"], *shapes["CallInput"]["keys"]}
@@ -211,7 +211,7 @@ def below_sibling(case: Case) -> Iterable[Repair]:
         key, section = sections[0]
         entry = case.slice(Span(here.key.span.start, tight(case, here.value).end)).replace("\n" + " " * here.key.span.start.column, "\n")
         removed = without_entry(case, here.parent, here.key)
-        yield case.of(f'put it below "{key.value}"', removed, first_entry(case, section, entry))
+        yield case.of(f'put it below "{key.value}"', removed, first_entry(section, entry))
 
 
 def beside_short_form(case: Case) -> Iterable[Repair]:
@@ -450,7 +450,7 @@ def _added(case: Case, here: Found, name: str) -> Iterable[Repair]:
     if name in ("jobs", "run", "runs", "steps") and here.value.entries:
         yield case.of(title, next_entry(case, here.value, here.value.entries[-1][0].value, entry))
     else:
-        yield case.of(title, first_entry(case, here.value, entry))
+        yield case.of(title, first_entry(here.value, entry))
 
 
 def _first_value(case: Case, here: Found, name: str) -> str | None:

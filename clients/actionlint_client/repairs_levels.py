@@ -148,7 +148,7 @@ def of_all_jobs(case: Case) -> Iterable[Repair]:
         return
     entry = case.slice(Span(here.key.span.start, tight(case, here.value).end))
     lacking = [name for name, job in jobs.entries if here.key.value in case.known_keys(("jobs", name.value), job.names())]
-    added = [first_entry(case, job, entry) for _, job in jobs.entries if job.entries and not job.is_flow]
+    added = [first_entry(job, entry) for _, job in jobs.entries if job.entries and not job.is_flow]
     if lacking and len(added) == len(lacking) == len(jobs.entries):
         where = f'to the job "{lacking[0].value}"' if len(lacking) == 1 else "to each job"
         yield case.of(f'move "{here.key.value}" {where}', without_entry(case, here.parent, here.key), *added)
@@ -186,7 +186,7 @@ def moves(case: Case, here: Found) -> Iterator[tuple[Path, Repair]]:
         return
     lines = range(here.key.span.start.line, last_line(here.value, case.lines) + 1)
     is_last = here.parent.entries[-1][0] is here.key
-    for path, names, column in (*_sections_before(case, here), *_sections_around(case, here)):
+    for path, names, column in (*_sections_before(here), *_sections_around(case, here)):
         if here.key.value in case.known_keys(path, names):
             title = f'move "{here.key.value}" {destination(case, path, column)}'
             by = column - here.key.span.start.column
@@ -204,7 +204,7 @@ def _moved_after(case: Case, title: str, lines: range, by: int, here: Found, pat
     return case.of(title, Edit(whole, ""), Edit(Span.at(Point(end, len(case.lines[end]))), text))
 
 
-def _sections_before(case: Case, here: Found) -> list[tuple[Path, list[str], int]]:
+def _sections_before(here: Found) -> list[tuple[Path, list[str], int]]:
     """The block mappings at the end of the value before a key, or below a key before it that has no value."""
     number = next(number for number, (key, _) in enumerate(here.parent.entries) if key is here.key)
     if not number:

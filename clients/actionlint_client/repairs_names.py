@@ -136,12 +136,12 @@ def declared_row(case: Case) -> Iterable[Repair]:
     matrix, strategy = case.at("jobs", case.job or "", "strategy", "matrix"), job.get("strategy")
     title = f'add the row "{chain[1]}", with the value "{value}" alone'
     if matrix and matrix.kind == "mapping" and set(matrix.names()) - {"include", "exclude"}:
-        yield case.of(title, first_entry(case, matrix, row))
+        yield case.of(title, first_entry(matrix, row))
     elif matrix is None and strategy and strategy.kind == "mapping" and strategy.entries and set(strategy.names()) <= OF_STRATEGY:
-        yield case.of(title, first_entry(case, strategy, f"matrix: {{{row}}}" if strategy.is_flow else f"matrix:\n  {row}"))
+        yield case.of(title, first_entry(strategy, f"matrix: {{{row}}}" if strategy.is_flow else f"matrix:\n  {row}"))
     elif strategy is None:
         yield case.of(title,
-                      first_entry(case, job, f"strategy: {{matrix: {{{row}}}}}" if job.is_flow else f"strategy:\n  matrix:\n    {row}"))
+                      first_entry(job, f"strategy: {{matrix: {{{row}}}}}" if job.is_flow else f"strategy:\n  matrix:\n    {row}"))
 
 
 def unknown_word(case: Case) -> Iterable[Repair]:
@@ -249,7 +249,7 @@ def _declaring(case: Case, way: Path, name: str, title: str, *edits: Edit) -> It
     if around and is_in_other_words(around, "inputs", table()["shapes"]["Call" if way else "Action"]["keys"]):
         return
     if inputs and inputs.entries:
-        yield case.of(title, first_entry(case, inputs, flow if inputs.is_flow else entry), *edits)
+        yield case.of(title, first_entry(inputs, flow if inputs.is_flow else entry), *edits)
     elif inputs is None and around and around.entries:
         key = "description" if around.get("description") else around.entries[-1][0].value
         text = f"inputs: {{{flow}}}" if around.is_flow else "inputs:\n  " + entry.replace("\n", "\n  ")
@@ -332,7 +332,7 @@ def as_secret(case: Case, here: Found) -> Iterable[Repair]:
     if secrets is None:
         added = next_entry(case, job, "uses", f"secrets: {{{text}}}" if job.is_flow or here.parent.is_flow else f"secrets:\n  {text}")
     elif secrets.entries:
-        added = first_entry(case, secrets, text)
+        added = first_entry(secrets, text)
     else:
         return
     yield case.of('move it to "secrets"', removed, added)
@@ -360,9 +360,9 @@ def _by_env(case: Case, chain: tuple[str, ...], span: Span) -> Iterable[Repair]:
     edit = Edit(span, f"env.{name}")
     env = job.get("env")
     if env and env.entries:
-        yield case.of(f'pass it in the variable "{name}"', first_entry(case, env, entry), edit)
+        yield case.of(f'pass it in the variable "{name}"', first_entry(env, entry), edit)
     elif env is None:
-        yield case.of(f'pass it in the variable "{name}"', first_entry(case, job, f"env:\n  {entry}"), edit)
+        yield case.of(f'pass it in the variable "{name}"', first_entry(job, f"env:\n  {entry}"), edit)
 
 
 def _secret_variable(chain: tuple[str, ...]) -> tuple[str, str]:
@@ -392,7 +392,7 @@ def _moved_to_steps(case: Case, chain: tuple[str, ...], span: Span) -> Iterable[
         new = new.replace(whole, f"env.{name}")
         variable = [next_entry(case, job, "runs-on", f"env: {{{entry}}}" if job.is_flow else f"env:\n  {entry}")]
     kept = Edit(value.span, _as_condition(" && ".join(stays))) if stays else without_key(case, job, "if")
-    edits = [first_entry(case, step, f"if: {_as_condition(new, step.is_flow)}") for step in steps.items if step.get("if") is None]
+    edits = [first_entry(step, f"if: {_as_condition(new, step.is_flow)}") for step in steps.items if step.get("if") is None]
     edits += [Edit(one.span, f"{grouped(new, ('||',))} && {grouped(one.value, ('||',))}") for one in conditions]
     yield case.of("put the condition on the steps" if not stays else f'put "{new}" on the steps', kept, *variable, *edits)
 
@@ -414,9 +414,9 @@ def moved_variable(case: Case) -> Iterable[Repair]:
         env = step.get("env")
         flow_entry = f"{here.key.value}: {case.slice(here.value.span) if here.value.style else quoted(here.value.value)}"
         if env and env.entries:
-            edits.append(first_entry(case, env, flow_entry if env.is_flow else entry))
+            edits.append(first_entry(env, flow_entry if env.is_flow else entry))
         elif env is None:
-            edits.append(first_entry(case, step, f"env: {{{flow_entry}}}" if step.is_flow else f"env:\n  {entry}"))
+            edits.append(first_entry(step, f"env: {{{flow_entry}}}" if step.is_flow else f"env:\n  {entry}"))
     if not edits:
         return
     removed = without_entry(case, here.parent, here.key) if len(here.parent.entries) > 1 else without_key(case, job, "env")

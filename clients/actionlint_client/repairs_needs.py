@@ -8,7 +8,6 @@ from .names import likely, misspelled
 from .other_keys import other_keys
 from .repair import Case, Edit, Repair, first_entry, next_entry, quoted
 from .repairs_steps import properties_before
-from .report import Fault
 from .syntax import table
 from .text import Point, Span
 from .tree import Node
@@ -58,7 +57,7 @@ def need_of(case: Case, job: str, name: str) -> Edit:
     needs = node.get("needs") if node else None
     assert node
     if needs is None:
-        return first_entry(case, node, f"needs: {name}")
+        return first_entry(node, f"needs: {name}")
     if needs.kind == "scalar":
         return Edit(needs.span, f"[{needs.value}, {name}]")
     last = needs.items[-1] if needs.items else None
@@ -97,8 +96,8 @@ def _output_with(case: Case, job: Node, name: str, value: str) -> tuple[str, lis
         return there, []
     if outputs is None:
         below = f"outputs:\n  {entry}"
-        return name, [next_entry(case, job, "runs-on", below) if job.get("runs-on") else first_entry(case, job, below)]
-    return name, [first_entry(case, outputs, entry)] if outputs.get(name) is None and outputs.entries else []
+        return name, [next_entry(case, job, "runs-on", below) if job.get("runs-on") else first_entry(job, below)]
+    return name, [first_entry(outputs, entry)] if outputs.get(name) is None and outputs.entries else []
 
 
 def needs_for_jobs(case: Case, chain: tuple[str, ...], span: Span) -> Iterable[Repair]:
@@ -136,7 +135,7 @@ def declared_output(case: Case) -> Iterable[Repair]:
         return
     title = f'add the output "{name}" to "{chain[1]}", ' + (f'from its step "{step}"' if step else "without a value")
     if outputs and outputs.entries:
-        yield case.of(title, first_entry(case, outputs, entry))
+        yield case.of(title, first_entry(outputs, entry))
     elif outputs is None and job.get("runs-on"):
         yield case.of(title, next_entry(case, job, "runs-on", f"outputs: {{{entry}}}" if job.is_flow else f"outputs:\n  {entry}"))
 
@@ -148,13 +147,12 @@ def _declared_by(case: Case, callee: str, name: str) -> Iterable[Repair]:
     call, key = (on.get("workflow_call"), on.key("workflow_call")) if on else (None, None)
     if call is None or key is None:
         return
-    other = Case(case.project, Fault(callee, 1, 1, "", "", 0), case.entry)
     entry = f"{name}: {{value: ''}}"
     outputs = call.get("outputs")
     if outputs and outputs.entries:
-        edit = first_entry(other, outputs, entry)
+        edit = first_entry(outputs, entry)
     elif call.kind == "mapping" and outputs is None:
-        edit = first_entry(other, call, f"outputs: {{{entry}}}")
+        edit = first_entry(call, f"outputs: {{{entry}}}")
     else:
         edit = Edit(Span(key.span.end, call.span.end), f": {{outputs: {{{entry}}}}}")
     yield Repair(f'add the output "{name}" to {callee}, without a value', {callee: (edit,)}, is_last_resort=True)

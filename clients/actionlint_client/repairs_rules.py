@@ -102,7 +102,7 @@ def _without_type(case: Case, here: Found) -> Iterable[Repair]:
     """The list without a type that stands for one that the list has too."""
     types = case.at(*here.path[:-1])
     if types:
-        yield case.of(f'delete "{here.value.value}"', _without_item(case, types, here.value), deletes=True)
+        yield case.of(f'delete "{here.value.value}"', _without_item(types, here.value), deletes=True)
 
 
 def _listed(case: Case) -> list[str]:
@@ -310,10 +310,10 @@ def without_need(case: Case) -> Iterable[Repair]:
         if len(job.entries) > 1:
             yield case.of(title, without_key(case, job, "needs"), deletes=True)
     else:
-        yield case.of(title, _without_item(case, needs, here.value), deletes=True)
+        yield case.of(title, _without_item(needs, here.value), deletes=True)
 
 
-def _without_item(case: Case, sequence: Node, item: Node) -> Edit:
+def _without_item(sequence: Node, item: Node) -> Edit:
     number = next(number for number, one in enumerate(sequence.items) if one is item)
     if not sequence.is_flow:
         line = item.span.start.line

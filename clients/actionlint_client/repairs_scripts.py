@@ -83,7 +83,7 @@ def by_variable(case: Case) -> Iterable[Repair]:
     if known:
         yield case.of(title, *edits)
     elif env and env.entries and env.alias is None:
-        yield case.of(title, first_entry(case, env, f"{name}: {quoted(value)}" if env.is_flow else entry), *edits)
+        yield case.of(title, first_entry(env, f"{name}: {quoted(value)}" if env.is_flow else entry), *edits)
     elif env is None:
         text = f"env: {{{name}: {quoted(value)}}}" if step.is_flow else f"env:\n  {entry}"
         yield case.of(title, next_entry(case, step, "run", text), *edits)

@@ -89,7 +89,7 @@ def named_step(case: Case) -> Iterable[Repair]:
     found = [step for step in steps if wanted and wanted in files.written_outputs(step)
              or re.sub(r"\W+", "-", step.text("name") or "").lower() == chain[1].lower() and not (wanted and files.written_outputs(step))]
     if len(found) == 1:
-        yield case.of(f'add "id: {chain[1]}" to the step', first_entry(case, found[0], f"id: {chain[1]}"))
+        yield case.of(f'add "id: {chain[1]}" to the step', first_entry(found[0], f"id: {chain[1]}"))
 
 
 def only_step(case: Case) -> Iterable[Repair]:

@@ -100,7 +100,7 @@ WRONG_FIXES = (
     ("an_hour_is_a_day", "repairs_schedules.py", KEYS, '"@hourly": "0 * * * *"', '"@hourly": "0 0 * * *"'),
     ("a_text_is_a_flag", "repairs_rules.py", KEYS, '{"text": "string"', '{"text": "boolean"'),
     ("an_event_twice", "repairs_rules.py", KEYS, "if meant and on and meant not in", "if meant and on and True or meant not in"),
-    ("all_needs_go_for_one", "repairs_rules.py", NAMES, "yield case.of(title, _without_item(case, needs, here.value), deletes=True)",
+    ("all_needs_go_for_one", "repairs_rules.py", NAMES, "yield case.of(title, _without_item(needs, here.value), deletes=True)",
      'yield case.of(title, without_key(case, job, "needs"), deletes=True)'),
     ("a_key_goes_to_the_job", "repairs_levels.py", KEYS, "-column if rank == 0 else 0", "column"),
     ("blank_lines_get_blanks", "repairs_levels.py", KEYS,
