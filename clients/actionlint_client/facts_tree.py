@@ -134,7 +134,7 @@ def paths_in(expression: Expression) -> Iterator[tuple[Expression, list[Word]]]:
     bases: set[int] = set()
     for part in walk(expression):
         if isinstance(part, Path):
-            bases.add(id(_inner(part.base)))
+            bases.add(id(inner(part.base)))
         names = _names_of(part) if isinstance(part, (Path, Word)) and id(part) not in bases else []
         if names:
             yield part, names
@@ -142,7 +142,7 @@ def paths_in(expression: Expression) -> Iterator[tuple[Expression, list[Word]]]:
 
 def _names_of(expression: Expression) -> list[Word]:
     """The names of a path. An index that isn't a string is `*`. Nothing if it begins otherwise."""
-    path = _inner(expression)
+    path = inner(expression)
     if isinstance(path, Word):
         return [path] if path.kind == "name" else []
     found = _names_of(path.base) if isinstance(path, Path) else []
@@ -155,9 +155,9 @@ def _names_of(expression: Expression) -> list[Word]:
     return found
 
 
-def _inner(expression: Expression) -> Expression:
+def inner(expression: Expression) -> Expression:
     """An expression without the brackets around it."""
-    return _inner(expression.inner) if isinstance(expression, Group) else expression
+    return inner(expression.inner) if isinstance(expression, Group) else expression
 
 
 def read_fault(said: Json) -> CodedFault:

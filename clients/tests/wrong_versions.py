@@ -413,7 +413,7 @@ WRONG_VERSIONS = {name: WrongVersion(*row) for name, *row in (
     ("names_in_brackets_stay", "facts_tree.py", "renaming.py each_place",
      'if isinstance(index, Word) and index.kind == "string":', "if False:"),
     ("names_in_parentheses_stay", "facts_tree.py", "renaming.py each_place",
-     "return _inner(expression.inner) if isinstance(expression, Group) else expression", "return expression"),
+     "return inner(expression.inner) if isinstance(expression, Group) else expression", "return expression"),
     ("quotes_belong_to_names", "references.py", "renaming.py each_place",
      "begin = self._data.find(name, chain[number].start, chain[number].end)", "begin = chain[number].start"),
     ("bases_are_chains_of_their_own", "facts_tree.py", "slips.py calls_and_names", " and id(part) not in bases", ""),

@@ -3,10 +3,10 @@ from __future__ import annotations
 
 from typing import Iterator
 
-from ..facts_tree import Call, Chain, Expression, Group, Not, Word
+from ..facts_tree import Call, Chain, Expression, Group, Not, Word, inner
 from ..facts_tree import walk as parts_of
 from ..tree import Node
-from .file import File, Finding, inner, names_of, note, text_of
+from .file import File, Finding, names_of, note, text_of
 from .values import COMPARISONS, kind_of
 
 # The functions whose results depend on nothing but their arguments.

@@ -9,7 +9,7 @@ from functools import cached_property
 from pathlib import Path
 from typing import Any, Callable, Iterator, NamedTuple
 
-from ..facts_tree import Expression, Group, Place, Word
+from ..facts_tree import Expression, Place, Word, inner
 from ..facts_tree import Path as Dotted
 from ..tree import Node, walk
 
@@ -119,13 +119,6 @@ class File:
             return None
         text = node.value.strip()
         return place.chunks[0].tree if text.startswith("${{") and text.endswith("}}") else None
-
-
-def inner(expression: Expression) -> Expression:
-    """An expression without brackets around it."""
-    while isinstance(expression, Group):
-        expression = expression.inner
-    return expression
 
 
 def names_of(expression: Expression) -> list[str]:

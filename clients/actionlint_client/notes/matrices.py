@@ -3,10 +3,10 @@ from __future__ import annotations
 
 from typing import Any, Iterator
 
-from ..facts_tree import Chain, Expression
+from ..facts_tree import Chain, Expression, inner
 from ..facts_tree import walk as parts_of
 from ..tree import Node
-from .file import File, Finding, has_expression, inner, names_of, note, text_of
+from .file import File, Finding, has_expression, names_of, note, text_of
 
 OPTIONS = ("include", "exclude")
 

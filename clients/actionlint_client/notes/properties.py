@@ -4,9 +4,9 @@ from __future__ import annotations
 import json
 from typing import Any, Iterator
 
-from ..facts_tree import Call, Expression, Path, Word
+from ..facts_tree import Call, Expression, Path, Word, inner
 from ..facts_tree import walk as parts_of
-from .file import File, Finding, inner, is_slip, names_of, note, table, text_of
+from .file import File, Finding, is_slip, names_of, note, table, text_of
 
 TABLE = table("properties")
 

@@ -3,8 +3,8 @@ from __future__ import annotations
 
 from typing import Iterator
 
-from ..facts_tree import Call, Chain, Expression, Path, Word
-from .file import File, Finding, inner, names_of, note, table
+from ..facts_tree import Call, Chain, Expression, Path, Word, inner
+from .file import File, Finding, names_of, note, table
 from .values import COMPARISONS
 
 TABLE = table("strangers")

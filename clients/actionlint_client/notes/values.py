@@ -6,10 +6,10 @@ import re
 from collections import Counter
 from typing import Iterator
 
-from ..facts_tree import Call, Chain, Expression, Not, Path, Word
+from ..facts_tree import Call, Chain, Expression, Not, Path, Word, inner
 from ..facts_tree import walk as parts_of
 from ..tree import Node
-from .file import File, Finding, has_expression, inner, names_of, note, table, text_of
+from .file import File, Finding, has_expression, names_of, note, table, text_of
 
 EVENTS, VALUES = table("events"), table("values")
 # (completion offers the same types, colors and icons)
