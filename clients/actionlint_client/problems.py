@@ -47,7 +47,7 @@ class Problem:
         return self.source or ""
 
     def snippet(self) -> tuple[str, ...]:
-        """The lines that the linter prints below a fault: a bar, the source line, and marks behind the same tabs. None if the source line
+        """The lines that the linter prints below a fault: a bar, the source line, and marks behind the same tabs. Nothing if the source line
         isn't known."""
         if self.source is None:
             return ()
