@@ -2,23 +2,37 @@
 
 Each block of docs/FACTS.md that is marked `facts` is run as a session: `> ` begins a line of the input, `< ` the next answer, or with
 `PATH = VALUE` a part of the same answer. Then commands that are cut in any place, wrong ones among right ones, questions about bytes, and
-the tables. Prints a line for each case.
+the tables; and `lint` in many folders, whose lines are compared with the linter's report and with the bytes of the files. Prints a line for
+each case.
 """
 
+import bisect
 import json
+import os
 import pathlib
 import random
 import re
+import shutil
 import subprocess
 import sys
 
 import fault_entries
-from running import CALLED, CALLER, CLEAN, FAULT, WORKFLOWS, exit_status, report, show
+from running import CALLED, CALLER, CLEAN, FAULT, WORKFLOWS, Place, each, exit_status, report, show
 
 TOP = pathlib.Path(__file__).resolve().parent.parent
 BLOCK = re.compile(r"^```facts\n(.*?)^```$", re.DOTALL | re.MULTILINE)
 STEP = re.compile(r"\.([\w-]+)|\[(\d+)\]")
 SECONDS = 60
+LINE_BREAK = re.compile(rb"\r\n|\n|\r")
+CONTROL = re.compile(r"[\x00-\x1f\x7f]")
+KEYS = ["path", "code", "kind", "message", "arguments", "start", "end", "line", "column", "end_line", "end_column"]
+# Files with other line breaks, a byte order mark, tabs, wide characters, controls, and bytes that aren't UTF-8; and an empty one.
+ODD_FILES = [b"on: push\r\nnam: x\r\njobs: {}\r\n", b"on: push\rnam: x\rjobs: {}", b"\xef\xbb\xbfnam: x\n",
+             b"on: push\njobs: {}\n\n'\ta': 1",
+             "on: push\njobs: {}\n\"表😀é\\x07\u0085\u2028\": ü\n".encode(), b"on: push\nname: a\x1bb\n", b"name: a\xff\xc3b\n", b"", b"\n",
+             b"on: push\njobs:\n  a: {runs-on: x, steps: {run: '\xc3\xa9',\r\n name: y}}\n"]
+# As many faults as several writes have.
+MANY_FAULTS = b"on: push\njobs:\n  a:\n    runs-on: x\n    steps:\n      - run: |\n" + b"          ${{a}} ${{b}}\n" * 10_000
 LOOP = b"on:\n  workflow_call:\njobs:\n  a:\n    uses: ./.github/workflows/r.yml\n"
 
 
@@ -176,6 +190,163 @@ def all_tables(program):
     report("tables", 0, wrong)
 
 
+class Lint:
+    """A folder on disk with copies of both programs, of which one lints it and the other tells what it finds."""
+
+    def __init__(self, linter, program):
+        self.place = Place(linter)
+        self.program = os.path.join(self.place.room, "actionlint-facts")
+        shutil.copyfile(program, self.program)
+        os.chmod(self.program, 0o755)
+        self.codes = {entry.code: set() for entry in fault_entries.entries(TOP / "docs")}
+        for entry in fault_entries.entries(TOP / "docs"):
+            self.codes[entry.code].add(entry.message)
+
+    def differences(self, words=(), root=None):
+        """What of the lines isn't as the linter reports it with the same arguments, or not as the bytes of the files are."""
+        linted = self.place.run(["--oneline", *words])
+        ran = self.place.run(["lint", *words], program=self.program)
+        short = self.place.run(["lint", "--oneline", *words], program=self.program)
+        wrong = [f"status {one.returncode} and {show(one.stderr)} in place of {linted.returncode} and {show(linted.stderr)}"
+                 for one in (ran, short) if (one.returncode, one.stderr) != (linted.returncode, linted.stderr)]
+        if linted.returncode > 1:
+            return wrong + [f"it printed {show(one.stdout)}" for one in (ran, short) if one.stdout]
+        *rows, last = map(json.loads, ran.stdout.splitlines())
+        *rows_of_short, last_of_short = map(json.loads, short.stdout.splitlines())
+        wrong += [] if ran.stdout.isascii() and ran.stdout.endswith(b"}\n") else ["it isn't lines of ASCII"]
+        wrong += [f"it ended with {one}" for one in (last, last_of_short) if one != {"status": linted.returncode}]
+        printed = "".join(f"{it['path']}:{it['line']}:{it['column']}: {it['message']} [{it['kind']}]\n" for it in rows)
+        wrong += [] if printed.encode() == linted.stdout else [f"{show(printed.encode())} where the linter has {show(linted.stdout)}"]
+        top = pathlib.Path(self.place.folder, root or ".")
+        files = {path: Bytes((top / path).read_bytes()) for path in {row["path"] for row in rows}}
+        wrong += [f"{row} isn't a fault of its file" for row in rows if not self.is_of_file(row, files[row["path"]])][:1]
+        short_rows = [{key: row[key] for key in KEYS} for row in rows]
+        return wrong + ([] if rows_of_short == short_rows else ["with --oneline there are other faults or keys"])
+
+    def is_of_file(self, row, file):
+        """Whether the source line, the places and the message are those of a file, and of the code's entry."""
+        message = lambda entry: re.sub(r"\{([01])\}", lambda found: (row["arguments"] + ["", ""])[int(found[1])], entry)
+        return (list(row) == [*KEYS, "source"] and row["source"] == file.lines[row["line"] - 1].decode("utf-8", "replace")
+                and file.place(row["start"]) == (row["line"], row["column"])
+                and file.place(row["end"]) == (row["end_line"], row["end_column"])
+                and row["message"] in {CONTROL.sub("?", message(entry)) for entry in self.codes[row["code"]]})
+
+    def case(self, name, words=(), root=None):
+        report(f"lint-{name}", "-", self.differences(words, root))
+
+
+class Bytes:
+    """The lines of a file, without their breaks."""
+
+    def __init__(self, data):
+        self.data, self.lines = data, LINE_BREAK.split(data)
+        self.starts = [0, *(found.end() for found in LINE_BREAK.finditer(data))]
+
+    def place(self, offset):
+        """The line and the column of a byte, in characters from 1."""
+        line = bisect.bisect_right(self.starts, offset)
+        return line, 1 + sum(byte & 0xC0 != 0x80 for byte in self.data[self.starts[line - 1]:offset])
+
+
+def of_folders(lint):
+    """The examples of this repository, and the folder of each case of the pages of faults, whose files are named too."""
+    for folder in sorted(it for it in (TOP / "examples").iterdir() if (it / WORKFLOWS).is_dir()):
+        shutil.copytree(folder, os.path.join(lint.place.fresh(), folder.name))
+        lint.case(f"example-{folder.name}", ["--root", folder.name], folder.name)
+
+    def differences(case):
+        files = fault_entries.files_of(case)
+        lint.place.fresh(files)
+        return lint.differences() + lint.differences(["--", *files])
+    each("lint-cases", ((name, differences(case)) for name, case in fault_entries.cases_of_entries(TOP).items()))
+
+
+def of_odd_files(lint):
+    """Lines of all kinds, paths that look like something else, and more faults than one write has."""
+    lint.place.fresh({f"{WORKFLOWS}/{number}.yml": data for number, data in enumerate(ODD_FILES)})
+    lint.case("odd-lines")
+    paths = ["a:1:1: b/action.yml", "--root=x/action.yml", "é ü/action.yml", '"a"/action.yml', "\u202e\U0001f600/action.yml"]
+    lint.place.fresh(dict.fromkeys(paths, b"name: x\n"), folders=[WORKFLOWS])
+    lint.case("odd-paths", ["--", *paths])
+    lint.place.fresh({f"{WORKFLOWS}/a.yml": MANY_FAULTS, f"{WORKFLOWS}/b.yml": MANY_FAULTS})
+    lint.case("many-faults")
+
+
+def of_odd_folders(lint):
+    """Links, what is no file, names that aren't UTF-8, and folders without workflows; each FILE that is missing or refused."""
+    outside = lint.place.fresh({"action.yml": b"", "f.yml": b"a: 'b\n"})
+    files = {f"{WORKFLOWS}/c.yml": CALLER, "kept/action.yml": CALLED, "kept/f.yml": b"", "large/action.yml": b"#" * 1_048_577}
+    folder = lint.place.fresh(files, folders=[f"{WORKFLOWS}/d.yml", "other", "x/action.yml"])
+    for link, target in {"a": "kept", f"{WORKFLOWS}/l.yml": "../../kept/f.yml", f"{WORKFLOWS}/o.yml": f"{outside}/f.yml",
+                         f"{WORKFLOWS}/n.yml": "nowhere", "out": outside}.items():
+        os.symlink(target, os.path.join(folder, link))
+    os.mkfifo(os.path.join(folder, WORKFLOWS, "p.yml"))
+    with open(os.path.join(os.fsencode(folder), WORKFLOWS.encode(), b"\xff.yml"), "wb") as file:
+        file.write(b"a: 'b\n")
+    lint.case("odd-folder")
+    lint.case("root", ["--root", folder])
+    lint.case("root-in-one-word", [f"--root={folder}/other/..", f"./{WORKFLOWS}/c.yml"])
+    for name, words in {
+        "one-file": [f"{WORKFLOWS}/c.yml"], "two-files": [f"{WORKFLOWS}/c.yml", "kept/action.yml"], "file-twice": ["kept/action.yml"] * 2,
+        "missing-file": [f"{WORKFLOWS}/none.yml"], "file-outside": ["out/action.yml"], "pipe": [f"{WORKFLOWS}/p.yml"],
+        "folder-as-file": ["x/action.yml"], "absolute": [f"{folder}/a/action.yml"], "path-that-goes-up": ["../a/action.yml"],
+        "neither": ["README.md"], "large": ["large/action.yml"], "empty-word": [""], "no-root": ["--root", "none"],
+        "file-as-root": ["--root", "kept/f.yml"],
+        "not-utf-8": [b"\xff/action.yml"], "backslash": ["a\\b/action.yml"], "control": ["\x1b/action.yml"],
+    }.items():
+        lint.case(name, words)
+    lint.place.fresh({"README.md": b""}, folders=[WORKFLOWS])
+    lint.case("no-workflow")
+    lint.place.fresh()
+    lint.case("no-folder-of-workflows")
+
+
+def of_wrong_words(lint):
+    """Arguments that are wrong for the linter are for `lint`, and `--session` is."""
+    lint.place.fresh({f"{WORKFLOWS}/a.yml": b""})
+    for name, words in {"unknown": ["--bogus"], "no-value": ["--root"], "twice": ["--root", "a", "--root", "b"], "short": ["-h"],
+                        "beside-help": ["--help", "--bogus"], "flag-with-a-value": ["--oneline=x"]}.items():
+        lint.case(f"wrong-words-{name}", words)
+    for words in (["--session"], ["--session", "--oneline"], ["--session", "a.yml"]):
+        ran = lint.place.run(["lint", *words], b"report\n", program=lint.program)
+        report(f"lint-{'-'.join(words)}", ran.returncode, [] if (ran.returncode, ran.stdout) == (2, b"") and ran.stderr else [f"{ran}"])
+
+
+def of_output_that_fails(lint):
+    """Output that is full, or whose reader goes: what is there is the beginning of the lines, and the status isn't among them."""
+    place = lint.place
+    place.fresh({f"{WORKFLOWS}/c.yml": CALLER, "a/action.yml": CALLED})
+    whole = place.run(["lint"], program=lint.program).stdout
+
+    def held(size):
+        ran, found = place.run_to_file(size, ["lint"], program=lint.program)
+        wrong = [] if (ran.returncode, ran.stderr) == (3, b"actionlint: write failed\n") else [f"{ran}"]
+        return wrong + ([] if found == whole[:size] else [f"the output holds {show(found)}"])
+    each("lint-output-that-fails", ((size, held(size)) for size in range(0, len(whole), 7)))
+    for name, files in (("one-fault", {f"{WORKFLOWS}/a.yml": b""}), ("many-faults", {f"{WORKFLOWS}/a.yml": MANY_FAULTS}),
+                        ("no-fault", {f"{WORKFLOWS}/a.yml": CLEAN})):
+        place.fresh(files)
+        for where in ("/dev/full", None):
+            wanted = (3, b"actionlint: write failed\n")
+            found = ended_with(place, lint.program, ["lint"], where)
+            linted = ended_with(place, place.program, [], where)
+            wrong = [] if found == wanted and (linted == wanted or name == "no-fault") else [f"{found} and {linted}"]
+            report(f"lint-{name}-to-{'a-full-device' if where else 'a-reader-that-goes'}", found[0], wrong)
+
+
+def ended_with(place, program, words, where):
+    """The status and the errors of a run into a file, or into a pipe that nobody reads."""
+    if where:
+        with open(where, "wb") as output:
+            ran = place.run(words, program=program, stdout=output)
+    else:
+        reading, writing = os.pipe()
+        os.close(reading)
+        ran = place.run(words, program=program, stdout=writing)
+        os.close(writing)
+    return ran.returncode, ran.stderr
+
+
 def main(linter, program):
     examples(program)
     cut_anywhere(program)
@@ -183,6 +354,12 @@ def main(linter, program):
     as_the_linter(program, linter)
     of_bytes(program)
     all_tables(program)
+    lint = Lint(linter, program)
+    try:
+        for part in (of_folders, of_odd_files, of_odd_folders, of_wrong_words, of_output_that_fails):
+            part(lint)
+    finally:
+        lint.place.remove()
     return exit_status()
 
 

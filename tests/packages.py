@@ -14,7 +14,7 @@ import sys
 import tempfile
 
 from copying import TOP
-from release import clone, failed, run
+from release import both, clone, failed, run
 from running import CALLED, CALLER, MISSING_INPUT, WORKFLOWS, run_in_room, write_files
 
 WORDS = ["--oneline", "--root", "--session", "--help"]
@@ -34,7 +34,7 @@ ENVIRONMENT = {"PATH": "/usr/sbin:/usr/bin:/sbin:/bin", "LC_ALL": "C.UTF-8"}
 
 def made(folder, program, to):
     """The package that a repository makes, and what went wrong."""
-    wrong = failed(run([folder / "release", "--program", program, "--deb", "--to", to]))
+    wrong = failed(run([folder / "release", *both(program), "--deb", "--to", to]))
     found = sorted(to.glob("*.deb")) if to.exists() else []
     return (found[0] if found else None), wrong + ([] if len(found) == 1 else [f"{len(found)} packages"])
 
@@ -105,7 +105,7 @@ def contents(package, version, room):
 
 def renamed(folder, program, room, version):
     """With `--name` the package and its program have that name, and only a package of the same files is in its way."""
-    wrong = failed(run([folder / "release", "--program", program, "--deb", "--name", "juzbrost", "--to", room / "out-renamed"]))
+    wrong = failed(run([folder / "release", *both(program), "--deb", "--name", "juzbrost", "--to", room / "out-renamed"]))
     package = room / f"out-renamed/juzbrost_{version}_amd64.deb"
     if wrong or not package.exists():
         return wrong + [f"there is no {package}"]
@@ -205,7 +205,7 @@ def cases(program, room):
     yield "package-refused", refused(package, room)
     yield "package-of-another-name", renamed(first, program, room, version)
     prefix = room / "put"
-    run([first / "release", "--program", program, "--install", prefix]).check_returncode()
+    run([first / "release", *both(program), "--install", prefix]).check_returncode()
     for command, needed in PAGES.items():
         yield f"manual-page-of-{command}", manual_page(prefix, command, needed, version) if shutil.which("mandoc") else None
     for name, wrong in shells(prefix / "share", room):

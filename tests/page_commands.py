@@ -63,7 +63,7 @@ class Machine:
         (self.room / "bin").mkdir()
         (self.room / "bin/actionlint").symlink_to(self.program)
         # a first run may say what it runs, which no page shows
-        self.outputs([["./actionlint --help", []]], False)
+        self.outputs([["./actionlint --help", []], ["./actionlint-facts --help", []]], False)
 
     def path(self, with_program):
         """The PATH of a block's commands."""

@@ -15,7 +15,7 @@ import sys
 import tarfile
 import textwrap
 
-from copying import AS, TOP, carry, commit, copy_files
+from copying import AS, TOP, carry, commit, copy_files, facts_beside
 from links import broken_links
 from running import CLEAN, NOBODY, WORKFLOWS, run_in_room, show
 
@@ -39,9 +39,14 @@ def clone(folder, program=None):
     return folder
 
 
+def both(program):
+    """The arguments that name a linter and the other program."""
+    return ["--program", program, "--facts", facts_beside(program)]
+
+
 def made(folder, program, to):
     """The archive that a repository makes, and what went wrong."""
-    ran = run([folder / "release", "--program", program, "--to", to])
+    ran = run([folder / "release", *both(program), "--to", to])
     found = sorted(to.glob("*.tar.gz")) if to.exists() else []
     return (found[0] if found else None), failed(ran) + ([] if len(found) == 1 else [f"{len(found)} archives"])
 
@@ -65,7 +70,7 @@ def contents(archive):
 
 
 def with_facts(folder, program, room):
-    """A release with the other program has it too, wherever that is given or beside the first."""
+    """The other program is the one that is given, or that is beside the first; without it there is no release."""
     wrong = []
     (room / "both").mkdir()
     for name, bytes_of in (("actionlint", program), ("actionlint-facts", "/bin/true")):
@@ -75,8 +80,11 @@ def with_facts(folder, program, room):
         wrong += failed(run([folder / "release", *words, "--install", prefix]))
         there = prefix / "bin/actionlint-facts"
         wrong += [] if there.is_file() and there.stat().st_mode & 0o777 == 0o755 else [f"{there} isn't there"]
-    wrong += failed(run([folder / "release", "--program", program, "--facts", room / "none", "--install", room / "facts-2"]), 1)
-    return wrong
+    (room / "alone").mkdir()
+    shutil.copy(program, room / "alone/actionlint")
+    for words in (["--program", program, "--facts", room / "none"], ["--program", room / "alone/actionlint"]):
+        wrong += failed(run([folder / "release", *words, "--install", room / "facts-2"]), 1)
+    return wrong + (["something was made without the other program"] if (room / "facts-2").exists() else [])
 
 
 def under_another_name(folder, program, room):
@@ -166,7 +174,7 @@ def installed(folder, program, prefix, archived):
     (prefix / "share/actionlint").mkdir(parents=True)
     for name in ("NEEDS", "gone"):
         (prefix / "share/actionlint" / name).write_text("an older one")
-    ran = run([folder / "release", "--program", program, "--install", prefix])
+    ran = run([folder / "release", *both(program), "--install", prefix])
     said = [f"release: overwrote {prefix}/bin/actionlint", f"release: overwrote {prefix}/share/actionlint, a whole folder"]
     lines = ran.stdout.decode().splitlines()
     found = files_of(prefix)
@@ -185,7 +193,7 @@ def cloned_with_crlf(folder, room):
 def from_a_link(folder, program, archive, room):
     """Started by a link from another folder: the same archive."""
     (room / "link").symlink_to(folder / "release")
-    ran = run([room / "link", "--program", program, "--to", room / "by-link"], cwd=room)
+    ran = run([room / "link", *both(program), "--to", room / "by-link"], cwd=room)
     return failed(ran) or ([] if (room / "by-link" / archive.name).read_bytes() == archive.read_bytes() else ["the bytes differ"])
 
 
@@ -198,7 +206,7 @@ def from_a_hook(folder, program, archive):
     (other / "another's").write_text("")
     commit(other)
     hook = {"CDPATH": str(other), "GIT_DIR": str(other / ".git"), "GIT_INDEX_FILE": str(other / ".git/index")}
-    ran = run([f"{folder.name}/release", "--program", program, "--to", "out-c"], cwd=room, env=os.environ | hook)
+    ran = run([f"{folder.name}/release", *both(program), "--to", "out-c"], cwd=room, env=os.environ | hook)
     return failed(ran) or failed(run(["cmp", archive, room / "out-c" / archive.name]))
 
 
@@ -210,7 +218,7 @@ def in_the_way(folder, program, room):
         (prefix / file).parent.mkdir(parents=True)
         (prefix / file).write_text("another's")
         before = files_of(prefix)
-        ran = run([folder / "release", "--program", program, "--install", prefix])
+        ran = run([folder / "release", *both(program), "--install", prefix])
         wrong += failed(ran, 1) + ([] if files_of(prefix) == before else [f"{name}: files changed"])
         wrong += [] if f"{prefix}/{name}".encode() in ran.stderr else [f"{name}: it said {show(ran.stderr)}"]
     return wrong
@@ -248,7 +256,7 @@ def undated(folder, program):
     version = (folder / "VERSION").read_text(encoding="utf-8").strip()
     log.write_text(re.sub(r"(?m)^(## [0-9.]+), .*$", r"\1", log.read_text(encoding="utf-8")), encoding="utf-8")
     run(["git", "-C", folder, *AS, "commit", "-qam", "no date"]).check_returncode()
-    ran = run([folder / "release", "--program", program, "--to", folder / "made"])
+    ran = run([folder / "release", *both(program), "--to", folder / "made"])
     wrong = failed(ran, 1) + (["something was made"] if (folder / "made").exists() else [])
     said = f"release: CHANGELOG.md has no heading with {version} and its date\n"
     return wrong + ([] if ran.stderr.decode() == said else [show(ran.stderr)])

@@ -111,8 +111,8 @@ class Place:
         """Writes a file of the folder."""
         write_files(self.folder, {path: data})
 
-    def run(self, words=(), stdin=b"", limits=None, **streams):
-        """Runs the program and collects its streams."""
+    def run(self, words=(), stdin=b"", limits=None, program=None, **streams):
+        """Runs the program, or another one, and collects its streams."""
         how = {"cwd": self.folder, "stdout": subprocess.PIPE, "stderr": subprocess.PIPE, "timeout": SECONDS}
         if isinstance(stdin, bytes):
             how["input"] = stdin
@@ -123,16 +123,16 @@ class Place:
         if limits:
             how["preexec_fn"] = limits
         how.update(streams)
-        ran = subprocess.run([self.program, *words], check=False, **how)
+        ran = subprocess.run([program or self.program, *words], check=False, **how)
         ran.stdout = ran.stdout or b""
         return ran
 
-    def run_to_file(self, size, words, stdin=b""):
-        """Runs the program with its output into a file that accepts only some bytes; also returns what the file holds."""
+    def run_to_file(self, size, words, stdin=b"", program=None):
+        """Runs a program with its output into a file that accepts only some bytes; also returns what the file holds."""
         target = os.path.join(self.room, "output")
         with open(target, "wb") as output:
             # the signal that the system sends here would end the program without an answer
-            ran = self.run(words, stdin, small_files(size), stdout=output, restore_signals=False)
+            ran = self.run(words, stdin, small_files(size), program, stdout=output, restore_signals=False)
         with open(target, "rb") as output:
             return ran, output.read()
 

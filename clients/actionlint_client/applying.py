@@ -44,9 +44,9 @@ def find_changes(request: Request, say: Callable[[str], None]) -> Applied:
     """Lints, and finds out what the fixes change."""
     paths, count = set(), 0
     with LintRun(request.program, request.root, request.files, False) as run:
-        for reported in run:
-            paths.add(reported.fault.path)
-            count += not request.ignored.has_fault(reported.fault)
+        for problem in run:
+            paths.add(problem.fault.path)
+            count += not request.ignored.has(problem)
     found = Applied(run.status, run.errors, count, {})
     if found.faults and run.status == 1:
         takes: Callable[[Fault], bool] = lambda fault: fault.path in paths and not request.ignored.has_fault(fault)

@@ -1,7 +1,7 @@
 """actionlint-report: runs the linter and writes its report in another format, for people or for programs.
 
-It runs the linter itself, so a run that could not go on never looks like one without faults: the exit status is the linter's, except for
-ignored faults and notes.
+It runs the linter itself (`actionlint-facts lint`), so a run that could not go on never looks like one without faults: the exit status is
+the linter's, except for ignored faults and notes.
 """
 from __future__ import annotations
 
@@ -19,14 +19,13 @@ from .console import add_help_and_version
 from .entries import entries, explained
 from .forms import Annotations, CodeQuality, Form, JsonLines, OneLine, Outcome
 from .ignoring import Ignored, Rule, WrongRule, is_note, is_of_shellcheck, rules_in
-from .lint_run import CANNOT_GO_ON, CannotStart, LintRun, ReportTooLong
+from .lint_run import CANNOT_GO_ON, LintFailed, LintRun, ReportTooLong
 from .notes.entries import NoNotes, entries_of_notes
 from .output import STANDARD_OUTPUT, report_output
 from .paths import path_of_word
-from .problems import Problem, problem_of
-from .program import WHICH, find_program, missing_facts
+from .problems import Problem
+from .program import WHICH, find_program, missing_facts, missing_linter
 from .reader import Reader, Started
-from .report import BadReport
 from .sarif import Sarif, left_out_line
 from .terminal import WIDTH, Text, has_color
 
@@ -49,12 +48,8 @@ def main(words: list[str] | None = None) -> int:
     try:
         if options.explain is not None:
             return explain(options.explain)
-        is_needed = options.shellcheck or options.diff or options.fix
-        lacks = missing_facts(options.program) if is_needed or FORMS[options.form].shows_fixes else ""
-        if is_needed and lacks:
+        if lacks := missing_linter(options.program) or missing_facts(options.program):
             return _fail(lacks)
-        # Without actionlint-facts a report has no fixes.
-        options.shows_fixes = FORMS[options.form].shows_fixes and not lacks
         ignored = Ignored([*map(path_of_word, options.ignore), *(rule for file in options.ignore_file for rule in rules_in(file))])
         if options.diff:
             return _diff(options, ignored)
@@ -67,12 +62,10 @@ def main(words: list[str] | None = None) -> int:
         pass
     except WrongRule as error:
         return _fail(str(error), WRONG_WORDS)
-    except (CannotStart, NoNotes, shellcheck.ShellcheckFailed) as error:
+    except (LintFailed, NoNotes, shellcheck.ShellcheckFailed) as error:
         return _fail(str(error))
     except LinterEnded as error:
         return _fail(f"actionlint-facts: {error}")
-    except BadReport as error:
-        return _fail(f"{options.program} is not the linter: {error}")
     except OSError as error:
         return _fail(f"cannot write {options.out or 'standard output'}: {error.strerror}")
     _say(form, outcome)
@@ -127,7 +120,7 @@ def explain(code: str) -> int:
 
 
 def _report(options: argparse.Namespace, ignored: Ignored, out: BinaryIO) -> tuple[Form, Outcome]:
-    """Writes the report with source lines, which tell how long each fault is, unless these would be too many bytes."""
+    """Writes the report with source lines, unless these would be too many bytes."""
     try:
         return _write(options, ignored, out, True)
     except ReportTooLong:
@@ -136,11 +129,11 @@ def _report(options: argparse.Namespace, ignored: Ignored, out: BinaryIO) -> tup
         return _write(options, ignored, out, False)
 
 
-def _write(options: argparse.Namespace, ignored: Ignored, out: BinaryIO, snippets: bool) -> tuple[Form, Outcome]:
+def _write(options: argparse.Namespace, ignored: Ignored, out: BinaryIO, has_source: bool) -> tuple[Form, Outcome]:
     form, outcome = _form(options, out), Outcome()
     form.begin()
     unread: set[str] = set()
-    with LintRun(options.program, options.root, options.files, snippets) as run:
+    with LintRun(options.program, options.root, options.files, has_source) as run:
         for problem in _problems(options, run):
             if problem.code.startswith("Y"):
                 unread.add(problem.fault.path)
@@ -158,9 +151,9 @@ def _write(options: argparse.Namespace, ignored: Ignored, out: BinaryIO, snippet
 
 def _problems(options: argparse.Namespace, run: LintRun) -> Iterable[Problem]:
     """The faults of a run, with fixes if they are to be shown."""
-    problems = (problem_of(reported.fault, reported.snippet) for reported in run)
-    named = list(map(path_of_word, options.files))
-    return FirstFixes(options.program, options.root, named).add_to(problems) if options.shows_fixes else problems
+    if not FORMS[options.form].shows_fixes:
+        return run
+    return FirstFixes(options.program, options.root, list(map(path_of_word, options.files))).add_to(run)
 
 
 def _notes(options: argparse.Namespace, unread: set[str], outcome: Outcome) -> Iterable[Problem]:

@@ -1,4 +1,4 @@
-"""The entries of the pages of faults (`docs/FAULTS*.md`) by their messages. make_tables.py writes faults.json."""
+"""The entries of the pages of faults (`docs/FAULTS*.md`) by their codes. make_tables.py writes faults.json."""
 from __future__ import annotations
 
 import json
@@ -10,13 +10,11 @@ from typing import Iterable, NamedTuple, Sequence
 from .markdown import code
 
 TABLE = Path(__file__).parent / "faults.json"
-ARGUMENT = re.compile(r"\{[01]\}")
+ARGUMENT = re.compile(r"\{([01])\}")
 LINK_IN_BRACKETS = re.compile(r" \(\[[^\]]*\]\([^)]*\)(?:, those in bold)?\)")
 LINK = re.compile(r"\[([^\]]*)\]\([^)]*\)")
 EXAMPLE = re.compile(r"^```\w+\n(.*?)^```$", re.M | re.S)
 PAGE_LINK = re.compile(r"\[([^\]]*)\]\((?!\w+:)([^)]*)\)")
-KNOWN_MESSAGES = 4_096
-KNOWN_CHARACTERS = 1_000
 SHOWN_CHARACTERS = 200
 SHOWN_MESSAGES = 10
 
@@ -31,32 +29,12 @@ class Entry(NamedTuple):
     text: str
     why: str
     repair: str
-    fixed: tuple[str, ...]
-
-    def arguments(self, message: str) -> tuple[str, ...] | None:
-        """The arguments in a printed message, or None if it isn't this one. Takes time linear in the message: its fixed parts are compared
-        at both ends, and searched for once between them."""
-        first, *between, last = self.fixed if len(self.fixed) > 1 else (*self.fixed, "")
-        if len(message) < len(first) + len(last) or not (message.startswith(first) and message.endswith(last)):
-            return None
-        inner = message[len(first):len(message) - len(last)]
-        if len(self.fixed) == 1:
-            return None if inner else ()
-        if not between:
-            return (inner,)
-        before, found, after = inner.rpartition(between[0])
-        return (before, after) if found else None
 
 
 @lru_cache(maxsize=None)
 def entries() -> tuple[Entry, ...]:
     rows = json.loads(TABLE.read_text(encoding="utf-8"))
-    return tuple(Entry(**row, fixed=tuple(ARGUMENT.split(row["message"]))) for row in rows)
-
-
-def entry_of(message: str) -> Entry | None:
-    """The entry of a printed message, or None if no page has it."""
-    return _found_before(message) if len(message) <= KNOWN_CHARACTERS else _find(message)
+    return tuple(Entry(**row) for row in rows)
 
 
 @lru_cache(maxsize=None)
@@ -109,12 +87,3 @@ def markdown_of_faults(faults: Iterable[tuple[str, str]], docs: str | None) -> s
         if (entry := entries_by_code().get(named)) is not None:
             found.setdefault(named, (entry, []))[1].append(message)
     return "\n\n---\n\n".join(markdown_of(entry, docs, said) for entry, said in found.values()) or None
-
-
-@lru_cache(maxsize=KNOWN_MESSAGES)
-def _found_before(message: str) -> Entry | None:
-    return _find(message)
-
-
-def _find(message: str) -> Entry | None:
-    return next((entry for entry in entries() if entry.arguments(message) is not None), None)

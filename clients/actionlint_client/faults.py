@@ -2,10 +2,11 @@
 from __future__ import annotations
 
 from dataclasses import dataclass
+from functools import partial
 from typing import Iterable
 
 from .facts_tree import CodedFault
-from .report import Fault
+from .report import Fault, fault_of
 
 # How many faults of a file are kept.
 MAX_FAULTS = 1_000
@@ -25,12 +26,10 @@ NO_FAULTS = FileFaults()
 
 def faults_of(path: str, found: Iterable[CodedFault], data: bytes) -> tuple[Fault, ...]:
     """The faults of a file with these bytes."""
-    return tuple(Fault(path, one.line, one.column, one.message, one.kind, _width(one, data), one.code, one.arguments) for one in found)
+    return tuple(fault_of(path, one, partial(_left_on_line, one, data)) for one in found)
 
 
-def _width(fault: CodedFault, data: bytes) -> int:
-    """How many characters of its first line a fault has, at least one."""
-    if fault.line == fault.end_line:
-        return max(fault.end_column - fault.column, 1)
+def _left_on_line(fault: CodedFault, data: bytes) -> int:
+    """How many characters of its first line a fault of several lines has."""
     ends = [at for sign in LINE_BREAKS if (at := data.find(sign, fault.start, fault.end)) >= 0]
-    return max(sum(byte & 0xC0 != 0x80 for byte in data[fault.start:min(ends, default=fault.end)]), 1)
+    return sum(byte & 0xC0 != 0x80 for byte in data[fault.start:min(ends, default=fault.end)])

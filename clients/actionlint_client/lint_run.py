@@ -1,121 +1,114 @@
-"""A run of the linter on a repository. The faults are read as they are printed."""
+"""A run of `actionlint-facts lint` on a repository. The faults are read as they are printed."""
 from __future__ import annotations
 
+import json
 import subprocess
 import tempfile
-from dataclasses import dataclass
-from typing import Iterator
+from typing import Iterator, NoReturn
 
-from .program import cannot_start
-from .report import SHOWN_OF_A_LINE, SNIPPET_LINES, BadReport, Fault, marked_width, parse_fault
+from .facts_tree import Json, read_fault
+from .problems import Problem, problem_of
+from .program import FACTS, cannot_start, find_facts
+from .report import fault_of
 
-MAX_REPORT_BYTES = 64 * 1_048_576
+# How many characters the source lines of a report may have.
+MAX_SOURCE = 64 * 1_048_576
 CANNOT_GO_ON = 3
-HELP = b"Checks the workflows and actions of a repository for faults."
-SECONDS_OF_HELP = 60
+SHOWN_OF_A_LINE = 200
 
 
-class CannotStart(Exception):
-    """The linter can't be started."""
+class LintFailed(Exception):
+    """The program can't be started, or what it printed isn't a whole report."""
 
 
 class ReportTooLong(Exception):
-    """A report with source lines has too many bytes: a line is printed once for each fault on it."""
-
-
-@dataclass(frozen=True)
-class Reported:
-    """A fault and the three lines below it: the source line between a bar and the marks. None if they weren't asked for."""
-
-    fault: Fault
-    snippet: tuple[bytes, ...]
+    """The source lines of a report have too many characters: a line is printed once for each fault on it."""
 
 
 class LintRun:
-    """The faults of a folder, or of some of its files. `status` and `errors` are valid once all faults are read. Only snippets tell the
-    widths of faults."""
+    """The faults of a folder, or of some of its files. `status` and `errors` are valid once all faults are read. Without source lines the
+    faults of several lines have no known width."""
 
-    def __init__(self, program: str, root: str | None, files: list[str], snippets: bool):
-        words = [program, *([] if snippets else ["--oneline"]), *([f"--root={root}"] if root is not None else []), "--", *files]
+    def __init__(self, linter: str, root: str | None, files: list[str], has_source: bool):
         self.status = CANNOT_GO_ON
         self.errors = ""
-        self._program = program
-        self._snippets = snippets
+        self._size = 0
+        self._program = find_facts(linter)
         self._said = tempfile.TemporaryFile()
+        words = [self._program, "lint", *([] if has_source else ["--oneline"]), *([f"--root={root}"] if root is not None else [])]
         try:
-            self._child = subprocess.Popen(words, stdin=subprocess.DEVNULL, stdout=subprocess.PIPE, stderr=self._said)
+            self._child = subprocess.Popen([*words, "--", *files], stdin=subprocess.DEVNULL, stdout=subprocess.PIPE, stderr=self._said)
         except OSError as error:
             self._said.close()
-            raise CannotStart(cannot_start(program, error)) from error
+            raise LintFailed(cannot_start(self._program, error)) from error
 
     def __enter__(self) -> LintRun:
         return self
 
     def __exit__(self, *_: object) -> None:
-        """Stops the linter if it is still running."""
+        """Stops the program if it is still running."""
         assert self._child.stdout
         self._child.kill()
         self._child.stdout.close()
         self._child.wait()
         self._said.close()
 
-    def __iter__(self) -> Iterator[Reported]:
-        cut, has_faults = None, False
-        for lines in self._groups():
-            if len(lines) != self._group_length() or not lines[-1].endswith(b"\n"):
-                cut = lines[0]
-            else:
-                has_faults = True
-                yield self._reported([line[:-1] for line in lines])
-        self._end()
-        if cut is not None and self.status != CANNOT_GO_ON:
-            raise BadReport(f"it reported {cut[:SHOWN_OF_A_LINE].decode('utf-8', 'replace')!r}")
-        # A program that can't be loaded ends with status 1 too.
-        if self.status in (0, 1) and self.status != has_faults:
-            reported = "faults" if has_faults else f"none: {self.errors.strip()}"
-            raise BadReport(f"it ended with status {self.status}, but reported {reported}")
-        if self.status == 0 and not _is_linter(self._program):
-            raise BadReport("its help isn't the linter's")
-
-    def _group_length(self) -> int:
-        """How many lines a fault has."""
-        return 1 + SNIPPET_LINES if self._snippets else 1
-
-    def _groups(self) -> Iterator[list[bytes]]:
-        """The lines of each fault. The last fault's may be incomplete."""
+    def __iter__(self) -> Iterator[Problem]:
+        """Raises `LintFailed` if the program isn't the right one or was cut off, so that it didn't print the status with which it ended."""
         assert self._child.stdout
-        size, group = 0, []
+        printed, cut = None, b""
         for line in self._child.stdout:
-            size += len(line)
-            if self._snippets and size > MAX_REPORT_BYTES:
-                raise ReportTooLong(str(size))
-            group.append(line)
-            if len(group) == self._group_length():
-                yield group
-                group = []
-        if group:
-            yield group
+            if not line.endswith(b"\n"):
+                cut = line
+                break
+            row = self._row(line)
+            if printed is not None:
+                self._refuse(line)
+            if "status" in row:
+                printed = row["status"]
+                continue
+            yield self._problem(row, line)
+        self._end()
+        if self.status in (0, 1) and (cut or printed != self.status):
+            if cut:
+                self._refuse(cut)
+            self._fail(f"it ended with status {self.status}, but its report {'has no end' if printed is None else f'with {printed}'}")
 
-    def _reported(self, lines: list[bytes]) -> Reported:
-        width = marked_width(lines[-1]) if self._snippets else None
-        return Reported(parse_fault(lines[0], width), tuple(lines[1:]))
+    def _row(self, line: bytes) -> Json:
+        try:
+            row = json.loads(line.decode("ascii"))
+        except ValueError:
+            row = None
+        if not isinstance(row, dict):
+            self._refuse(line)
+        return row
+
+    def _problem(self, row: Json, line: bytes) -> Problem:
+        source: str | None = row.get("source")
+        try:
+            self._size += len(source or "")
+            found = read_fault(row)
+            left_on_line = lambda: None if source is None else len(source) - found.column + 1
+            problem = problem_of(fault_of(row["path"], found, left_on_line), source)
+        except (KeyError, TypeError):
+            self._refuse(line)
+        if self._size > MAX_SOURCE:
+            raise ReportTooLong(str(self._size))
+        return problem
+
+    def _refuse(self, line: bytes) -> NoReturn:
+        self._fail(f"it reported {line[:SHOWN_OF_A_LINE].decode('utf-8', 'replace')!r}")
+
+    def _fail(self, why: str) -> NoReturn:
+        said = f": {self.errors.strip()}" if self.errors else ""
+        raise LintFailed(f"{self._program} is not {FACTS}: {why}{said}")
 
     def _end(self) -> None:
         status = self._child.wait()
         self._said.seek(0)
         self.errors = self._said.read().decode("utf-8", "replace")
         if status < 0:
-            self.errors = self.errors or f"actionlint: ended by signal {-status}\n"
+            self.errors = self.errors or f"{FACTS}: ended by signal {-status}\n"
         elif status > CANNOT_GO_ON:
-            self.errors = self.errors or f"actionlint: ended with status {status}\n"
+            self.errors = self.errors or f"{FACTS}: ended with status {status}\n"
         self.status = status if 0 <= status <= CANNOT_GO_ON else CANNOT_GO_ON
-
-
-def _is_linter(program: str) -> bool:
-    """Whether a program says so in its help. One that reports nothing, such as `true`, may be any."""
-    try:
-        said = subprocess.run([program, "--help"], stdin=subprocess.DEVNULL, stdout=subprocess.PIPE, stderr=subprocess.DEVNULL, check=False,
-                              timeout=SECONDS_OF_HELP).stdout
-    except (OSError, subprocess.TimeoutExpired):
-        return False
-    return said.startswith(HELP)

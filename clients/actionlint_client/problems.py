@@ -18,14 +18,14 @@ NOTE_KIND = "note"
 
 @dataclass(frozen=True)
 class Problem:
-    """A fault of the linter, or a note of another program, which has no entry and a `link` of its own. The snippet is the source line with
-    the fault's characters marked below it, or nothing. The level is one of SARIF's: error, warning or note. If fixes were tried, `fix` is
-    the first one that would be offered."""
+    """A fault of the linter, or a note of another program, which has no entry and a `link` of its own. `source` is the line at which it
+    starts, if that is known. The level is one of SARIF's: error, warning or note. If fixes were tried, `fix` is the first one that would be
+    offered."""
 
     fault: Fault
     code: str
     entry: Entry | None
-    snippet: tuple[bytes, ...] = ()
+    source: str | None = None
     level: str = ERROR
     link: str | None = None
     fix: Repair | None = None
@@ -44,14 +44,24 @@ class Problem:
 
     def line(self) -> str:
         """The source line, or nothing if it isn't known."""
-        return self.snippet[1].decode("utf-8", "replace").partition(" | ")[2] if self.snippet else ""
+        return self.source or ""
+
+    def snippet(self) -> tuple[str, ...]:
+        """The lines that the linter prints below a fault: a bar, the source line, and marks behind the same tabs. Nothing if the
+        source line isn't known."""
+        if self.source is None:
+            return ()
+        fault = self.fault
+        margin, before = " " * len(str(fault.line)), re.sub(r"[^\t]", " ", self.source[:fault.column - 1])
+        marks = f"{margin} | {before}^{'~' * ((fault.width or 1) - 1)}"
+        return f"{margin} |", f"{fault.line} | {self.source}", marks
 
 
-def problem_of(fault: Fault, snippet: tuple[bytes, ...] = ()) -> Problem:
+def problem_of(fault: Fault, source: str | None = None) -> Problem:
     """A fault of the linter with its entry. One without an entry gets its kind as code."""
     entry = entries_by_code().get(fault.code)
     code = entry.code if entry else fault.kind
-    return Problem(fault, code, entry, snippet, level_of(code, fault))
+    return Problem(fault, code, entry, source, level_of(code, fault))
 
 
 def level_of(code: str, fault: Fault) -> str:
@@ -63,10 +73,3 @@ def level_of(code: str, fault: Fault) -> str:
     if (code, fault.arguments[:1]) == ("K2", ("description",)):
         return WARNING
     return WARNING if (code, fault.kind) == ("C2", "action") else ERROR
-
-
-def snippet_of(line: str, fault: Fault) -> tuple[bytes, ...]:
-    """The lines that the linter would print below a fault: a bar, the source line, and the marks."""
-    margin, before = " " * len(str(fault.line)), re.sub(r"[^\t]", " ", line[:fault.column - 1])
-    marks = f"{margin} | {before}^{'~' * ((fault.width or 1) - 1)}"
-    return f"{margin} |".encode(), f"{fault.line} | {line}".encode(), marks.encode()

@@ -8,7 +8,7 @@ from typing import Callable, Iterable, Iterator, NamedTuple
 
 from .disk import Disk
 from .linter_limits import MAX_FILE_BYTES
-from .problems import Problem, snippet_of
+from .problems import Problem
 from .reader import Reader
 from .report import Fault
 from .scripts import Script, scripts_of
@@ -38,9 +38,8 @@ class SourceFile:
         width = min(end - start, len(self._lines[line]) - column)
         return Fault(self.path, line + 1, column + 1, message, PROGRAM, max(width, 1))
 
-    def snippet(self, fault: Fault) -> tuple[bytes, ...]:
-        """The lines that the linter would print below it."""
-        return snippet_of(self._lines[fault.line - 1], fault)
+    def line_of(self, fault: Fault) -> str:
+        return self._lines[fault.line - 1]
 
 
 class Found(NamedTuple):
@@ -127,8 +126,8 @@ def _read(reader: Reader, path: str, data: bytes, say: Callable[[str], None]) ->
 def _problem(note: Note, found: Found) -> Problem:
     source, script = found
     fault = source.fault(script.offset_of(note.line, note.column), script.offset_of(note.end_line, note.end_column), note.message)
-    return problem_of_note(fault, note.code, LEVELS[note.level], source.snippet(fault))
+    return problem_of_note(fault, note.code, LEVELS[note.level], source.line_of(fault))
 
 
-def problem_of_note(fault: Fault, code: str, level: str, snippet: tuple[bytes, ...] = ()) -> Problem:
-    return Problem(fault, code, None, snippet, level, WIKI + code)
+def problem_of_note(fault: Fault, code: str, level: str, source: str | None = None) -> Problem:
+    return Problem(fault, code, None, source, level, WIKI + code)

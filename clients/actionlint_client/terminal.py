@@ -47,10 +47,10 @@ class Text(Form):
 
     def _snippet(self, problem: Problem) -> None:
         """The source line and its marks, unless it is too long to read."""
-        if not problem.snippet or max(map(len, problem.snippet[1:])) > LONGEST_LINE:
-            return
-        _, line, marks = (terminal_text(part.decode("utf-8", "replace")) for part in problem.snippet)
-        self.write(f"  {line}\n  {self._in('marks', marks)}\n")
+        snippet = problem.snippet()
+        if snippet and max(map(len, snippet)) <= LONGEST_LINE:
+            _, line, marks = map(terminal_text, snippet)
+            self.write(f"  {line}\n  {self._in('marks', marks)}\n")
 
     def _in(self, part: str, text: str) -> str:
         return f"\x1b[{COLORS[part]}m{text}\x1b[0m" if self._color else text

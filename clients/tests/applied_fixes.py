@@ -15,17 +15,17 @@ import sys
 import tempfile
 from dataclasses import replace
 from pathlib import Path
+from typing import Any
 from unittest import mock
 
 from cases import Cases
 from report_forms import on_terminal
-from report_runs import command, folder_with
+from report_runs import command, facts_in, folder_with
 from repositories import ACTION, CALLED, FILE, FILES, RIGHT, WORKFLOWS, git, write
 
 from actionlint_client import fixing
 from actionlint_client.fixes import Fix
 from actionlint_client.folder import Program
-from actionlint_client.program import find_facts
 from actionlint_client.repair import Edit, Repair
 from actionlint_client.report import Fault
 from actionlint_client.text import Span
@@ -54,9 +54,9 @@ TEXTS = {
 }
 
 
-def report(program: str, folder: str, *words: str, user: dict = {}) -> tuple[int, bytes, list[str]]:
+def report(program: str, folder: str, *words: str, **how: Any) -> tuple[int, bytes, list[str]]:
     """The status, the output, and the lines of standard error, without the client's name."""
-    done = subprocess.run(command(program, *words), cwd=folder, stdout=subprocess.PIPE, stderr=subprocess.PIPE, check=False, **user)
+    done = subprocess.run(command(program, *words), cwd=folder, stdout=subprocess.PIPE, stderr=subprocess.PIPE, check=False, **how)
     return done.returncode, done.stdout, [line.removeprefix("actionlint-report: ") for line in done.stderr.decode().splitlines()]
 
 
@@ -206,14 +206,11 @@ def a_file_that_changes_meanwhile(program: str) -> None:
     """It is left as it is now, and told; the others are written."""
     other = WORKFLOWS + "b.yml"
     with folder_with({FILE: WRONG, other: WRONG}) as folder:
-        write(folder, {"linter": f'#!/bin/sh\nexec {program} "$@"\n',
-                       "linter-facts": f'#!/bin/sh\necho "# new" >> "{folder}/{FILE}"\nexec {find_facts(program)}\n'})
-        for name in ("linter", "linter-facts"):
-            os.chmod(f"{folder}/{name}", 0o755)
-        status, _, said = report(folder + "/linter", folder, "--fix", "--form", "jsonl")
+        environment = facts_in(folder, program, to_answer=f'echo "# new" >> "{folder}/{FILE}"; exec "$facts"')
+        status, _, said = report(program, folder, "--fix", "--form", "jsonl", env=environment)
         assert status == 3 and said == [f"{FILE}: not fixed, since it changed meanwhile", f"{other}: fixed"], (status, said)
         found = contents(folder)
-        assert found[FILE].decode().startswith(WRONG + "# new\n") and found[other].decode() == RIGHT and len(found) == 4, found
+        assert found[FILE].decode().startswith(WRONG + "# new\n") and found[other].decode() == RIGHT and len(found) == 3, found
 
 
 @CASES.case
@@ -224,7 +221,7 @@ def a_folder_that_is_read_only(program: str) -> None:
         os.chmod(folder, 0o755)
         workflows = os.path.dirname(os.path.join(folder, FILE))
         os.chmod(workflows, 0o555)
-        status, _, said = report(program, folder, "--fix", "--form", "jsonl", user=user)
+        status, _, said = report(program, folder, "--fix", "--form", "jsonl", **user)
         os.chmod(workflows, 0o755)
         assert status == 3 and said == [f"{FILE}: not fixed, since Permission denied"], (status, said)
         assert contents(folder) == {FILE: WRONG.encode()}
@@ -235,7 +232,8 @@ def runs_that_cannot_go_on(program: str) -> None:
     """Without a linter, or if it refuses a file, nothing is changed, and the status says so."""
     with folder_with({FILE: WRONG}) as folder:
         for words in (["--diff"], ["--fix"]):
-            assert report("/nonexistent", folder, *words)[0] == 3 == report("/bin/true", folder, *words)[0]
+            assert report("/nonexistent", folder, *words)[0] == 3
+            assert report(program, folder, *words, env={**os.environ, "ACTIONLINT_FACTS": "/bin/true"})[0] == 3
             status, _, said = report(program, folder, *words, "no.yml")
             assert status == 3 and said[0] == "actionlint: no.yml: refused E2", said
         for words in (["--diff", "--fix"], ["--guesses"]):

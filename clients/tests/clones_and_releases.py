@@ -16,7 +16,7 @@ from typing import Callable, Iterator
 from cases import Case, Cases
 from repositories import git, write
 
-from copying import carry, commit, copy_few_sources
+from copying import carry, commit, copy_few_sources, facts_beside
 
 ANYWHERE = "/opt/juzbrost"
 # No linter is there, and nothing of the kit.
@@ -84,7 +84,8 @@ def places(program: str) -> tuple[Place, ...]:
     copy_few_sources(clone)
     carry(clone, program)
     commit(clone)
-    subprocess.run([clone / "release", "--program", program, "--to", room], check=True, stdout=subprocess.DEVNULL)
+    subprocess.run([clone / "release", "--program", program, "--facts", facts_beside(program), "--to", room], check=True,
+                   stdout=subprocess.DEVNULL)
     (packed,) = room.glob("*.tar.gz")
     subprocess.run(["tar", "-xzf", packed], cwd=room, check=True)
     (unpacked,) = room.glob("actionlint-*/")

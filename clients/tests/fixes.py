@@ -18,7 +18,7 @@ from readers import reader
 from repositories import FILE
 from slips import Folder, counted, every_text
 
-from actionlint_client.entries import ARGUMENT, entries, entry_of
+from actionlint_client.entries import ARGUMENT, entries
 from actionlint_client.fixes import REPAIRS, UNREADABLE, Trial, fixes, repairs
 from actionlint_client.project import Project
 from actionlint_client.repair import Repair, replaced
@@ -167,19 +167,18 @@ def check_fix(program: str, folder: Folder, faults: list[Fault], fault: Fault, r
     changed = {path: replaced(folder.project.text(path), edits) for path, edits in repair.edits.items()} | repair.new_files
     after = Folder(program, {**folder.texts, **changed}).faults()
     key, new = (fault.path, fault.message), counted(after) - counted(faults)
-    entry = entry_of(fault.message)
-    is_yaml = entry is not None and entry.code[0] == "Y"
+    is_yaml = fault.code[0] == "Y"
     if is_yaml and any(below(one, folder, changed) for one in after if (one.path, one.message) == key):
         new[key] += 1
     else:
         assert counted(after)[key] < counted(faults)[key], (repair.title, fault, folder.texts, changed)
-    codes = {found.code for _, message in new if (found := entry_of(message))}
-    hides = entry is not None and entry.code in (*UNREADABLE, *(f"Y{number}" for number in range(1, 19)))
-    of_unknown = OF_UNKNOWN.get(entry.code, ()) if entry else ()
-    shown = [one for one in after if (one.path, one.message) in new and not (is_yaml and below(one, folder, changed))]
-    others = {found.code for one in shown if (found := entry_of(one.message))}
-    was_hidden = hides and all(code[0] in "XGC" or code == "K5" for code in others) or codes <= set(of_unknown)
-    if entry and entry.code == "K1":
+    hides = is_yaml or fault.code in UNREADABLE
+    shown = [one for one in after if (one.path, one.message) in new]
+    codes = {one.code for one in shown}
+    shown = [one for one in shown if not (is_yaml and below(one, folder, changed))]
+    others = {one.code for one in shown}
+    was_hidden = hides and all(code[0] in "XGC" or code == "K5" for code in others) or codes <= set(OF_UNKNOWN.get(fault.code, ()))
+    if fault.code == "K1":
         # the value of a key that is unknown isn't checked
         was_hidden = all((one.line, one.column) > (fault.line, fault.column) for one in shown)
     assert not new or not repair.is_safe and was_hidden, (repair.title, fault, folder.texts, changed)

@@ -13,13 +13,12 @@ import subprocess
 import sys
 import tempfile
 import time
-from pathlib import Path
 
 from cases import Cases
 from editor import Editor
 from note_cases import cases_by_name, note_cases
 from promises import end
-from report_runs import REPORT
+from report_runs import REPORT, facts_in
 from repositories import CLIENTS, TOP, WORKFLOWS, write
 
 from actionlint_client.entries import plain_text
@@ -207,14 +206,10 @@ def files_with_faults(program: str) -> None:
 
 @CASES.case
 def without_facts(program: str) -> None:
-    """Where actionlint-facts can't be used, there is no report, the status is 3, and the reason is told."""
+    """Where actionlint-facts gives no answers, there is no report, the status is 3, and the reason is told."""
     with tempfile.TemporaryDirectory(prefix="actionlint-test-") as folder:
-        for name, script in {**WRONG_FACTS, "absent": ""}.items():
-            facts = Path(folder) / name
-            if script:
-                facts.write_text(f"#!/bin/sh\n{script}\n", encoding="utf-8")
-                facts.chmod(0o755)
-            ran = report(program, FAILING, "--form=oneline", "--notes", environment={"ACTIONLINT_FACTS": str(facts)})
+        for name, script in WRONG_FACTS.items():
+            ran = report(program, FAILING, "--form=oneline", "--notes", environment=facts_in(folder, program, to_answer=script))
             if name == "refuses":
                 assert ran.returncode == 3 and "no" in ran.stderr, (name, ran)
             assert (ran.returncode, ran.stdout) == (3, "") and "no notes, since actionlint-facts can't be used" in ran.stderr, (name, ran)

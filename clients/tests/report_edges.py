@@ -5,6 +5,7 @@
 """
 from __future__ import annotations
 
+import itertools
 import json
 import os
 import resource
@@ -16,31 +17,26 @@ import tempfile
 import time
 
 from cases import Cases
-from report_runs import command, folder_with, run_report
+from report_runs import command, facts_in, folder_with, run_report
 from repositories import CLIENTS, FILE, FILES, RIGHT, UNDEFINED, WORKFLOWS, write
 
 CASES = Cases("report-edges")
 SECONDS = 200
+ALL_FORMS = ("text", "jsonl", "sarif", "github", "codequality")
 MEMORY = 300 * 1_048_576
 MANY = 150_000
 TAKEN_BY_GITHUB = 25_000
-# Prints as many faults as the linter would, with the file's line below each unless it is told not to.
-MANY_FAULTS = f"""#!/bin/sh
-case " $* " in
-  *" --oneline "*) lines='' ;;
-  *) lines='\\n  |\\n1 | x\\n  | ^' ;;
-esac
-awk -v lines="$lines" 'BEGIN {{
-  for (i = 1; i <= {MANY}; i++) printf "{FILE}:%d:1: unexpected key \\"x\\" [syntax-check]%s\\n", i, lines
-}}'
-exit 1
-"""
+FAULT = {"path": FILE, "code": "K1", "kind": "syntax-check", "message": "unexpected key", "arguments": ["x"], "start": 0, "end": 1,
+         "line": 1, "column": 1, "end_line": 1, "end_column": 2, "source": "x"}
+# Prints a fault on each of many lines.
+FAULT_OF_A_LINE = json.dumps({**FAULT, "line": "&", "end_line": "&"}).replace('"&"', "&")
+MANY_FAULTS = f"""seq {MANY} | sed 's|.*|{FAULT_OF_A_LINE}|'; echo '{{"status": 1}}'; exit 1"""
 
 
-def run(program: str, folder: str, *words: str) -> tuple[int, str, str]:
+def run(program: str, folder: str, *words: str, environment: dict[str, str] | None = None) -> tuple[int, str, str]:
     """The status and both streams of actionlint-report, under limits of memory and of time."""
     held = lambda: resource.setrlimit(resource.RLIMIT_AS, (MEMORY, MEMORY))
-    return run_report(program, folder, *words, timeout=SECONDS, preexec_fn=held)
+    return run_report(program, folder, *words, timeout=SECONDS, preexec_fn=held, env=environment)
 
 
 @CASES.case
@@ -58,7 +54,7 @@ def long_messages(program: str) -> None:
     for part in ('" is not defined in "', "a:1:1: "):
         text = part * (900_000 // len(part))
         with folder_with({FILE: f"on: push\njobs:\n  a:\n    uses: '{text}'\n"}) as folder:
-            for form in ("sarif", "jsonl", "codequality", "github", "text"):
+            for form in ALL_FORMS:
                 status, said, errors = run(program, folder, "--form", form)
                 assert status == 1 and len(said) > len(text) and not errors, (form, status, errors)
 
@@ -66,10 +62,9 @@ def long_messages(program: str) -> None:
 @CASES.case
 def many_faults(program: str) -> None:
     """They are written as they arrive; SARIF has as many as GitHub accepts in a run, and says how many were left out."""
-    with folder_with({"linter": MANY_FAULTS}) as folder:
-        linter = folder + "/linter"
-        os.chmod(linter, 0o755)
-        status, text, errors = run(linter, folder, "--out", "faults.sarif")
+    with folder_with({}) as folder:
+        environment = facts_in(folder, program, MANY_FAULTS)
+        status, text, errors = run(program, folder, "--out", "faults.sarif", environment=environment)
         left_out = f"{MANY - TAKEN_BY_GITHUB} more were left out: GitHub takes {TAKEN_BY_GITHUB} results of a run"
         assert status == 1 and not text and errors == f"actionlint-report: {left_out}\n", (status, errors)
         with open(folder + "/faults.sarif", encoding="utf-8") as opened:
@@ -78,20 +73,22 @@ def many_faults(program: str) -> None:
             range(1, TAKEN_BY_GITHUB + 1))
         (said,) = found["invocations"][0]["toolExecutionNotifications"]
         assert said == {"level": "warning", "message": {"text": left_out}}, said
-        status, text, errors = run(linter, folder, "--form", "jsonl", "--ignore", "K1")
+        status, text, errors = run(program, folder, "--form", "jsonl", "--ignore", "K1", environment=environment)
         assert (status, text, errors) == (0, "", f"actionlint-report: 0 faults, {MANY} ignored\n"), (status, errors)
 
 
 @CASES.case
 def long_lines(program: str) -> None:
-    """Where the lines of files would be too many bytes, the report is made without them."""
-    keys = ", ".join(f"k{number}: 1" for number in range(5_000))
-    with folder_with({FILE: f"{{on: push, jobs: {{}}, {keys}}}\n"}) as folder:
-        status, text, _ = run(program, folder, "--form", "jsonl")
-        found = [json.loads(line) for line in text.splitlines()]
-        assert status == 1 and len(found) == 5_000 and all(one["end_column"] is None for one in found), len(found)
-        _, text, _ = run(program, folder)
-        assert text.count('"startLine"') == 5_000 == text.count('"endColumn"'), "GitHub asks for the end of each region"
+    """Where the lines of files would be too many bytes, the report is made without them. Then only the faults of one line have an end."""
+    keys = [f"k{number}" for number in range(5_000)]
+    text = f"{{on: push, jobs: {{a: {{runs-on: x, steps: {{run: x,\n  name: y}}}}}}, {', '.join(f'{key}: 1' for key in keys)}}}\n"
+    with folder_with({FILE: text}) as folder:
+        status, said, _ = run(program, folder, "--form", "jsonl")
+        steps, *found = map(json.loads, said.splitlines())
+        assert status == 1 and (steps["code"], steps["end_column"]) == ("K4", None), steps
+        assert [one["end_column"] - one["column"] for one in found] == list(map(len, keys)), len(found)
+        _, said, _ = run(program, folder)
+        assert said.count('"startLine"') == 5_001 == said.count('"endColumn"'), "GitHub asks for the end of each region"
 
 
 @CASES.case
@@ -155,26 +152,42 @@ def commands_in_annotations(program: str) -> None:
 
 
 @CASES.case
-def programs_that_are_not_the_linter(program: str) -> None:
-    """One that can't be loaded ends with status 1 and prints nothing, which must not pass for a report without faults."""
-    fault = f"{FILE}:1:1: file is empty [syntax-check]\n  |\n1 | \n  | ^"
+def reports_that_are_not_whole(program: str) -> None:
+    """The last line has to be the status of the program, which `true` doesn't print, nor one that can't be loaded, which ends with status
+    1, nor one that is cut off. The reason is told, with what was printed on standard error."""
+    fault, end, other = json.dumps(FAULT) + "\n", '{"status": 1}\n', '{"status": 0}\n'
+    rows = (("", 0, "has no end"), ("", 1, "has no end"), (other, 1, "with 0"), (fault, 1, "has no end"), (fault + end, 0, "with 1"))
     with folder_with({FILE: RIGHT}) as folder:
-        for script, why in (("echo no GLIBC_2.34 >&2; exit 1", "status 1, but reported none: no GLIBC_2.34"),
-                            (f"echo '{fault}'", "status 0, but reported faults")):
-            linter = shell_script(folder, script)
-            for form in ("text", "jsonl", "sarif", "github", "codequality"):
-                status, text, errors = run(linter, folder, "--form", form)
-                assert (status, text, errors) == (3, "", f"actionlint-report: {linter} is not the linter: it ended with {why}\n"), errors
-        for script, why in (("exit 127", "ended with status 127"), ("kill -9 $$", "ended by signal 9")):
-            status, text, errors = run(shell_script(folder, script), folder, "--form", "jsonl")
-            assert (status, text, errors) == (3, "", f"actionlint: {why}\n"), errors
+        for (lines, status, why), form in zip(rows, itertools.cycle(ALL_FORMS)):
+            write(folder, {"lines": lines})
+            found = run(program, folder, "--form", form, environment=facts_in(folder, program, f"cat lines; echo told >&2; exit {status}"))
+            why = f"it ended with status {status}, but its report {why}: told"
+            assert found == (3, "", f"actionlint-report: {folder}/facts is not actionlint-facts: {why}\n"), (lines, found)
 
 
-def shell_script(folder: str, text: str) -> str:
-    """A program in place of the linter."""
-    write(folder, {"linter": f"#!/bin/sh\n{text}\n"})
-    os.chmod(folder + "/linter", 0o755)
-    return folder + "/linter"
+@CASES.case
+def lines_that_are_no_faults(program: str) -> None:
+    """The beginning of the line is told, and nothing is reported."""
+    fault, end = json.dumps(FAULT), '{"status": 1}'
+    rows = {f"{end}\n{fault}\n": fault + "\n", f"{fault}\n{end}\n{end}\n": end + "\n", f"{fault}\n{end}\n{end[:5]}": end[:5],
+            f"{fault}\n{end}": end, f"[{fault}]\n{end}\n": f"[{fault}]\n", "words\n": "words\n", '{"path": "a"}\n': '{"path": "a"}\n',
+            fault.replace('"column": 1, "end_line": 1', '"column": null, "end_line": 1') + "\n": '{"path"', "é\n": "é\n"}
+    with folder_with({FILE: RIGHT}) as folder:
+        for (lines, told), form in zip(rows.items(), itertools.cycle(ALL_FORMS)):
+            write(folder, {"lines": lines})
+            status, text, errors = run(program, folder, "--form", form, environment=facts_in(folder, program, "cat lines; exit 1"))
+            begin = f"actionlint-report: {folder}/facts is not actionlint-facts: it reported {told[:200]!r}"
+            assert (status, text) == (3, "") and errors.startswith(begin[:-1]) and len(errors) < len(begin) + 200, (lines, errors)
+
+
+@CASES.case
+def runs_that_end_early(program: str) -> None:
+    """What was printed until then is no report."""
+    with folder_with({FILE: RIGHT, "lines": json.dumps(FAULT)}) as folder:
+        for script, why in (("exit 127", "actionlint-facts: ended with status 127"), ("kill -9 $$", "actionlint-facts: ended by signal 9"),
+                            ("echo 'actionlint: write failed' >&2; exit 3", "actionlint: write failed")):
+            found = run(program, folder, "--form", "jsonl", environment=facts_in(folder, program, f"cat lines; {script}"))
+            assert found == (3, "", f"{why}\n"), found
 
 
 @CASES.case
@@ -255,7 +268,7 @@ def the_old_report_stays_whole(program: str) -> None:
     with folder_with(FILES) as folder:
         out = folder + "/x/faults"
         write(folder, {"x/faults": "old"})
-        assert run("/bin/echo", folder, "--out", "x/faults")[0] == 3
+        assert run(program, folder, "--out", "x/faults", environment={**os.environ, "ACTIONLINT_FACTS": "/bin/echo"})[0] == 3
         for form in ("codequality", "jsonl"):
             assert run(program, folder, "--form", form, "--out", "x/faults", "no.yml") == (
                 3, "", "actionlint: no.yml: refused E2\n"), "an empty list would say that there is no fault"
@@ -286,17 +299,16 @@ def output_that_does_not_block(program: str) -> None:
 def signals(program: str) -> None:
     """They end the program by the signal, without a message, and leave no file."""
     for number in (signal.SIGINT, signal.SIGTERM, signal.SIGHUP):
-        end_by(number)
+        end_by(program, number)
 
 
-def end_by(number: signal.Signals) -> None:
+def end_by(program: str, number: signal.Signals) -> None:
     with tempfile.TemporaryDirectory(prefix="actionlint-test-") as folder:
-        write(folder, {**FILES, "slow": "#!/bin/sh\n: > started\nexec sleep 60\n"})
-        slow = os.path.join(folder, "slow")
-        os.chmod(slow, 0o755)
+        write(folder, FILES)
+        environment = facts_in(folder, program, ": > started; exec sleep 60")
         # (what runs in the background of a shell, or of nohup, would pass on that it ignores the signal)
-        with subprocess.Popen(command(slow, "--out", "x.sarif"), cwd=folder, stdout=subprocess.PIPE,
-                              stderr=subprocess.PIPE, start_new_session=True,
+        with subprocess.Popen(command(program, "--out", "x.sarif"), cwd=folder, stdout=subprocess.PIPE,
+                              stderr=subprocess.PIPE, start_new_session=True, env=environment,
                               preexec_fn=lambda: signal.signal(number, signal.SIG_DFL)) as child:
             while not os.path.exists(os.path.join(folder, "started")):
                 time.sleep(0.02)
@@ -304,7 +316,7 @@ def end_by(number: signal.Signals) -> None:
             time.sleep(0.3)
             os.killpg(child.pid, number)
             assert child.communicate(timeout=SECONDS) == (b"", b"") and child.returncode == -number, child.returncode
-        assert sorted(os.listdir(folder)) == sorted({*(path.partition("/")[0] for path in FILES), "slow", "started"}), os.listdir(folder)
+        assert sorted(os.listdir(folder)) == sorted({*(path.partition("/")[0] for path in FILES), "facts", "started"}), os.listdir(folder)
 
 
 @CASES.case

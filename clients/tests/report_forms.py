@@ -17,9 +17,14 @@ from cases import Cases
 from report_runs import REPORT, command, run_report
 from repositories import FILE, FILES, RIGHT, TOP, WORKFLOWS, write
 
-from actionlint_client.entries import entries, plain_text
 from actionlint_client.advice import SLIPS, first_sentence
+from actionlint_client.characters import terminal_text
+from actionlint_client.entries import entries, plain_text
+from actionlint_client.lint_run import LintRun
 from actionlint_client.sarif import MAX_RESULTS
+
+from fault_entries import cases_of_entries, files_of
+from running import write_files
 
 CASES = Cases("report-forms")
 DOCS = "https://example.org/docs"
@@ -55,6 +60,12 @@ BROKEN = """.github/workflows/release.yml:4:5: unexpected key "branch" [syntax-c
 
 5 faults in 1 file
 """
+# Files whose faults are on lines with tabs, wide characters, controls, a byte order mark, other line breaks, or none at the end.
+ODD_LINES = (b"on: push\njobs:\n  a:\n    runs-on: x\n    steps:\n      - run: 'a\tb ${{ x }}\t${{ y }}'\n",
+             b"on: push\njobs: {}\n\xe8\xa1\xa8\xf0\x9f\x98\x80: 1",
+             "on: push\njobs: {}\n'表\t😀é': 1\r\n\"b\u0085\u2028\u202e\": 2\rc: 3\n".encode(), b"\xef\xbb\xbfname: x\nnam: y\n",
+             b"\xef\xbb\xbfnam: x\n", b"on: push\njobs: {}\nname: a\x1b[0m\x01b\n", b"on: push\nname: a\xffb\n", b"", b"\n\n", b"a: 'b\n",
+             b"on: push\njobs:\n  a:\n    runs-on: x\n    steps: {run: '\xc3\xa9',\n      name: y}\n")
 IS_FIX = re.compile(" +(Fix|Guess): ")
 STEP = "on: push\njobs:\n  a:\n    runs-on: ubuntu-latest\n    steps:\n      - "
 # The most common mistakes, each with the advice shown first.
@@ -140,6 +151,41 @@ def text(program: str) -> None:
         assert run(program, folder, "--form", "text")[1].endswith("\n\n2 faults in 2 files\n")
         assert run(program, folder, "--form", "text", "no.yml") == (
             3, "the faults are unknown: the linter could not go on\n", "actionlint: no.yml: refused E2\n")
+
+
+def printed(program: str, folder: str, files: list[str]) -> str:
+    """The report of the linter, with the lines of files."""
+    return subprocess.run([program, "--", *files], cwd=folder, stdout=subprocess.PIPE, check=False).stdout.decode("utf-8", "replace")
+
+
+@CASES.case
+def lines_of_files(program: str) -> None:
+    """The line of each fault and the marks below it are, character for character, those of the linter."""
+    odd = {f"{WORKFLOWS}{number}.yml": data for number, data in enumerate(ODD_LINES)}
+    count = 0
+    for files in (*map(files_of, cases_of_entries(TOP).values()), odd):
+        with tempfile.TemporaryDirectory(prefix="actionlint-test-") as folder:
+            write_files(folder, files)
+            with LintRun(program, folder, list(files), True) as run:
+                found = [(problem.fault, problem.snippet()) for problem in run]
+            lines = (line for one, snippet in found for line in (
+                f"{one.path}:{one.line}:{one.column}: {one.message} [{one.kind}]", *snippet))
+            wanted = printed(program, folder, list(files))
+            assert "".join(f"{line}\n" for line in lines) == wanted, (found, wanted)
+            count += len(found)
+    assert count > 100, count
+
+
+@CASES.case
+def lines_in_the_terminal(program: str) -> None:
+    """The form `text` has these two lines, with controls as code points."""
+    with tempfile.TemporaryDirectory(prefix="actionlint-test-") as folder:
+        write_files(folder, {f"{WORKFLOWS}{number}.yml": data for number, data in enumerate(ODD_LINES)})
+        _, said, _ = run(program, folder, "--form", "text")
+        shown = [paragraph.split("\n")[1:3] for paragraph in said.split("\n\n")[:-1]]
+        lines = printed(program, folder, []).split("\n")[:-1]
+        wanted = [[f"  {terminal_text(line)}" for line in lines[at + 2:at + 4]] for at in range(0, len(lines), 4)]
+        assert shown == wanted and len(shown) > len(ODD_LINES), (shown, wanted)
 
 
 @CASES.case

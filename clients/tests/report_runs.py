@@ -1,12 +1,15 @@
 """Runs of actionlint-report in small folders."""
 from __future__ import annotations
 
+import os
 import subprocess
 import sys
 import tempfile
 from typing import Any
 
 from repositories import CLIENTS, write
+
+from actionlint_client.program import find_facts
 
 REPORT = str(CLIENTS / "actionlint-report")
 
@@ -27,3 +30,13 @@ def folder_with(files: dict[str, str]) -> tempfile.TemporaryDirectory:
     folder = tempfile.TemporaryDirectory(prefix="actionlint-test-")
     write(folder.name, files)
     return folder
+
+
+def facts_in(folder: str, program: str, to_lint: str = 'exec "$facts" "$@"', to_answer: str = 'exec "$facts" "$@"') -> dict[str, str]:
+    """The environment in which a script of the shell is run in place of actionlint-facts, which it finds as `$facts`, to lint or to answer
+    questions. It is a file of the folder."""
+    path = os.path.join(folder, "facts")
+    script = f'facts="{find_facts(program)}"\nif [ "$1" = lint ]; then\n{to_lint}\nelse\n{to_answer}\nfi\n'
+    write(folder, {"facts": f"#!/bin/sh\n{script}"})
+    os.chmod(path, 0o755)
+    return {**os.environ, "ACTIONLINT_FACTS": path}

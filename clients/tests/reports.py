@@ -10,6 +10,7 @@ import os
 import re
 import sys
 import tempfile
+from typing import Any
 from urllib.parse import unquote
 
 from cases import Cases
@@ -22,9 +23,9 @@ EXAMPLES = sorted(str(folder) for folder in (TOP / "examples").iterdir() if (fol
 FOLDERS: list[str] = []
 
 
-def run(program: str, form: str, *words: str) -> tuple[int, str, bytes]:
+def run(program: str, form: str, *words: str, **how: Any) -> tuple[int, str, bytes]:
     """The status and both streams of actionlint-report."""
-    status, said, errors = run_report(program, None, "--form", form, "--docs", DOCS, *words)
+    status, said, errors = run_report(program, None, "--form", form, "--docs", DOCS, *words, **how)
     return status, said, errors.encode()
 
 
@@ -114,8 +115,8 @@ def runs_that_cannot_go_on(program: str) -> None:
     assert not found["results"] and found["invocations"][0]["executionSuccessful"] is False and found["invocations"][0]["exitCode"] == 3
     status, text, errors = run("/nonexistent", "sarif")
     assert status == 3 and not text and b"cannot start" in errors, (status, text, errors)
-    status, text, errors = run("/bin/echo", "sarif")
-    assert status == 3 and not text and b"not the linter" in errors, (status, text, errors)
+    status, text, errors = run(program, "sarif", env={**os.environ, "ACTIONLINT_FACTS": "/bin/echo"})
+    assert status == 3 and not text and b"not actionlint-facts" in errors, (status, text, errors)
 
 
 if __name__ == "__main__":

@@ -1,5 +1,5 @@
 #!/usr/bin/env python3
-"""The tables of the clients are those of the pages and the definitions, and have each fault that the linter prints.
+"""The tables of the clients are those of the pages and of the linter.
 
     tables.py PROGRAM [NAME...]
 """
@@ -15,21 +15,9 @@ from repositories import CLIENTS, TOP
 
 from actionlint_client import entries, names, syntax
 from actionlint_client.program import find_facts
-from actionlint_client.report import parse_fault
-
-from case_files import read_cases
 
 CASES = Cases("tables")
-FAULT_LINE = re.compile(rb"^[^ :\n][^:\n]*:[0-9]+:[0-9]+: .*\[[a-z-]+\]$", re.M)
 SECTION_ROW = re.compile(r"^\| \*([^*]+)\* \| (.+) \|$", re.M)
-LEAST_LINES = 1_000
-
-
-def printed_lines() -> list[bytes]:
-    """The lines with faults in the expected outputs of the cases and the examples."""
-    examples = [file.read_bytes() for file in sorted((TOP / "examples").glob("*.oneline"))]
-    outputs = [case.output for case in read_cases(TOP / "tests/cases").values()]
-    return [line for output in [*outputs, *examples] for line in FAULT_LINE.findall(output)]
 
 
 @CASES.case
@@ -46,21 +34,6 @@ def every_code(program: str) -> None:
     codes = dict.fromkeys((row["code"], row["message"]) for row in json.loads(said)["codes"])
     assert codes and list(codes) == [(entry.code, entry.message) for entry in entries.entries()], codes
     assert all(entry.text and entry.why and entry.repair for entry in entries.entries())
-
-
-@CASES.case
-def one_entry_each(program: str) -> None:
-    """Each printed message comes from exactly one entry, and each entry occurs."""
-    lines = printed_lines()
-    assert len(lines) >= LEAST_LINES, len(lines)
-    seen = set()
-    for line in lines:
-        message = parse_fault(line).message
-        found = [entry.code for entry in entries.entries() if entry.arguments(message) is not None]
-        assert len(found) == 1, (found, message)
-        seen.update(found)
-    missing = {entry.code for entry in entries.entries()} - seen
-    assert not missing, f"none of {len(lines)} lines has {sorted(missing)}"
 
 
 @CASES.case

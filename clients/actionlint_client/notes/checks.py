@@ -30,7 +30,7 @@ class NoteChecks(ScriptChecks):
 
     def problem(self, path: str, note: WrittenNote) -> Problem:
         fault = Fault(path, note["line"], note["column"], note["message"], NOTE_KIND, note["width"])
-        return Problem(fault, note["code"], entry_of_note(note["code"]), (), NOTE)
+        return Problem(fault, note["code"], entry_of_note(note["code"]), None, NOTE)
 
 
 def main(words: list[str]) -> int:

@@ -4,7 +4,7 @@ from __future__ import annotations
 import json
 from functools import lru_cache
 
-from ..entries import ARGUMENT, Entry
+from ..entries import Entry
 from .file import HERE
 
 
@@ -15,7 +15,7 @@ class NoNotes(Exception):
 @lru_cache(maxsize=None)
 def entries_of_notes() -> dict[str, Entry]:
     rows = json.loads((HERE / "notes.json").read_text(encoding="utf-8"))
-    return {row["code"]: Entry(**row, fixed=tuple(ARGUMENT.split(row["message"]))) for row in rows}
+    return {row["code"]: Entry(**row) for row in rows}
 
 
 def entry_of_note(code: str) -> Entry:

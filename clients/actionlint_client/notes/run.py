@@ -10,12 +10,12 @@ from typing import Callable, Iterable, Iterator
 
 from ..child import LinterEnded
 from ..disk import Disk
-from ..entries import Entry
+from ..entries import ARGUMENT, Entry
 from ..facts import EditRefused, Facts, NoAnswer, NoTree
 from ..facts_tree import read_place
 from ..paths import ACTION_NAMES
 from ..positions import lines_of
-from ..problems import ERROR, NOTE, NOTE_KIND, Problem, snippet_of
+from ..problems import ERROR, NOTE, NOTE_KIND, Problem
 from ..program import FACTS, find_facts
 from ..report import Fault
 from ..tree import Node, tree_of
@@ -24,7 +24,7 @@ from .file import File, Finding
 from .rules import findings
 
 SECONDS = 60.0
-# Of a longer line no snippet is shown.
+# A longer line isn't shown.
 LONGEST_LINE = 2_000
 
 
@@ -117,10 +117,10 @@ class Places:
         line, _ = self.place(start)
         return max(self._characters(start, min(end, self._starts[line - 1] + len(self.lines[line - 1]))), 1)
 
-    def snippet(self, fault: Fault) -> tuple[bytes, ...]:
-        """The lines that the linter would print below it, nothing for a long line."""
+    def line_of(self, fault: Fault) -> str | None:
+        """The line at which it starts, unless that is long."""
         line = self.lines[fault.line - 1]
-        return snippet_of(line.decode("utf-8", "replace"), fault) if len(line) <= LONGEST_LINE else ()
+        return line.decode("utf-8", "replace") if len(line) <= LONGEST_LINE else None
 
     def _characters(self, start: int, end: int) -> int:
         return len(self._data[start:end].decode("utf-8", "replace"))
@@ -130,12 +130,11 @@ def _problem(path: str, places: Places, found: Finding, level: str) -> Problem:
     entry = entry_of_note(found.code)
     line, column = places.place(found.start)
     fault = Fault(path, line, column, message_of(entry, found.arguments), NOTE_KIND, places.width(found.start, found.end))
-    return Problem(fault, found.code, entry, places.snippet(fault), level)
+    return Problem(fault, found.code, entry, places.line_of(fault), level)
 
 
 def message_of(entry: Entry, arguments: tuple[str, ...]) -> str:
-    first, *rest = entry.fixed
-    return first + "".join(argument + text for argument, text in zip(arguments, rest))
+    return ARGUMENT.sub(lambda found: arguments[int(found[1])], entry.message)
 
 
 def notes(linter: str, root: str, files: list[str], counts: bool, say: Callable[[str], None]) -> Iterator[Problem]:
