@@ -5,7 +5,6 @@ import os
 import re
 import sys
 import time
-from dataclasses import replace
 from itertools import chain, groupby, islice
 from typing import TYPE_CHECKING, Callable, Iterable, Iterator, NamedTuple
 
@@ -64,7 +63,7 @@ class FirstFixes:
                 is_read = True
                 self._read_files()
             found = self._first_fixes(path, [problem.fault for problem in first]) if first and self._seconds_left > 0 else {}
-            yield from chain((replace(problem, fix=found.get(problem.fault)) for problem in first), of_file)
+            yield from chain((problem._replace(fix=found.get(problem.fault)) for problem in first), of_file)
 
     def _read_files(self) -> None:
         for path in self._named:

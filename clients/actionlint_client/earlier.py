@@ -2,7 +2,7 @@
 with every key."""
 from __future__ import annotations
 
-from dataclasses import dataclass, replace
+from dataclasses import dataclass
 
 from .faults import FileFaults
 from .positions import lines_of
@@ -32,7 +32,7 @@ class Earlier:
             if fault.line <= prefix:
                 moved.append(fault)
             elif fault.line > len(before) - suffix:
-                moved.append(replace(fault, line=fault.line + len(after) - len(before)))
+                moved.append(fault._replace(line=fault.line + len(after) - len(before)))
         return Earlier(data, FileFaults(tuple(moved), self.found.more))
 
     def beside(self, found: FileFaults) -> FileFaults:

@@ -2,13 +2,12 @@
 from __future__ import annotations
 
 from dataclasses import dataclass
-from typing import Any, Iterator, Union
+from typing import Any, Iterator, NamedTuple, Union
 
 Json = dict[str, Any]
 
 
-@dataclass(frozen=True)
-class CodedFault:
+class CodedFault(NamedTuple):
     """A fault of a file. Lines and columns count from 1, columns in characters."""
 
     code: str

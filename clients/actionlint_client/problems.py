@@ -2,8 +2,7 @@
 from __future__ import annotations
 
 import re
-from dataclasses import dataclass
-from typing import TYPE_CHECKING
+from typing import TYPE_CHECKING, NamedTuple
 
 from .entries import Entry, entries_by_code, link_of
 from .report import Fault
@@ -16,8 +15,7 @@ ERROR, WARNING, NOTE = "error", "warning", "note"
 NOTE_KIND = "note"
 
 
-@dataclass(frozen=True)
-class Problem:
+class Problem(NamedTuple):
     """A fault of the linter, or a note of another program, which has no entry and a `link` of its own. `source` is the line at which it
     starts, if that is known. The level is one of SARIF's: error, warning or note. If fixes were tried, `fix` is the first one that would be
     offered."""
@@ -47,8 +45,8 @@ class Problem:
         return self.source or ""
 
     def snippet(self) -> tuple[str, ...]:
-        """The lines that the linter prints below a fault: a bar, the source line, and marks behind the same tabs. Nothing if the
-        source line isn't known."""
+        """The lines that the linter prints below a fault: a bar, the source line, and marks behind the same tabs. Nothing without a source
+        line."""
         if self.source is None:
             return ()
         fault = self.fault

@@ -1,14 +1,12 @@
 """A fault as reports and the language server show it."""
 from __future__ import annotations
 
-from dataclasses import dataclass
-from typing import Callable
+from typing import Callable, NamedTuple
 
 from .facts_tree import CodedFault
 
 
-@dataclass(frozen=True)
-class Fault:
+class Fault(NamedTuple):
     """A fault. Lines and columns count from 1; columns and width are characters. The width is that on its first line, or None if it isn't
     known. The code and the arguments are those of its entry, if it has one."""
 
