@@ -14,10 +14,23 @@ from cases import Cases
 from repositories import CLIENTS, TOP
 
 from actionlint_client import entries, names, syntax
+from actionlint_client.linter_limits import MAX_PATH_BYTES
+from actionlint_client.paths import is_linted, is_path
 from actionlint_client.program import find_facts
 
 CASES = Cases("tables")
 SECTION_ROW = re.compile(r"^\| \*([^*]+)\* \| (.+) \|$", re.M)
+W = ".github/workflows"
+# Linted files; what is no path; and paths of other files.
+PATHS = {
+    None: (f"{W}/a.yml", f"{W}/a.yaml", f"{W}/.a.yml", f"{W}/.yml.yml", f"{W}/action.yml", "action.yml", "action.yaml", "a/action.yml",
+           ".../action.yml", "\u00e9/action.yaml", "a" * (MAX_PATH_BYTES - 11) + "/action.yml"),
+    "E1": ("/action.yml", "a//action.yml", "./action.yml", "a/./action.yml", "../action.yml", "a/../action.yml", "a/action.yml/", "a/",
+           "..", ".", "a\\action.yml", "a\x7f/action.yml", "a\x01/action.yml", "a\t/action.yml", "a/..",
+           "//", "\u00e9" * 507 + "/action.yml"),
+    "E2": (f"{W}/.yml", f"{W}/.yaml", f"{W}/a.YML", f"{W}/a.json", f"{W}/a/b.yml", f"{W}/a.yml.txt", W, "workflows/a.yml", f"a/{W}/a.yml",
+           "Action.yml", "xaction.yml", "action.yml.txt", "action", ".github/action.toml"),
+}
 
 
 @CASES.case
@@ -25,6 +38,17 @@ def made_anew(program: str) -> None:
     words = [sys.executable, str(CLIENTS / "make_tables.py"), "--check", find_facts(program)]
     done = subprocess.run(words, stdout=subprocess.PIPE, check=False)
     assert done.returncode == 0, done.stdout.decode() + "clients/make_tables.py writes them"
+
+
+@CASES.case
+def paths(program: str) -> None:
+    """What is no path is refused by the linter (E1), and so is a file that isn't linted (E2); the clients know both beforehand."""
+    for code, group in PATHS.items():
+        script = b"".join(b"put %s 0\n\n" % path.encode() for path in group)
+        said = subprocess.run([find_facts(program)], input=script, stdout=subprocess.PIPE, check=True).stdout
+        assert [json.loads(line).get("refused") for line in said.splitlines()] == [code] * len(group), (code, said)
+        known = {path: (None if is_linted(path) else "E2") if is_path(path) else "E1" for path in group}
+        assert set(known.values()) == {code}, known
 
 
 @CASES.case
