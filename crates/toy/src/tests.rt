@@ -17,10 +17,16 @@ fn open(alloc: Global) -> Session<Toy> {
     Session::open(alloc, Toy::new())
 }
 
+fn write_report(session: &mut Session<Toy>, bytes: &mut Vec<u8>) -> Result<(), Stop> {
+    session.report(&mut Output::new(bytes), Format::Oneline)
+}
+
 fn report(alloc: Global, session: &mut Session<Toy>) -> Result<Vec<u8>, Stop> {
     let mut bytes = Vec::new(alloc);
-    session.report(&mut Output::new(&mut bytes), Format::Oneline)?;
-    Ok(bytes)
+    match write_report(session, &mut bytes) {
+        Ok(()) => Ok(bytes),
+        Err(stop) => Err(stop),
+    }
 }
 
 fn reports(alloc: Global, session: &mut Session<Toy>, wanted: &[u8]) -> Result<bool, Stop> {
@@ -84,10 +90,24 @@ fn follows_both(
     Ok(follows(alloc, session, first)? && follows(alloc, session, then)?)
 }
 
-// Whether a new session follows these steps, and then has this status.
+fn has_status(session: &mut Session<Toy>, wanted: u8) -> Result<bool, Stop> {
+    Ok(status(session)? == wanted)
+}
+
+// Whether a session follows steps, which are in two lists, and then has this status.
+fn ends_with(
+    alloc: Global,
+    session: &mut Session<Toy>,
+    steps: (&[Step], &[Step]),
+    wanted: u8,
+) -> Result<bool, Stop> {
+    let (first, then) = steps;
+    Ok(follows_both(alloc, session, first, then)? && has_status(session, wanted)?)
+}
+
+// The same for a new session.
 fn ends(alloc: Global, first: &[Step], then: &[Step], wanted: u8) -> Result<bool, Stop> {
-    let mut session = open(alloc);
-    Ok(follows_both(alloc, &mut session, first, then)? && status(&mut session)? == wanted)
+    ends_with(alloc, &mut open(alloc), (first, then), wanted)
 }
 
 const NEED: &[u8] = b"need b.toy c.toy";
@@ -120,8 +140,7 @@ fn answers_calls(alloc: Global, session: &mut Session<Toy>) -> Result<bool, Stop
 }
 
 fn answers_calls_anew(alloc: Global) -> Result<bool, Stop> {
-    let mut session = open(alloc);
-    answers_calls(alloc, &mut session)
+    answers_calls(alloc, &mut open(alloc))
 }
 
 #[test]
@@ -209,8 +228,7 @@ fn finds_call_cycles(alloc: Global, session: &mut Session<Toy>) -> Result<bool, 
 }
 
 fn finds_call_cycles_anew(alloc: Global) -> Result<bool, Stop> {
-    let mut session = open(alloc);
-    finds_call_cycles(alloc, &mut session)
+    finds_call_cycles(alloc, &mut open(alloc))
 }
 
 #[test]
@@ -230,13 +248,16 @@ fn refuses_all(session: &mut Session<Toy>, large: &[u8]) -> bool {
         && refuses(session, &Change::Delete("z.toy"), Refused::NoSuchFile)
 }
 
-fn refuses_all_anew(alloc: Global, large: &[u8]) -> Result<bool, AllocError> {
-    let mut session = open(alloc);
-    Ok(refuses_all(&mut session, large) && status(&mut session)? == 0)
+fn stays_empty(session: &mut Session<Toy>, large: &[u8]) -> Result<bool, Stop> {
+    Ok(refuses_all(session, large) && has_status(session, 0)?)
+}
+
+fn refuses_all_anew(alloc: Global, large: &[u8]) -> Result<bool, Stop> {
+    stays_empty(&mut open(alloc), large)
 }
 
 #[test]
-fn edits_are_refused(rt: HostRuntime) -> Result<(), AllocError> {
+fn edits_are_refused(rt: HostRuntime) -> Result<(), Stop> {
     let large = bytes_of(rt.alloc(), 1_048_577)?;
     assert!(rt; refuses_all_anew(rt.alloc(), &large)?);
     Ok(())
@@ -265,8 +286,7 @@ fn fills(alloc: Global, session: &mut Session<Toy>) -> Result<bool, AllocError> 
 }
 
 fn fills_anew(alloc: Global) -> Result<bool, AllocError> {
-    let mut session = open(alloc);
-    fills(alloc, &mut session)
+    fills(alloc, &mut open(alloc))
 }
 
 #[test]
@@ -299,9 +319,17 @@ fn has_file(session: &Session<Toy>, path: &str) -> bool {
     session.bytes(path).is_some()
 }
 
+// Whether two of these changes are accepted, which leave no file.
+fn applies_two(
+    alloc: Global,
+    session: &mut Session<Toy>,
+    changes: &[Change],
+) -> Result<bool, AllocError> {
+    Ok(count_accepted(alloc, session, changes)? == 2 && !has_file(session, "a.toy"))
+}
+
 fn applies(alloc: Global, changes: &[Change]) -> Result<bool, AllocError> {
-    let mut session = open(alloc);
-    Ok(count_accepted(alloc, &mut session, changes)? == 2 && !has_file(&session, "a.toy"))
+    applies_two(alloc, &mut open(alloc), changes)
 }
 
 #[test]
@@ -516,8 +544,7 @@ fn stays_as_anew(alloc: Global, session: &mut Session<Toy>, edits: u32) -> Resul
 }
 
 fn starts_and_stays_as_anew(alloc: Global, edits: u32) -> Result<bool, Stop> {
-    let mut session = open(alloc);
-    stays_as_anew(alloc, &mut session, edits)
+    stays_as_anew(alloc, &mut open(alloc), edits)
 }
 
 #[test]
