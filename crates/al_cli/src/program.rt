@@ -184,7 +184,12 @@ fn report_gathered<W: Write, E: Write>(
     }
 }
 
-fn say_skipped<E: Write>(errors: &mut E, paths: &[String]) -> io::Result<()> {
+/// Says which paths of [`Gathered::outside`](crate::Gathered) were skipped, one a line.
+///
+/// # Errors
+///
+/// That of the writer.
+pub fn say_skipped<E: Write>(errors: &mut E, paths: &[String]) -> io::Result<()> {
     for path in paths {
         writeln!(
             errors,

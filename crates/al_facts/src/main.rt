@@ -5,12 +5,15 @@ mod answers;
 mod calls;
 mod commands;
 mod developers;
+mod linting;
 mod run;
 
 use al_check::Actions;
-use al_cli::{WaitingInput, WaitingOutput};
+use al_cli::{Ending, SystemDisk, WaitingInput, WaitingOutput, say_why};
 use al_session::Session;
+use al_text::Stop;
 use developers::{Reader, reader_named};
+use linting::lint;
 use run::answer_commands;
 use std::io::{BufWriter, Read};
 use std::process::ExitCode;
@@ -22,11 +25,16 @@ const BAD_WORDS: u8 = 2;
 /// The exit status of a run that could not go on.
 const FATAL: u8 = 3;
 
+/// The argument that asks for a report. Those of the linter follow.
+const LINT: &str = "lint";
+
 /// What the arguments ask for.
 #[derive(Clone, Copy)]
 enum Asked {
     /// Answers to the commands of standard input.
     Facts,
+    /// A report of a folder.
+    Report,
     /// What a reader makes of standard input.
     Reading(Reader),
     Help,
@@ -34,16 +42,37 @@ enum Asked {
 }
 
 fn main(rt: HostRuntime) -> ExitCode {
-    match words(&rt) {
-        Ok(Asked::Facts) => ended(&rt, answer_input(&rt)),
-        Ok(Asked::Reading(reader)) => ended(&rt, read_input(&rt, reader)),
-        Ok(Asked::Help) => ended(&rt, print_help(&rt)),
-        Ok(Asked::Unknown) => say_usage(&rt),
-        Err(error) => ended(&rt, Err(error)),
+    match arguments_of(&rt) {
+        Ok(arguments) => answer_arguments(&rt, &arguments),
+        Err(error) => said(&rt, &Ending::of_unreadable(error.kind())),
     }
 }
 
-fn asked_by(word: &str) -> Asked {
+fn arguments_of(rt: &HostRuntime) -> io::Result<Vec<String>> {
+    Ok(env::args(rt)?.collect(rt.alloc())?)
+}
+
+// Runs the program with these arguments, the first of which is its name.
+fn answer_arguments(rt: &HostRuntime, arguments: &[String]) -> ExitCode {
+    match asked_by(arguments) {
+        Asked::Facts => ended(rt, answer_input(rt)),
+        Asked::Report => said(rt, &lint_here(rt, arguments)),
+        Asked::Reading(reader) => ended(rt, read_input(rt, reader)),
+        Asked::Help => ended(rt, print_help(rt)),
+        Asked::Unknown => say_usage(rt),
+    }
+}
+
+fn asked_by(arguments: &[String]) -> Asked {
+    match arguments {
+        [] | [_] => Asked::Facts,
+        [_, word, ..] if word.as_str() == LINT => Asked::Report,
+        [_, word] => asked_by_word(word.as_str()),
+        _ => Asked::Unknown,
+    }
+}
+
+fn asked_by_word(word: &str) -> Asked {
     if word == "--help" {
         return Asked::Help;
     }
@@ -51,19 +80,6 @@ fn asked_by(word: &str) -> Asked {
         Some(reader) => Asked::Reading(reader),
         None => Asked::Unknown,
     }
-}
-
-// What the arguments ask for: none, or the name of a reader.
-fn words(rt: &HostRuntime) -> io::Result<Asked> {
-    let mut words = env::args(rt)?;
-    words.next();
-    let Some(word) = words.next() else {
-        return Ok(Asked::Facts);
-    };
-    if words.next().is_some() {
-        return Ok(Asked::Unknown);
-    }
-    Ok(asked_by(&word))
 }
 
 // Answers the commands of standard input.
@@ -86,6 +102,27 @@ fn read_input(rt: &HostRuntime, reader: Reader) -> io::Result<()> {
     println!(rt; "{line}")
 }
 
+// Lints the folder that the arguments after the program's name ask for.
+fn lint_here(rt: &HostRuntime, arguments: &[String]) -> Ending {
+    let Ok(mut writer) = BufWriter::new(rt.alloc(), WaitingOutput::new(rt.stdout(), rt)) else {
+        return Ending::Stopped(Stop::Memory);
+    };
+    lint(
+        rt.alloc(),
+        &arguments[arguments.len().min(1)..],
+        &mut SystemDisk::new(rt),
+        &mut writer,
+        &mut rt.stderr(),
+    )
+}
+
+// Says why a report ended, and gives its exit status.
+fn said(rt: &HostRuntime, ending: &Ending) -> ExitCode {
+    // If standard error fails, nothing is left to do.
+    let _ = say_why(&mut rt.stderr(), ending);
+    ExitCode::from(ending.status())
+}
+
 // The exit status of a run.
 fn ended(rt: &HostRuntime, answered: io::Result<()>) -> ExitCode {
     match answered {
@@ -99,10 +136,13 @@ fn ended(rt: &HostRuntime, answered: io::Result<()>) -> ExitCode {
 
 const HELP: &str = "Answers questions about the workflows and actions of a folder.
 
-Usage: actionlint-facts [expr|chunks|scalar|yaml]
+Usage: actionlint-facts
+       actionlint-facts lint [ARGUMENTS]
+       actionlint-facts expr|chunks|scalar|yaml
 
 Takes commands from standard input, and answers each by a line of JSON. The command help lists them, and docs/FACTS.md describes the
-answers. With an argument it prints what that reader makes of standard input, for tests.
+answers. With lint it does what actionlint does with these arguments, and prints each fault as a line of JSON. With the name of a
+reader it prints what that makes of standard input, for tests.
 
 Options:
       --help  Print help
@@ -115,7 +155,7 @@ fn print_help(rt: &HostRuntime) -> io::Result<()> {
 
 fn say_usage(rt: &HostRuntime) -> ExitCode {
     let _ = eprintln!(rt;
-        "actionlint-facts takes one argument at most: expr, chunks, scalar, yaml or --help"
+        "actionlint-facts takes lint with arguments, or one argument: expr, chunks, scalar, yaml or --help"
     );
     ExitCode::from(BAD_WORDS)
 }

@@ -3,15 +3,17 @@
 use crate::codes::{push_code, push_message};
 use crate::json::Json;
 use al_text::limits::LARGEST_FILE;
-use al_text::{Args, Fault, position};
+use al_text::{Args, Fault, Location, location_of};
 use std::alloc::{AllocError, Global};
 
-/// A byte offset of a file with its line and column, both from 1.
+/// A byte offset of a file with its line and column, both from 1, and the offset at which the line
+/// begins.
 #[derive(Clone, Copy)]
 pub struct Spot {
     at: u32,
     line: u32,
     column: u32,
+    line_start: u32,
 }
 
 /// The start of a file.
@@ -20,31 +22,49 @@ pub fn first_spot() -> Spot {
         at: 0,
         line: 1,
         column: 1,
+        line_start: 0,
     }
 }
 
-// The lines and columns from the start of some bytes to an offset, or to their end.
-fn position_in(bytes: &[u8], offset: u32) -> (u32, u32) {
+// The location of an offset, or of the end, in some bytes.
+fn location_in(bytes: &[u8], offset: u32) -> Location {
     if bytes.len() > LARGEST_FILE {
-        return (1, 1);
+        return location_of(&[], 0);
     }
-    position(bytes, offset.min(bytes.len() as u32))
+    location_of(bytes, offset.min(bytes.len() as u32))
 }
 
 /// The place of an offset, counted on from an earlier one. An offset past the end counts as the
 /// end.
-fn spot_after(bytes: &[u8], from: Spot, offset: u32) -> Spot {
+pub fn spot_after(bytes: &[u8], from: Spot, offset: u32) -> Spot {
     let start = from.at as usize;
     if start > bytes.len() {
         return from;
     }
-    let (line, column) = position_in(&bytes[start..], offset.saturating_sub(from.at));
-    let same_line = line == 1;
-    let before = if same_line { from.column } else { 1 };
+    let found = location_in(&bytes[start..], offset.saturating_sub(from.at));
+    let at = offset.max(from.at);
+    if found.line == 1 {
+        return Spot {
+            at,
+            column: from.column.saturating_add(found.column.saturating_sub(1)),
+            ..from
+        };
+    }
     Spot {
-        at: offset.max(from.at),
-        line: from.line.saturating_add(line.saturating_sub(1)),
-        column: before.saturating_add(column.saturating_sub(1)),
+        at,
+        line: from.line.saturating_add(found.line.saturating_sub(1)),
+        column: found.column,
+        line_start: from.at.saturating_add(found.start),
+    }
+}
+
+/// The bytes of the line on which a spot is, without its line break.
+pub fn line_at(bytes: &[u8], spot: Spot) -> &[u8] {
+    let start = (spot.line_start as usize).min(bytes.len());
+    let rest = &bytes[start..];
+    match rest.iter().position(|b| *b == b'\n' || *b == b'\r') {
+        Some(end) => &rest[..end],
+        None => rest,
     }
 }
 
@@ -86,12 +106,22 @@ pub fn push_fault(json: &mut Json, fault: &Fault) -> Result<(), AllocError> {
     json.close('}')
 }
 
+/// Writes the keys of a fault whose start is at a spot.
+pub fn push_keys(
+    json: &mut Json,
+    bytes: &[u8],
+    fault: &Fault,
+    spot: Spot,
+) -> Result<(), AllocError> {
+    push_what(json, fault)?;
+    push_start(json, spot)?;
+    push_end(json, spot_after(bytes, spot, fault.span.end))
+}
+
 // Writes a fault whose start is at a spot.
 fn push_at(json: &mut Json, bytes: &[u8], fault: &Fault, spot: Spot) -> Result<(), AllocError> {
     json.open('{')?;
-    push_what(json, fault)?;
-    push_start(json, spot)?;
-    push_end(json, spot_after(bytes, spot, fault.span.end))?;
+    push_keys(json, bytes, fault, spot)?;
     json.close('}')
 }
 
@@ -106,8 +136,8 @@ fn push_faults(json: &mut Json, bytes: &[u8], faults: &[&Fault]) -> Result<(), A
     json.close(']')
 }
 
-// The faults of two lists in the order of reports, each once.
-fn join<'a>(
+/// The faults of two lists in the order of reports, each once.
+pub fn join<'a>(
     alloc: Global,
     own: &'a [Fault],
     more: &'a [Fault],

@@ -4,12 +4,13 @@ use crate::files::{ACTION, CALLER, action, caller, missing_input};
 use al_check::Actions;
 use al_cli::{
     Disk, DiskError, Ending, Entry, Fatal, SystemDisk, Unread, Usage, WaitingInput, WaitingOutput,
-    Words, gather, lint_all, load, number_of, parse_words, run, run_commands, run_session, say_why,
+    Words, gather, lint_all, load, number_of, parse_words, run, run_commands, run_session,
+    say_skipped, say_why,
 };
 use al_session::{Refused, Session};
 use al_text::{Format, Input, Output, Path, Stop, path_fault};
 use al_tree::is_action;
-use std::alloc::Global;
+use std::alloc::{AllocError, Global};
 use std::fs;
 use std::io::ErrorKind;
 use std::random::RandomSource;
@@ -275,6 +276,18 @@ fn a_folder_of_the_disk(rt: HostRuntime) -> Result<(), Fail> {
     assert!(rt; runs(rt.alloc(), &mut SystemDisk::new(&rt), &rt, missing_input()));
     fs::remove_dir_all(&rt, ROOT)?;
     Ok(())
+}
+
+fn says_skipped(alloc: Global, path: &str, wanted: &[u8]) -> Result<bool, AllocError> {
+    let mut text = Vec::new(alloc);
+    let paths = [String::from_str(alloc, path)?];
+    Ok(say_skipped(&mut text, &paths).is_ok() && text.as_slice() == wanted)
+}
+
+#[test]
+fn what_a_run_skipped(rt: HostRuntime) {
+    let wanted = b"actionlint: skipped a/action.yml: symbolic link points outside the folder\n";
+    assert!(rt; says_skipped(rt.alloc(), ACTION, wanted) == Ok(true));
 }
 
 fn says(alloc: Global, ending: &Ending, wanted: &[u8]) -> bool {

@@ -1,0 +1,141 @@
+//! A run of the linter over a folder of the disk, whose report has a line of JSON for each fault.
+
+use al_check::Actions;
+use al_cli::{Disk, Ending, Gathered, Usage, Words, load, parse_words, say_skipped};
+use al_json::{Detail, ReportedFile, write_fault_lines, write_status};
+use al_session::Session;
+use al_text::limits::MOST_FILES;
+use al_text::{Fault, Stop};
+use std::alloc::Global;
+use std::convert::AsStr;
+use std::io::{ErrorKind, Write};
+use std::{io, mem};
+
+/// What is wrong with arguments that ask for a session.
+const NO_SESSION: &str = "actionlint-facts: lint takes no --session\n";
+
+/// Lints as the linter does with these arguments, the first of which is `lint`, and writes a line
+/// for each fault and then one with the status. It ends as the linter does, and says the same to
+/// `errors`. The memory of the session is not given back, as the program ends.
+pub fn lint<S: AsStr, D: Disk, W: Write, E: Write>(
+    alloc: Global,
+    arguments: &[S],
+    disk: &mut D,
+    writer: &mut W,
+    errors: &mut E,
+) -> Ending {
+    match parse_words(alloc, arguments) {
+        Ok(words) if words.session => Ending::NoRun(no_session(alloc)),
+        Ok(words) => lint_folder(alloc, &words, disk, writer, errors),
+        Err(usage) => end_usage(writer, usage),
+    }
+}
+
+fn no_session(alloc: Global) -> Usage {
+    match String::from_str(alloc, NO_SESSION) {
+        Ok(text) => Usage::Clap(text),
+        Err(_) => Usage::Memory,
+    }
+}
+
+// Prints help. Other usages are for standard error.
+fn end_usage<W: Write>(writer: &mut W, usage: Usage) -> Ending {
+    let printed = match &usage {
+        Usage::Help(text) => write_text(writer, text.as_str()),
+        _ => Ok(()),
+    };
+    match printed {
+        Ok(()) => Ending::NoRun(usage),
+        Err(error) => Ending::Stopped(stop_of(&error)),
+    }
+}
+
+fn write_text<W: Write>(writer: &mut W, text: &str) -> io::Result<()> {
+    writer.write_all(text.as_bytes())?;
+    writer.flush()
+}
+
+fn stop_of(error: &io::Error) -> Stop {
+    match error.kind() {
+        ErrorKind::OutOfMemory => Stop::Memory,
+        _ => Stop::WriteFault,
+    }
+}
+
+fn lint_folder<D: Disk, W: Write, E: Write>(
+    alloc: Global,
+    words: &Words<'_>,
+    disk: &mut D,
+    writer: &mut W,
+    errors: &mut E,
+) -> Ending {
+    match load(alloc, disk, words) {
+        Ok(gathered) => end_report(alloc, gathered, writer, errors, detail_of(words)),
+        Err(unread) => Ending::Unread(unread),
+    }
+}
+
+fn detail_of(words: &Words<'_>) -> Detail {
+    if words.oneline {
+        return Detail::Fault;
+    }
+    Detail::Source
+}
+
+fn end_report<W: Write, E: Write>(
+    alloc: Global,
+    gathered: Gathered,
+    writer: &mut W,
+    errors: &mut E,
+    detail: Detail,
+) -> Ending {
+    // If standard error fails, nothing is left to do.
+    let _ = say_skipped(errors, &gathered.outside);
+    let Ok(mut session) = gathered.files.build() else {
+        return Ending::Stopped(Stop::Memory);
+    };
+    let written = write_report(alloc, &mut session, writer, detail);
+    // The program ends, and the system frees all of its memory at once.
+    mem::forget(session);
+    match written {
+        Ok(status) => Ending::Reported(status),
+        Err(error) => Ending::Stopped(stop_of(&error)),
+    }
+}
+
+fn write_report<W: Write>(
+    alloc: Global,
+    session: &mut Session<Actions>,
+    writer: &mut W,
+    detail: Detail,
+) -> io::Result<u8> {
+    let status = session.status()?;
+    let cycles = session.call_cycle_faults()?;
+    write_files(alloc, session, cycles.as_slice(), writer, detail)?;
+    write_status(alloc, writer, status)?;
+    writer.flush()?;
+    Ok(status)
+}
+
+// Writes the faults of the files in order of path. The lists of faults of call cycles are in the
+// same order.
+fn write_files<W: Write>(
+    alloc: Global,
+    session: &Session<Actions>,
+    cycles: &[Vec<Fault>],
+    writer: &mut W,
+    detail: Detail,
+) -> io::Result<()> {
+    for number in 0..cycles.len().min(MOST_FILES) {
+        if let Some(path) = session.path_at(number) {
+            let file = ReportedFile {
+                path,
+                bytes: session.bytes(path).unwrap_or(&[]),
+                own: session.faults(path).unwrap_or(&[]),
+                cycles: cycles[number].as_slice(),
+            };
+            write_fault_lines(alloc, writer, file, detail)?;
+        }
+    }
+    Ok(())
+}
