@@ -204,11 +204,12 @@ class Lint:
 
     def differences(self, words=(), root=None):
         """What of the lines isn't as the linter reports it with the same arguments, or not as the bytes of the files are."""
-        linted = self.place.run(["--oneline", *words])
+        linted, with_source = self.place.run(["--oneline", *words]), self.place.run(list(words))
         ran = self.place.run(["lint", *words], program=self.program)
         short = self.place.run(["lint", "--oneline", *words], program=self.program)
-        wrong = [f"status {one.returncode} and {show(one.stderr)} in place of {linted.returncode} and {show(linted.stderr)}"
-                 for one in (ran, short) if (one.returncode, one.stderr) != (linted.returncode, linted.stderr)]
+        wrong = [f"status {one.returncode} and {show(one.stderr)} in place of {it.returncode} and {show(it.stderr)}"
+                 for one, it in ((ran, with_source), (short, linted))
+                 if (one.returncode, one.stderr) != (it.returncode, it.stderr.replace(b"\nUsage: actionlint ", b"\nUsage: lint "))]
         if linted.returncode > 1:
             return wrong + [f"it printed {show(one.stdout)}" for one in (ran, short) if one.stdout]
         *rows, last = map(json.loads, ran.stdout.splitlines())
