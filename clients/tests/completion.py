@@ -266,7 +266,7 @@ def each_scalar(program: str) -> None:
                 offset = chance.choice(scalar.pieces)[1] + chance.randrange(2)
                 place = place_in_tree.place_at(project, file, scalar.places.point(offset))
                 assert place and place.path == expected and (place.role is Role.KEY) == (scalar is key), (file, expected, offset, place)
-                nodes = [tree.at(path[:depth]) for depth in range(len(path))]
+                nodes = [tree.get(*path[:depth]) for depth in range(len(path))]
                 names = [set(node.names()) for node in nodes if node]
                 assert [set(keys) for keys in place.around] == names[:len(expected)], place
                 assert set(place.siblings) == (names[-1] - {path[-1]} if scalar is key else set()), place
