@@ -10,7 +10,7 @@ use Rattle.std.specs.Str.{chars}
 use Rattle.al_yaml_tree.specs.Bytes.{is_printable, unprintable_at}
 use Rattle.al_yaml_parts.specs.Private.PlainBytes.{is_unprintable, unprintable_byte}
 
--- A byte that continues a character is passed over.
+-- A byte that continues a character is skipped.
 inner : (at b : ℕ) (bs : List ℕ) → 128 ≤ b → b < 192 → unprintable_byte at (b ∷ bs) ≡ unprintable_byte (at + 1) bs
 inner at b bs low high =
     let none : is_unprintable (b ∷ bs) ≡ false = grind (arith, nat_tests, low, high) in rw none refl
