@@ -62,8 +62,8 @@ module _ (lit : Bool) (within : ℕ) (bytes : List ℕ) (at : ℕ) (here : IsIns
       let after : later xs ≡ lines_at bytes first = first-same.later ∙ s.later ∙ u.later ∙ ap later z in
       block-given ∙ rw (g, is_last, after) refl
 
--- the rest of the scalar, with the indent and the text as the code holds them
-pub rest-style : (lit : Bool) (k : Chomping) (m m' : Option ℕ) (b b' : Bool) (end : ℕ) (old : List Cell) (ls : List Line) → m' ≡ m → b' ≡ b → old ≡ []
-    → rest lit k m b None [] end ls ≡ with_text old (rest lit k m' b' None [] end ls)
-rest-style lit k m m' b b' end old ls g h n =
-    rw (g, h, n) refl
+-- the rest of the scalar, with the indent, the empty lines and the text as the code holds them
+pub rest-style : (lit : Bool) (k : Chomping) (m m' : Option ℕ) (b b' : Bool) (es : List ℕ) (end : ℕ) (old : List Cell) (ls : List Line)
+    → m' ≡ m → b' ≡ b → es ≡ [] → old ≡ [] → rest lit k m b None [] end ls ≡ with_text old (rest lit k m' b' None es end ls)
+rest-style lit k m m' b b' es end old ls g h e n =
+    rw (g, h, e, n) refl

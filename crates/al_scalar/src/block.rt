@@ -34,6 +34,13 @@ struct RowStart {
     is_blank: bool,
 }
 
+/// The text of a line that ends with a break: from an offset up to that of the break.
+#[derive(Clone, Copy)]
+struct Row {
+    from: usize,
+    stop: usize,
+}
+
 /// How the lines of a block scalar are read, and whether its header gives the indent.
 #[derive(Clone, Copy)]
 struct BlockStyle {
@@ -43,20 +50,28 @@ struct BlockStyle {
     explicit: bool,
 }
 
-/// The state after some rows: the last row with text, the breaks of the empty lines since, and the
-/// end of the text.
+/// The breaks after the last row with text: its own, and those of the empty lines since.
 #[derive(Drop)]
-struct RowState {
+struct PendingBreaks {
     last: Option<LastLine>,
     empties: Vec<u32>,
+}
+
+/// The state after some rows: the text without the pending breaks, these, and the end of the text.
+#[derive(Drop)]
+struct RowState {
+    text: Text,
+    pending: PendingBreaks,
     end: usize,
 }
 
-/// Where the text of a block scalar ends, and where the lines after it begin.
+/// The start of a block scalar: the offset of its indicator, whether that is the one of literal
+/// style, and one more than the indent of the enclosing collection.
 #[derive(Clone, Copy)]
-struct RowsRead {
-    end: usize,
-    next: usize,
+pub struct BlockStart {
+    pub at: usize,
+    pub literal: bool,
+    pub within: u32,
 }
 
 /// The row of the line at an offset, given the indent of the content and, if the line is all
@@ -135,22 +150,19 @@ fn push_own(text: &mut Text, last: Option<LastLine>) -> Result<(), AllocError>
 }
 
 /// Adds the final breaks that are kept.
-fn chomp(
-    text: &mut Text,
-    chomping: Chomping,
-    last: Option<LastLine>,
-    empties: &[u32],
-) -> Result<(), AllocError>
+fn chomp(text: &mut Text, chomping: Chomping, pending: &PendingBreaks) -> Result<(), AllocError>
     ensures { IfOk result
         (λ _. text.new
-        ≡ text.old ++ final_breaks chomping (own_break (last_row last)) empties.now) }
+        ≡ text.old
+        ++ final_breaks chomping (own_break (last_row pending.now.last))
+        pending.now.empties.items) }
 {
     match chomping {
         Chomping::Strip => Ok(()),
-        Chomping::Clip => push_own(text, last),
+        Chomping::Clip => push_own(text, pending.last),
         Chomping::Keep => {
-            push_own(text, last)?;
-            push_feeds(text, empties)
+            push_own(text, pending.last)?;
+            push_feeds(text, &pending.empties)
         }
     }
 }
@@ -160,128 +172,118 @@ fn chomp(
 fn push_joint(
     text: &mut Text,
     literal: bool,
-    last: Option<LastLine>,
-    empties: &[u32],
+    pending: &PendingBreaks,
     spaced: bool,
 ) -> Result<(), AllocError>
     ensures { IfOk result
         (λ _. text.new
-        ≡ text.old ++ joint literal (last_row last) empties.now (row_like spaced [])) }
+        ≡ text.old
+        ++ joint literal (last_row pending.now.last) pending.now.empties.items
+        (row_like spaced [])) }
 {
-    match last {
+    match pending.last {
         Some(l) if literal || l.spaced || spaced => {
             text.push(b'\n', l.at as usize)?;
-            push_feeds(text, empties)
+            push_feeds(text, &pending.empties)
         }
-        Some(l) if empties.is_empty() => text.push(b' ', l.at as usize),
-        _ => push_feeds(text, empties),
+        Some(l) if pending.empties.is_empty() => text.push(b' ', l.at as usize),
+        _ => push_feeds(text, &pending.empties),
     }
 }
 
 /// Adds the row of a line that ends with a break.
-fn add_row(
-    text: &mut Text,
-    state: &mut RowState,
-    bytes: &[u8],
-    from: usize,
-    stop: usize,
-    literal: bool,
-) -> Result<(), AllocError>
-    requires order { from ≤ stop }
-    requires inside { stop < length bytes.now }
-    requires after { state.old.end ≤ from }
+fn add_row(state: &mut RowState, bytes: &[u8], row: Row, literal: bool) -> Result<(), AllocError>
+    requires order { row.from ≤ row.stop }
+    requires inside { row.stop < length bytes.now }
+    requires after { state.old.end ≤ row.from }
     requires size { length bytes.now < 2 ^ 32 }
     ensures text { IfOk result
-        (λ _. AddsRow literal text.old state.old (cells_between bytes.now from stop)
-        (stop ∷ []) text.new state.new) }
+        (λ _. AddsRow literal state.old (cells_between bytes.now row.from row.stop)
+        (row.stop ∷ []) state.new) }
     ensures end { IfOk result
-        (λ _. EndsRow state.old (cells_between bytes.now from stop) state.new) }
-    ensures within { IfOk result (λ _. (state.old.end ≤ state.new.end) × (state.new.end ≤ stop)) }
+        (λ _. EndsRow state.old (cells_between bytes.now row.from row.stop) state.new) }
+    ensures within { IfOk result
+        (λ _. (state.old.end ≤ state.new.end) × (state.new.end ≤ row.stop)) }
 {
-    if from == stop {
-        state.empties.push(stop as u32)?;
+    if row.from == row.stop {
+        state.pending.empties.push(row.stop as u32)?;
         return Ok(());
     }
-    let spaced = is_blank(bytes[from]);
-    push_joint(text, literal, state.last, &state.empties, spaced)?;
-    text.push_run(bytes, from, stop)?;
-    state.last = Some(LastLine {
+    let spaced = is_blank(bytes[row.from]);
+    push_joint(&mut state.text, literal, &state.pending, spaced)?;
+    state.text.push_run(bytes, row.from, row.stop)?;
+    state.pending.last = Some(LastLine {
         spaced,
-        at: stop as u32,
+        at: row.stop as u32,
     });
-    state.empties.clear();
-    state.end = stop;
+    state.pending.empties.clear();
+    state.end = row.stop;
     Ok(())
 }
 
-/// Adds the row of the last line of the file, and returns where the text ends.
+/// Adds the row of the last line of the file, which begins at an offset.
 fn end_row(
-    text: &mut Text,
-    state: &RowState,
+    state: &mut RowState,
     bytes: &[u8],
     from: usize,
     style: BlockStyle,
-) -> Result<usize, AllocError>
+) -> Result<(), AllocError>
     requires inside { from ≤ length bytes.now }
-    requires after { state.now.end ≤ from }
+    requires after { state.old.end ≤ from }
     requires size { length bytes.now < 2 ^ 32 }
     ensures text { IfOk result
-        (λ _. text.new
-        ≡ text.old
+        (λ _. state.new.text
+        ≡ state.old.text
         ++ text_after style.literal style.chomping
-        (last_row state.now.last) state.now.empties.items
+        (last_row state.old.pending.last) state.old.pending.empties.items
         (last_line bytes.now from)) }
-    ensures end { IfOk result (λ end. end ≡ rows_end state.now.end (last_line bytes.now from)) }
-    ensures within { IfOk result (λ end. (state.now.end ≤ end) × (end ≤ length bytes.now)) }
+    ensures end { IfOk result
+        (λ _. state.new.end ≡ rows_end state.old.end (last_line bytes.now from)) }
+    ensures within { IfOk result
+        (λ _. (state.old.end ≤ state.new.end) × (state.new.end ≤ length bytes.now)) }
 {
     if from == bytes.len() {
-        chomp(text, style.chomping, state.last, &state.empties)?;
-        return Ok(state.end);
+        chomp(&mut state.text, style.chomping, &state.pending)?;
+        return Ok(());
     }
     let spaced = is_blank(bytes[from]);
-    push_joint(text, style.literal, state.last, &state.empties, spaced)?;
-    text.push_run(bytes, from, bytes.len())?;
-    Ok(bytes.len())
+    push_joint(&mut state.text, style.literal, &state.pending, spaced)?;
+    state.text.push_run(bytes, from, bytes.len())?;
+    state.end = bytes.len();
+    Ok(())
 }
 
-/// Reads the rows of a block scalar, starting at a line; the header ends at an offset.
+/// Reads the rows of a block scalar, starting at a line, and returns where the lines after them
+/// begin.
 fn read_rows(
-    alloc: Global,
-    text: &mut Text,
+    state: &mut RowState,
     bytes: &[u8],
     at: usize,
     style: BlockStyle,
-    header: usize,
-) -> Result<RowsRead, AllocError>
-    requires order { header ≤ at }
+) -> Result<usize, AllocError>
+    requires order { state.old.end ≤ at }
     requires inside { at ≤ length bytes.now }
     requires size { length bytes.now < 2 ^ 32 }
-    ensures rows { IfOk result (λ r. ReadsRows bytes.now style text.old at header text.new r) }
+    ensures rows { IfOk result (λ next. ReadsRows bytes.now style at state.old state.new next) }
     ensures within { IfOk result
-        (λ r. (header ≤ r.end) × (r.end ≤ r.next) × (r.next ≤ length bytes.now)) }
+        (λ next. (state.old.end ≤ state.new.end) × (state.new.end ≤ next)
+        × (next ≤ length bytes.now)) }
 {
-    let mut state = RowState {
-        last: None,
-        empties: Vec::new(alloc),
-        end: header,
-    };
     let mut i = at;
     let mut found = style.explicit;
     'rows: loop {
-        let Some(row) = row_start(bytes, i, style.indent, found) else {
-            chomp(text, style.chomping, state.last, &state.empties)?;
-            return Ok(RowsRead {
-                end: state.end,
-                next: i,
-            });
+        let Some(start) = row_start(bytes, i, style.indent, found) else {
+            chomp(&mut state.text, style.chomping, &state.pending)?;
+            return Ok(i);
         };
-        let stop = line_end(bytes, row.from);
+        let from = start.from;
+        let stop = line_end(bytes, from);
         if stop == bytes.len() {
-            let end = end_row(text, &state, bytes, row.from, style)?;
-            return Ok(RowsRead { end, next: stop });
+            end_row(state, bytes, from, style)?;
+            return Ok(stop);
         }
-        add_row(text, &mut state, bytes, row.from, stop, style.literal)?;
-        found |= !row.is_blank;
+        add_row(state, bytes, Row { from, stop }, style.literal)?;
+        found |= !start.is_blank;
         i = after_break(bytes, stop);
     }
 }
@@ -298,30 +300,28 @@ fn content_indent(bytes: &[u8], first: usize, digit: Option<u8>, within: u32) ->
     }
 }
 
-/// Reads a block scalar, starting at its indicator. `within` is one more than the indent of the
-/// enclosing collection.
+/// Reads a block scalar.
 pub fn read_block(
     alloc: Global,
     bytes: &[u8],
-    at: usize,
-    literal: bool,
-    within: u32,
+    start: BlockStart,
 ) -> Result<Result<Taken, FaultAt>, AllocError>
-    requires inside { at < length bytes.now }
-    requires begins { IsLineEnd bytes.now at → ⊥ }
+    requires inside { start.at < length bytes.now }
+    requires begins { IsLineEnd bytes.now start.at → ⊥ }
     requires size { length bytes.now < 2 ^ 32 }
     ensures gives { IfOk result
-        (λ read. Gives bytes.now (block_scalar literal within (lines_at bytes.now at)) read) }
-    ensures within { IfOk result (λ read. StaysWithin bytes.now at read) }
+        (λ read. Gives bytes.now
+        (block_scalar start.literal start.within (lines_at bytes.now start.at)) read) }
+    ensures within { IfOk result (λ read. StaysWithin bytes.now start.at read) }
 {
-    let header = indicators(bytes, at + 1);
+    let header = indicators(bytes, start.at + 1);
     if let Some(place) = header_fault(bytes, header.end) {
         return Ok(Err(FaultAt {
             code: YamlCode::WrongBlockHeader,
             at: place,
         }));
     }
-    let mut text = Text::new(alloc, at);
+    let text = Text::new(alloc, start.at);
     let end = line_end(bytes, header.end);
     if end == bytes.len() {
         return Ok(Ok(Taken {
@@ -332,15 +332,23 @@ pub fn read_block(
     }
     let first = after_break(bytes, end);
     let style = BlockStyle {
-        literal,
+        literal: start.literal,
         chomping: header.chomping,
-        indent: content_indent(bytes, first, header.digit, within),
+        indent: content_indent(bytes, first, header.digit, start.within),
         explicit: header.digit.is_some(),
     };
-    let rows = read_rows(alloc, &mut text, bytes, first, style, header.end)?;
-    Ok(Ok(Taken {
+    let mut state = RowState {
         text,
-        end: rows.end,
-        next: rows.next,
+        pending: PendingBreaks {
+            last: None,
+            empties: Vec::new(alloc),
+        },
+        end: header.end,
+    };
+    let next = read_rows(&mut state, bytes, first, style)?;
+    Ok(Ok(Taken {
+        text: state.text,
+        end: state.end,
+        next,
     }))
 }

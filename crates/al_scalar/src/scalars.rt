@@ -36,19 +36,24 @@ pub struct Scalar {
     form: ScalarForm,
 }
 
+/// The style and the class of a scalar.
+#[derive(Clone, Copy)]
+pub struct ScalarKind {
+    pub style: Style,
+    pub class: Class,
+}
+
 /// How a scalar is stored. Most have a short text, which is all of the written form but its quotes,
 /// so that the span follows from the text.
 #[derive(Drop)]
 enum ScalarForm {
     Short {
         text: ShortText,
-        style: Style,
-        class: Class,
+        kind: ScalarKind,
     },
     Long {
         text: Box<LongText>,
-        style: Style,
-        class: Class,
+        kind: ScalarKind,
         span: Span,
     },
 }
@@ -80,8 +85,8 @@ impl Scalar {
         ensures { result ≡ (self.now).style }
     {
         match &self.form {
-            ScalarForm::Short { style, .. } => *style,
-            ScalarForm::Long { style, .. } => *style,
+            ScalarForm::Short { kind, .. } => kind.style,
+            ScalarForm::Long { kind, .. } => kind.style,
         }
     }
 
@@ -91,7 +96,7 @@ impl Scalar {
         ensures { result ≡ (self.now).span }
     {
         match &self.form {
-            ScalarForm::Short { text, style, .. } => text.span_with(quote_len(*style)),
+            ScalarForm::Short { text, kind } => text.span_with(quote_len(kind.style)),
             ScalarForm::Long { span, .. } => *span,
         }
     }
@@ -102,8 +107,8 @@ impl Scalar {
         ensures { result ≡ (self.now).class }
     {
         match &self.form {
-            ScalarForm::Short { class, .. } => *class,
-            ScalarForm::Long { class, .. } => *class,
+            ScalarForm::Short { kind, .. } => kind.class,
+            ScalarForm::Long { kind, .. } => kind.class,
         }
     }
 
@@ -164,34 +169,23 @@ pub struct ScalarRead {
 /// How a scalar with a text and a span is stored. Fails with `AllocError` when out of memory.
 fn form_of(
     alloc: Global,
-    style: Style,
-    class: Class,
+    kind: ScalarKind,
     span: Span,
     text: Text,
 ) -> Result<ScalarForm, AllocError>
     ensures scalar { IfOk result (λ form. forms.scalar_of form
-        ≡ record { style = style; class = class; cells = text; span = span }) }
+        ≡ record { style = kind.style; class = kind.class; cells = text; span = span }) }
     ensures sound { IfOk result forms.IsSoundScalar }
 {
     match text.into_form() {
-        Form::Short(text) if text.fills(quote_len(style), span) => {
-            Ok(ScalarForm::Short { text, style, class })
+        Form::Short(text) if text.fills(quote_len(kind.style), span) => {
+            Ok(ScalarForm::Short { text, kind })
         }
         Form::Short(short) => {
             let text = Box::new(alloc, short.to_long(alloc)?)?;
-            Ok(ScalarForm::Long {
-                text,
-                style,
-                class,
-                span,
-            })
+            Ok(ScalarForm::Long { text, kind, span })
         }
-        Form::Long(text) => Ok(ScalarForm::Long {
-            text,
-            style,
-            class,
-            span,
-        }),
+        Form::Long(text) => Ok(ScalarForm::Long { text, kind, span }),
     }
 }
 
@@ -199,16 +193,15 @@ fn form_of(
 pub fn scalar_read(
     alloc: Global,
     at: usize,
-    style: Style,
-    class: Class,
+    kind: ScalarKind,
     taken: Taken,
 ) -> Result<ScalarRead, AllocError>
     requires start { at < 2 ^ 32 }
     requires end { taken.end < 2 ^ 32 }
     ensures scalar { IfOk result (λ read. read.scalar
         ≡ record {
-          style = style;
-          class = class;
+          style = kind.style;
+          class = kind.class;
           cells = taken.text;
           span = record { start = at; end = taken.end };
         }) }
@@ -218,7 +211,7 @@ pub fn scalar_read(
         start: at as u32,
         end: taken.end as u32,
     };
-    let form = form_of(alloc, style, class, span, taken.text)?;
+    let form = form_of(alloc, kind, span, taken.text)?;
     Ok(ScalarRead {
         scalar: Scalar { form },
         next: taken.next,

@@ -16,7 +16,6 @@ use Rattle.al_scalar.specs.declared.block.LastLine.{LastLine}
 use Rattle.al_scalar.specs.declared.block.RowStart.{RowStart}
 use Rattle.al_scalar.specs.declared.block.BlockStyle.{BlockStyle}
 use Rattle.al_scalar.specs.declared.block.RowState.{RowState}
-use Rattle.al_scalar.specs.declared.block.RowsRead.{RowsRead}
 
 -- a row with only what the next row depends on: whether it begins with a blank, and its break
 abbrev pub row_like : Bool → List ℕ → BlockLine
@@ -69,19 +68,22 @@ rest is_literal k m found last empties end ls =
       left = rs.left;
     }
 
-abbrev pub rest_of : BlockStyle → Bool → Option BlockLine → List ℕ → ℕ → List Line → Taken
-rest_of style found last empties end ls =
-    rest style.literal style.chomping style.indent found last empties end ls
+-- the scalar after some rows: their text, and then the rest
+abbrev pub rest_of : BlockStyle → Bool → RowState → List Line → Taken
+rest_of style found state ls =
+    with_text state.text
+    (rest style.literal style.chomping style.indent found
+    (last_row state.pending.last) state.pending.empties.items state.end ls)
 
 -- After one row is read, the text so far and the rows after it give the same text as before with
 -- that row.
-abbrev pub AddsRow : Bool → List Cell → RowState → List Cell → List ℕ → List Cell
-    → RowState → Type 0
-AddsRow is_literal old was text break new is =
+abbrev pub AddsRow : Bool → RowState → List Cell → List ℕ → RowState → Type 0
+AddsRow is_literal was text break is =
     (k : Chomping) (rs : List BlockLine) →
-    old ++ block.text_after is_literal k (last_row was.last) was.empties.items
+    was.text ++ block.text_after is_literal k (last_row was.pending.last) was.pending.empties.items
     (record { text = text; break = break } ∷ rs)
-    ≡ new ++ block.text_after is_literal k (last_row is.last) is.empties.items rs
+    ≡ is.text
+    ++ block.text_after is_literal k (last_row is.pending.last) is.pending.empties.items rs
 
 abbrev pub EndsRow : RowState → List Cell → RowState → Type 0
 EndsRow was text is = last_end text was.end ≡ is.end
@@ -90,8 +92,8 @@ EndsRow was text is = last_end text was.end ≡ is.end
 abbrev pub last_line : List ℕ → ℕ → List BlockLine
 last_line bytes from = record { text = cells_between bytes from (length bytes); break = [] } ∷ []
 
--- the rows from offset `at` are read: `new` is all text, and the remaining lines begin at `r.next`
-abbrev pub ReadsRows : List ℕ → BlockStyle → List Cell → ℕ → ℕ → List Cell → RowsRead → Type 0
-ReadsRows bytes style old at end new r =
-    with_text old (rest_of style style.explicit None [] end (lines_at bytes at))
-    ≡ record { text = new; end = r.end; left = lines_at bytes r.next }
+-- the rows from offset `at` are read: `is` has all text, and the remaining lines begin at `next`
+abbrev pub ReadsRows : List ℕ → BlockStyle → ℕ → RowState → RowState → ℕ → Type 0
+ReadsRows bytes style at was is next =
+    rest_of style style.explicit was (lines_at bytes at)
+    ≡ record { text = is.text; end = is.end; left = lines_at bytes next }

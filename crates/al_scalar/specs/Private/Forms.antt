@@ -35,18 +35,19 @@ quote_len style.DoubleQuoted = 1
 quote_len _ = 0
 
 abbrev pub scalar_of : scalar.ScalarForm → Scalar
-scalar_of (scalar.TheVariants.Short t style class) =
+scalar_of (scalar.TheVariants.Short t kind) =
     record {
-      style = style;
-      class = class;
+      style = kind.style;
+      class = kind.class;
       cells = short_cells t;
-      span = short_span (quote_len style) t;
+      span = short_span (quote_len kind.style) t;
     }
-scalar_of (scalar.TheVariants.Long t style class at) =
-    record { style = style; class = class; cells = t.value; span = at }
+scalar_of (scalar.TheVariants.Long t kind at) =
+    record { style = kind.style; class = kind.class; cells = t.value; span = at }
 
 -- a short text is sound, and so is its span
 abbrev pub IsSoundScalar : scalar.ScalarForm → Type 0
-IsSoundScalar (scalar.TheVariants.Short t style class) =
-    IsSound (Short t) × (quote_len style ≤ t.first) × (t.first + t.count + quote_len style < 2 ^ 32)
-IsSoundScalar (scalar.TheVariants.Long t style class at) = Unit {0}
+IsSoundScalar (scalar.TheVariants.Short t kind) =
+    IsSound (Short t) × (quote_len kind.style ≤ t.first)
+    × (t.first + t.count + quote_len kind.style < 2 ^ 32)
+IsSoundScalar (scalar.TheVariants.Long t kind at) = Unit {0}

@@ -1,22 +1,12 @@
-use Rattle.std.proofs.Common.{◌-◌, ◌<◌, Some, None, ap, sym, subst, arith, length}
-use Rattle.al_scalar.specs.Taken.{with_text}
-use Rattle.al_scalar.specs.Places.{lines_at}
-use Rattle.al_scalar.specs.Private.BlockRead.{RowStarts, rest_of, last_row}
+use Rattle.std.proofs.Common.{◌-◌, ◌<◌, Some, subst, arith, length}
+use Rattle.al_scalar.specs.Private.BlockRead.{RowStarts, last_row}
 use Rattle.al_scalar.proofs.RowLemmas.{rows-last, rows-more}
 use Rattle.al_scalar.proofs.block.read_rows.Goals as goal
-
-pub rows-init : goal.rows-init
-rows-init c = record {
-  from = omega arith;
-  after = c.requires.order;
-  inside = c.requires.inside;
-  rows = ap (λ es. with_text c.args.text.now (rest_of c.args.style c.args.style.explicit None es c.args.header (lines_at c.args.bytes.now c.args.at))) (sym c.new.ensures.items);
-}
 
 pub rows-smaller : goal.rows-smaller
 rows-smaller c =
     let bytes = c.args.bytes.now in
-    let start : RowStarts bytes c.rows.i c.args.style.indent c.rows.found (Some c.in-Some.row) = subst
+    let start : RowStarts bytes c.rows.i c.args.style.indent c.rows.found (Some c.in-Some.start) = subst
     (λ r. RowStarts bytes c.rows.i c.args.style.indent c.rows.found r) c.in-Some.is c.row_start.ensures in
     let less : length bytes - c.after_break-i.result < length bytes - c.rows.i = omega
     (arith, start.on_line.from, c.line_end-stop.ensures.on_line.from, c.after_break-i.ensures.after, c.after_break-i.ensures.inside) in
@@ -29,13 +19,14 @@ rows-preserved c =
     let i = c.rows.i in
     let was = c.rows.state in
     let is = c.add_row.new.state in
-    let start : RowStarts bytes i style.indent c.rows.found (Some c.in-Some.row) = subst (λ r. RowStarts bytes i style.indent c.rows.found r) c.in-Some.is c.row_start.ensures in
+    let start : RowStarts bytes i style.indent c.rows.found (Some c.in-Some.start) = subst (λ r. RowStarts bytes i style.indent c.rows.found r) c.in-Some.is c.row_start.ensures in
     record {
       from = omega (arith, c.rows.invariant.from, c.in_ok-add_row.ensures.within.0);
       after = omega (arith, c.in_ok-add_row.ensures.within.1, c.after_break-i.ensures.after);
       inside = c.after_break-i.ensures.inside;
-      rows = rows-more c.add_row.new.text c.rows.text style.literal style.chomping style.indent c.rows.found c.in-Some.row.is_blank
-          (last_row was.last) (last_row is.last) was.empties.items is.empties.items was.end is.end bytes i c.in-Some.row.from c.line_end-stop.result c.after_break-i.result
+      rows = rows-more is.text was.text style.literal style.chomping style.indent c.rows.found c.in-Some.start.is_blank
+          (last_row was.pending.last) (last_row is.pending.last) was.pending.empties.items is.pending.empties.items was.end is.end
+          bytes i c.in-Some.start.from c.line_end-stop.result c.after_break-i.result
           c.rows.invariant.rows start.row start.on_line.same c.line_end-stop.ensures.on_line.same c.line_end-stop.ensures.text c.after_break-i.ensures.lines start.blank
           (c.in_ok-add_row.ensures.text style.chomping) c.in_ok-add_row.ensures.end;
     }
@@ -46,7 +37,7 @@ returns-then-stop-bytes-clause-rows c =
     let style = c.args.style in
     let i = c.rows.i in
     let was = c.rows.state in
-    let start : RowStarts bytes i style.indent c.rows.found (Some c.in-Some.row) = subst (λ r. RowStarts bytes i style.indent c.rows.found r) c.in-Some.is c.row_start.ensures in
-    rows-last c.end_row.new.text c.rows.text style.literal style.chomping style.indent c.rows.found (last_row was.last)
-    was.empties.items was.end c.in_ok-end.end bytes i c.in-Some.row.from c.line_end-stop.result
-    c.rows.invariant.rows start.row start.on_line.same c.line_end-stop.ensures.on_line.same c.line_end-stop.ensures.text c.if-stop-bytes.true c.in_ok-end.ensures.text c.in_ok-end.ensures.end
+    let start : RowStarts bytes i style.indent c.rows.found (Some c.in-Some.start) = subst (λ r. RowStarts bytes i style.indent c.rows.found r) c.in-Some.is c.row_start.ensures in
+    rows-last c.end_row.new.state.text was.text style.literal style.chomping style.indent c.rows.found (last_row was.pending.last)
+    was.pending.empties.items was.end c.end_row.new.state.end bytes i c.in-Some.start.from c.line_end-stop.result
+    c.rows.invariant.rows start.row start.on_line.same c.line_end-stop.ensures.on_line.same c.line_end-stop.ensures.text c.if-stop-bytes.true c.in_ok-end_row.ensures.text c.in_ok-end_row.ensures.end
