@@ -8,7 +8,9 @@ use Rattle.al_scalar.specs.declared.header.Chomping.{Chomping}
 use Rattle.al_scalar.specs.declared.header.Chomping.TheVariants.{Strip, Clip, Keep}
 use Rattle.al_scalar.specs.Places.{first_text, first_end, lines_at}
 use Rattle.al_scalar.specs.LineEnds.{cells_at, cells_between, broken_line, SameLine, first_last, later}
-use Rattle.al_scalar.specs.Private.BlockRead.{row_like, rest, last_line}
+use Rattle.al_scalar.specs.Private.BlockRead.{row_like, last_row, rest, rest_of, AddsRow, EndsRow, last_line}
+use Rattle.al_scalar.specs.declared.block.BlockStyle.{BlockStyle}
+use Rattle.al_scalar.specs.declared.block.RowState.{RowState}
 use Rattle.al_scalar.proofs.LineLemmas.{cells_between-front}
 use Rattle.al_scalar.proofs.LineCells.{has_line, lines-at_end, lines_at-some}
 
@@ -97,34 +99,36 @@ rest-last lit k m found last es end (l ∷ ls) t h e f = rw (e, f, rows_at) refl
 
 -- ---- the steps of the loop over lines
 
-pub rows-last : {x : Taken} (new text : List Cell) (lit : Bool) (k : Chomping) (m : Option ℕ) (found : Bool) (last : Option BlockLine) (es : List ℕ) (end to : ℕ) (bytes : List ℕ) (i from stop : ℕ)
-    → x ≡ with_text text (rest lit k m found last es end (lines_at bytes i)) → row_of m found (first_text (lines_at bytes i)) ≡ Some (first_text (lines_at bytes from))
+pub rows-last : {x : Taken} (style : BlockStyle) (found : Bool) (was is : RowState) (bytes : List ℕ) (i from stop : ℕ)
+    → x ≡ rest_of style found was (lines_at bytes i) → row_of style.indent found (first_text (lines_at bytes i)) ≡ Some (first_text (lines_at bytes from))
     → SameLine (lines_at bytes i) (lines_at bytes from) → SameLine (lines_at bytes from) (lines_at bytes stop) → first_text (lines_at bytes from) ≡ cells_between bytes from stop
-    → stop ≡ length bytes → new ≡ text ++ text_after lit k last es (last_line bytes from) → to ≡ rows_end end (last_line bytes from)
-    → x ≡ record { text = new; end = to; left = lines_at bytes stop }
-rows-last new text lit k m found last es end to bytes i from stop e r s u w z g h =
+    → stop ≡ length bytes → is.text ≡ was.text ++ text_after style.literal style.chomping (last_row was.pending.last) was.pending.empties.items (last_line bytes from)
+    → is.end ≡ rows_end was.end (last_line bytes from) → x ≡ record { text = is.text; end = is.end; left = lines_at bytes stop }
+rows-last style found was is bytes i from stop e r s u w z g h =
+    let ls = lines_at bytes i in
+    let cells = cells_between bytes from (length bytes) in
     let at_stop = lines-at_end bytes stop z in
-    let ended : first_end (lines_at bytes i) ≡ stop = s.end ∙ u.end ∙ ap first_end at_stop in
-    let is_last : first_last (lines_at bytes i) ≡ true = s.last ∙ u.last ∙ ap first_last at_stop in
-    let row : row_of m found (first_text (lines_at bytes i)) ≡ Some (cells_between bytes from (length bytes)) = r ∙ ap Some (w ∙ ap (cells_between bytes from) z) in
-    e ∙ ap (with_text text) (rest-last lit k m found last es end (lines_at bytes i) (cells_between bytes from (length bytes)) (lines_at-some bytes i) row is_last)
+    let ended : first_end ls ≡ stop = s.end ∙ u.end ∙ ap first_end at_stop in
+    let is_last : first_last ls ≡ true = s.last ∙ u.last ∙ ap first_last at_stop in
+    let row : row_of style.indent found (first_text ls) ≡ Some cells = r ∙ ap Some (w ∙ ap (cells_between bytes from) z) in
+    e ∙ ap (with_text was.text) (rest-last style.literal style.chomping style.indent found (last_row was.pending.last) was.pending.empties.items was.end ls cells
+    (lines_at-some bytes i) row is_last)
     ∙ rw (g, h, ended, at_stop) refl
 
-pub rows-more : {x : Taken} (new text : List Cell) (lit : Bool) (k : Chomping) (m : Option ℕ) (found b : Bool)
-    (last last' : Option BlockLine) (es es' : List ℕ) (end end' : ℕ) (bytes : List ℕ) (i from stop next : ℕ)
-    → x ≡ with_text text (rest lit k m found last es end (lines_at bytes i)) → row_of m found (first_text (lines_at bytes i)) ≡ Some (first_text (lines_at bytes from))
+pub rows-more : {x : Taken} (style : BlockStyle) (found b : Bool) (was is : RowState) (bytes : List ℕ) (i from stop next : ℕ)
+    → x ≡ rest_of style found was (lines_at bytes i) → row_of style.indent found (first_text (lines_at bytes i)) ≡ Some (first_text (lines_at bytes from))
     → SameLine (lines_at bytes i) (lines_at bytes from) → SameLine (lines_at bytes from) (lines_at bytes stop) → first_text (lines_at bytes from) ≡ cells_between bytes from stop
     → lines_at bytes stop ≡ broken_line stop ∷ lines_at bytes next → is_all_blank (first_text (lines_at bytes i)) ≡ b
-    → ((rs : List BlockLine) → text ++ text_after lit k last es (record { text = cells_between bytes from stop; break = stop ∷ [] } ∷ rs) ≡ new ++ text_after lit k last' es' rs)
-    → last_end (cells_between bytes from stop) end ≡ end'
-    → x ≡ with_text new (rest lit k m (found || not b) last' es' end' (lines_at bytes next))
-rows-more new text lit k m found b last last' es es' end end' bytes i from stop next e r s u w z q g h =
+    → AddsRow style.literal was (cells_between bytes from stop) (stop ∷ []) is → EndsRow was (cells_between bytes from stop) is
+    → x ≡ rest_of style (found || not b) is (lines_at bytes next)
+rows-more style found b was is bytes i from stop next e r s u w z q g h =
     let ls = lines_at bytes i in
     let cells = cells_between bytes from stop in
     let ended : first_end ls ≡ stop = s.end ∙ u.end ∙ ap first_end z in
     let is_last : first_last ls ≡ false = s.last ∙ u.last ∙ ap first_last z in
     let after : later ls ≡ lines_at bytes next = s.later ∙ u.later ∙ ap later z in
-    let row : row_of m found (first_text ls) ≡ Some cells = r ∙ ap Some w in
-    let rs = rows_at m (found || not b) (lines_at bytes next) in
-    e ∙ ap (with_text text) (rest-more lit k m found last es end ls cells (lines_at-some bytes i) row is_last)
-    ∙ rw (q, after, ended, g rs.rows, ← h) refl
+    let row : row_of style.indent found (first_text ls) ≡ Some cells = r ∙ ap Some w in
+    let rs = rows_at style.indent (found || not b) (lines_at bytes next) in
+    e ∙ ap (with_text was.text) (rest-more style.literal style.chomping style.indent found (last_row was.pending.last) was.pending.empties.items was.end ls cells
+    (lines_at-some bytes i) row is_last)
+    ∙ rw (q, after, ended, g style.chomping rs.rows, ← h) refl

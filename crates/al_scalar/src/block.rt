@@ -65,11 +65,9 @@ struct RowState {
     end: usize,
 }
 
-/// The start of a block scalar: the offset of its indicator, whether that is the one of literal
-/// style, and one more than the indent of the enclosing collection.
+/// Whether a block scalar is literal, and one more than the indent of the enclosing collection.
 #[derive(Clone, Copy)]
-pub struct BlockStart {
-    pub at: usize,
+pub struct BlockKind {
     pub literal: bool,
     pub within: u32,
 }
@@ -300,28 +298,29 @@ fn content_indent(bytes: &[u8], first: usize, digit: Option<u8>, within: u32) ->
     }
 }
 
-/// Reads a block scalar.
+/// Reads a block scalar, starting at its indicator.
 pub fn read_block(
     alloc: Global,
     bytes: &[u8],
-    start: BlockStart,
+    at: usize,
+    kind: BlockKind,
 ) -> Result<Result<Taken, FaultAt>, AllocError>
-    requires inside { start.at < length bytes.now }
-    requires begins { IsLineEnd bytes.now start.at → ⊥ }
+    requires inside { at < length bytes.now }
+    requires begins { IsLineEnd bytes.now at → ⊥ }
     requires size { length bytes.now < 2 ^ 32 }
     ensures gives { IfOk result
         (λ read. Gives bytes.now
-        (block_scalar start.literal start.within (lines_at bytes.now start.at)) read) }
-    ensures within { IfOk result (λ read. StaysWithin bytes.now start.at read) }
+        (block_scalar kind.literal kind.within (lines_at bytes.now at)) read) }
+    ensures within { IfOk result (λ read. StaysWithin bytes.now at read) }
 {
-    let header = indicators(bytes, start.at + 1);
+    let header = indicators(bytes, at + 1);
     if let Some(place) = header_fault(bytes, header.end) {
         return Ok(Err(FaultAt {
             code: YamlCode::WrongBlockHeader,
             at: place,
         }));
     }
-    let text = Text::new(alloc, start.at);
+    let text = Text::new(alloc, at);
     let end = line_end(bytes, header.end);
     if end == bytes.len() {
         return Ok(Ok(Taken {
@@ -332,9 +331,9 @@ pub fn read_block(
     }
     let first = after_break(bytes, end);
     let style = BlockStyle {
-        literal: start.literal,
+        literal: kind.literal,
         chomping: header.chomping,
-        indent: content_indent(bytes, first, header.digit, start.within),
+        indent: content_indent(bytes, first, header.digit, kind.within),
         explicit: header.digit.is_some(),
     };
     let mut state = RowState {
