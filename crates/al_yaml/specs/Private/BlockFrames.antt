@@ -1,5 +1,5 @@
 -- What a stack of open block collections stands for, and how contracts speak of it.
-use Rattle.std.specs.Prelude.{◌≡◌, ℕ, suc, ◌+◌, ◌<◌, ◌≤◌, List, length, map, Bool, true}
+use Rattle.std.specs.Prelude.{◌≡◌, ℕ, suc, ◌+◌, ◌<◌, ◌≤◌, List, [], length, map, Bool, true}
 use Rattle.std.specs.Prelude.{if◌then◌else◌, Option, Some, None, Result, Ok, Err}
 use Rattle.al_base.specs.Limits.{deepest_collection}
 use Rattle.al_scalar.specs.Line.{Line}
@@ -14,10 +14,10 @@ use Rattle.al_yaml_tree.specs.Keys.{Key, no_entry, entry_key}
 use Rattle.al_yaml_tree.specs.Blocks.{BlockReader, rest_below, sequence_entries, mapping_entries}
 use Rattle.al_yaml_tree.specs.Blocks.{block_node, bare_node}
 use Rattle.al_yaml_parts.specs.BlockReads.{IsKeyAfter, IsTabInside, key_seen, slot_of}
-use Rattle.al_yaml_parts.specs.Answers.{then_read, noting}
-use Rattle.al_yaml_parts.specs.Answers.{mark_of}
+use Rattle.al_yaml_parts.specs.Answers.{completing, mark_of, noting, then_read}
 use Rattle.al_yaml_parts.specs.Places.{next_of, IsLineFrom}
 use Rattle.al_yaml_parts.specs.Reads.{State, run, FailsWith, IsPartAfter, part_of}
+use Rattle.al_yaml_parts.specs.Stacks.{HasRoom, OpenCollections}
 use Rattle.al_yaml_tree.specs.View.{view, entry_view, nodes_of, entries_of}
 use Rattle.al_yaml_parts.specs.declared.faults.ReadError.{ReadError}
 use Rattle.al_yaml_parts.specs.declared.part.Part as code
@@ -27,9 +27,11 @@ use Rattle.al_yaml_parts.specs.declared.slots.Slot as slot
 use Rattle.al_yaml_parts.specs.declared.slots.Cursor as cursor
 use Rattle.al_yaml.specs.declared.block.BlockOpen as open_type
 use Rattle.al_yaml.specs.declared.block.BlockOpen.TheVariants as open_code
+use Rattle.al_yaml_parts.specs.declared.frames.BlockFrame.{BlockFrame}
 use Rattle.al_yaml_parts.specs.declared.frames.BlockWaiting as waiting_type
 use Rattle.al_yaml_parts.specs.declared.frames.BlockWaiting.TheVariants as waiting_code
 use Rattle.al_yaml.specs.declared.block.BlockTask as task_type
+use Rattle.al_yaml.specs.declared.block.NodePlace.{NodePlace}
 use Rattle.al_yaml.specs.declared.block.PartBefore as before_type
 use Rattle.al_yaml.specs.declared.block.BlockTask.TheVariants as task
 
@@ -96,6 +98,12 @@ abbrev pub node_reader : ℕ → Option ℕ → BlockReader
 node_reader bound None = block_node bound
 node_reader bound (Some at) = bare_node bound
 
+-- a node from its first character on, or from after its anchor
+abbrev pub node_at : List ℕ → ℕ → ℕ → NodePlace → Reading (Part Node)
+node_at bytes bound depth node =
+    completing bytes node.anchor (node_reader bound node.anchor (slot_of node.slot) depth
+    node.start.column (lines_at bytes node.start.at))
+
 -- where a node may begin
 pub record IsNodeAt (bytes : List ℕ) (s : slot.Slot) (p : cursor.Cursor) : Type 0 where
   pub inside : p.at ≤ length bytes
@@ -114,6 +122,21 @@ pub record IsRestAt (bytes : List ℕ) (s : slot.Slot) (p : cursor.Cursor) (rest
   pub empty : s.empty ≤ length bytes
   pub tab : IsTabInside (length bytes) s.spot
 
+-- a node is read from here on, outside of flow collections
+pub record IsNodeHere (bytes : List ℕ) (now : OpenCollections) (place : NodePlace) : Type 0 where
+  pub outside : now.flows ≡ []
+  pub node : IsNodeAt bytes place.slot place.start
+
+-- a node is looked for from the start of a line on
+pub record IsLineBelow (bytes : List ℕ) (node : NodePlace) : Type 0 where
+  pub inside : node.start.at ≤ length bytes
+  pub within : node.slot.within ≤ node.start.at + 1
+  pub empty : node.slot.empty ≤ length bytes
+
+pub record IsDashAt (bytes : List ℕ) (at : ℕ) : Type 0 where
+  pub dash : content.is_dash (text_at bytes at) ≡ true
+  pub inside : at < length bytes
+
 abbrev pub IsNextInside : ℕ → Next → Type 0
 IsNextInside size next.Ended = Unit {0}
 IsNextInside size (next.Line indent at) = (at ≤ size) × (indent ≤ at)
@@ -122,6 +145,17 @@ IsNextInside size (next.Line indent at) = (at ≤ size) × (indent ≤ at)
 abbrev pub IsNextAt : Next → ℕ → Type 0
 IsNextAt next.Ended at = ⊥
 IsNextAt (next.Line indent first) at = at ≡ first
+
+-- an entry of a collection at a column, which begins the next content line
+pub record IsEntryOn (size indent : ℕ) (line : Next) (at : ℕ) : Type 0 where
+  pub inside : at ≤ size
+  pub column : indent ≤ at
+  pub here : IsNextAt line at
+
+-- a further entry is looked for in an open block collection
+pub record IsEntryHere (size : ℕ) (now : OpenCollections) (at : ℕ) : Type 0 where
+  pub inside : at ≤ size
+  pub room : HasRoom now
 
 -- the next content line after a part
 abbrev pub IsNextAfter : List ℕ → code.Part → Next → Type 0
@@ -155,6 +189,13 @@ pub record IsReadBefore (bytes : List ℕ) (r : before_type.PartBefore) : Type 0
   pub inside : r.part.next ≤ length bytes
   pub end : r.part.end ≤ length bytes
   pub next : IsNextAfter bytes r.part r.next
+
+-- a collection that was popped waits for it
+pub record IsReadFor (bytes : List ℕ) (now : OpenCollections) (f : BlockFrame)
+    (r : before_type.PartBefore) : Type 0 where
+  pub start : f.begun.start.at ≤ length bytes
+  pub read : IsReadBefore bytes r
+  pub room : HasRoom now
 
 -- a part that was found from an offset on, with the line after it
 abbrev pub IsFoundPart : List ℕ → ℕ → before_type.PartBefore → Type 0
