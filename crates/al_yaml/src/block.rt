@@ -6,7 +6,7 @@ ghost use Rattle.al_yaml.specs.Private.BlockFrames.{IsFoundFrom, IsLineBelow, Is
 ghost use Rattle.al_yaml.specs.Private.BlockFrames.{IsNodeAt, IsOpenAt, IsReadFor, IsRestAt};
 ghost use Rattle.al_yaml.specs.Private.BlockFrames.{IsResumed, ResumesBlock};
 ghost use Rattle.al_yaml.specs.Private.BlockFrames.{block_open_of, block_rest, block_waiting_of};
-ghost use Rattle.al_yaml.specs.Private.Lying.{IsClosed, LiesInStack, LiesOrFails, LiesOrStops};
+ghost use Rattle.al_yaml.specs.Private.Lying.{IsOutside, LiesInStack, LiesOrFails, LiesOrStops};
 ghost use Rattle.al_yaml_parts.specs.BlockReads.{next_found, slot_of};
 ghost use Rattle.al_yaml_tree.specs.Blocks as block;
 ghost use Rattle.al_yaml_parts.specs.Files.{left_at, size};
@@ -162,10 +162,9 @@ fn enter(
                 in_mapping: false,
                 empty: at + 1,
             };
-            let start = Cursor { at, column };
             let place = NodePlace {
                 slot,
-                start,
+                start: Cursor { at, column },
                 anchor: None,
             };
             let task = find_rest(file, state, place, at + 1)?;
@@ -179,10 +178,9 @@ fn enter(
                 in_mapping: true,
                 empty: at,
             };
-            let start = Cursor { at, column: 0 };
             let place = NodePlace {
                 slot,
-                start,
+                start: Cursor { at, column: 0 },
                 anchor: None,
             };
             let task = find_rest(file, state, place, at)?;
@@ -273,8 +271,7 @@ pub fn read_block_node(
     slot: Slot,
     start: Cursor,
 ) -> Result<Part, ReadError>
-    requires node { IsNodeAt file.now.bytes.now slot start }
-    requires closed { IsClosed progress.old.stack }
+    requires { IsOutside (IsNodeAt file.now.bytes.now slot start) progress.old.stack }
     ensures is { (bound : ℕ) → size file.now < bound + start.at
         → IsRead (part_of file.now.bytes.now)
         (block.block_node bound (slot_of slot) 1 start.column (left_at file.now start.at))

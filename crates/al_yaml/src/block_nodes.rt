@@ -1,19 +1,20 @@
 //! Nodes in block context that are read in one step, and the beginnings of collections.
 
 ghost use Rattle.al_scalar.specs.Places.{text_at};
-ghost use Rattle.al_yaml.specs.Private.BlockFrames.{Begins, IsBegun, IsDashAt, IsNodeHere, node_at};
+ghost use Rattle.al_yaml.specs.Private.BlockFrames.{Begins, IsBegun, IsDashHere, IsFlowHere};
+ghost use Rattle.al_yaml.specs.Private.BlockFrames.{IsKeyHere, IsNodeHere, IsPropertyHere};
+ghost use Rattle.al_yaml.specs.Private.BlockFrames.{node_at};
 ghost use Rattle.al_yaml.specs.Private.Lying.{LiesInStack, LiesOrStops};
 ghost use Rattle.al_yaml_parts.specs.Answers.{completing};
-ghost use Rattle.al_yaml_parts.specs.BlockReads.{IsKeyAfter, key_seen, slot_of, spot_of};
+ghost use Rattle.al_yaml_parts.specs.BlockReads.{key_seen, slot_of, spot_of};
 ghost use Rattle.al_yaml_tree.specs.Blocks as block;
 ghost use Rattle.al_yaml_tree.specs.Content as content;
 ghost use Rattle.al_yaml_parts.specs.Files.{left_at, size};
 ghost use Rattle.al_yaml_tree.specs.Flow as flow;
-ghost use Rattle.al_yaml_parts.specs.FlowReads.{IsBracket};
 ghost use Rattle.al_yaml_tree.specs.Keys as keys;
 ghost use Rattle.al_yaml_parts.specs.Reads.{IsPartAfter, IsRead, part_of, state_of};
 ghost use Rattle.al_yaml_parts.specs.Stacks.{depth_in};
-ghost use Rattle.std.specs.Prelude.{IfOk, [], length, not, suc, true, ℕ, ◌&&◌, ◌+◌, ◌<◌};
+ghost use Rattle.std.specs.Prelude.{IfOk, length, not, suc, true, ℕ, ◌&&◌, ◌+◌, ◌<◌};
 ghost use Rattle.std.specs.Prelude.{◌||◌, ◌≡◌, ◌≤◌};
 
 use crate::block::{BlockOpen, BlockTask, NodePlace, OpenBlock, find_rest};
@@ -63,8 +64,7 @@ fn read_line_flow(
     spot: Spot,
     at: usize,
 ) -> Result<Part, ReadError>
-    requires bracket { IsBracket file.now.bytes.now at at }
-    requires outside { progress.old.stack.flows ≡ [] }
+    requires { IsFlowHere file.now.bytes.now progress.old.stack at }
     ensures is { (bound : ℕ) → size file.now < bound + at
         → IsRead (part_of file.now.bytes.now) (block.flow_at (flow.flow_collection bound)
         (spot_of spot) (depth_in progress.old.stack) (left_at file.now at))
@@ -129,8 +129,7 @@ fn read_property(
     progress: &mut Progress,
     node: NodePlace,
 ) -> Result<BlockTask, ReadError>
-    requires here { IsNodeHere file.now.bytes.now progress.old.stack node }
-    requires property { content.is_property (text_at file.now.bytes.now node.start.at) ≡ true }
+    requires { IsPropertyHere file.now.bytes.now progress.old.stack node }
     ensures is { (bound : ℕ) → Begins file.now.bytes.now bound (depth_in progress.old.stack)
         (node_at file.now.bytes.now (suc bound) (depth_in progress.old.stack) node)
         (state_of progress.old.state) result (state_of progress.new.state) }
@@ -153,12 +152,8 @@ fn read_property(
     }
     let rest = property_end(file.bytes, node.start.at);
     let anchor = Some(node.start.at);
-    find_rest(
-        file,
-        &mut progress.state,
-        NodePlace { anchor, ..node },
-        rest,
-    )
+    let node = NodePlace { anchor, ..node };
+    find_rest(file, &mut progress.state, node, rest)
 }
 
 /// Begins the sequence whose first dash is at an offset.
@@ -167,8 +162,7 @@ fn begin_sequence(
     progress: &mut Progress,
     node: NodePlace,
 ) -> Result<BlockTask, ReadError>
-    requires here { IsNodeHere file.now.bytes.now progress.old.stack node }
-    requires dash { IsDashAt file.now.bytes.now node.start.at }
+    requires { IsDashHere file.now.bytes.now progress.old.stack node }
     ensures is { (bound : ℕ)
         → Begins file.now.bytes.now bound (depth_in progress.old.stack)
         (completing file.now.bytes.now node.anchor
@@ -203,8 +197,7 @@ fn begin_mapping(
     node: NodePlace,
     key: Key,
 ) -> Result<BlockTask, ReadError>
-    requires here { IsNodeHere file.now.bytes.now progress.old.stack node }
-    requires key { IsKeyAfter file.now.bytes.now node.start.at key }
+    requires { IsKeyHere file.now.bytes.now progress.old.stack node key }
     ensures is { (bound : ℕ)
         → Begins file.now.bytes.now bound (depth_in progress.old.stack)
         (completing file.now.bytes.now node.anchor

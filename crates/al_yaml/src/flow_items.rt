@@ -47,6 +47,13 @@ pub struct FlowPlace {
     pub depth: u32,
 }
 
+/// An entry of a flow mapping that was read: its key, and its value with what follows it.
+#[derive(Drop)]
+pub struct EntryRead {
+    pub key: ScalarRead,
+    pub part: Part,
+}
+
 /// How far one step reads: up to what follows a node, or to the opening bracket of a nested
 /// collection.
 #[derive(Clone, Copy)]
@@ -100,17 +107,17 @@ fn put_entry(
     file: &File,
     opening: usize,
     entries: &mut Vec<Entry>,
-    key: ScalarRead,
-    part: Part,
+    entry: EntryRead,
 ) -> Result<After, ReadError>
-    requires { IsOpenIn (size file.now) opening part.next }
+    requires { IsOpenIn (size file.now) opening entry.part.next }
     ensures is { (depth : ℕ) (s : reads.State) → Resumes file.now.bytes.now depth opening
         (frames.value (entries_of (map entry_view entries.old.items))
-        (read_of file.now.bytes.now key))
-        (part_of file.now.bytes.now part) s
+        (read_of file.now.bytes.now entry.key))
+        (part_of file.now.bytes.now entry.part) s
         (frames.entries (entries_of (map entry_view entries.new.items))) result }
-    ensures within { LiesOrStops (size file.now) (IsPut (size file.now) part.next) result }
+    ensures within { LiesOrStops (size file.now) (IsPut (size file.now) entry.part.next) result }
 {
+    let EntryRead { key, part } = entry;
     entries.push(entry_of(key.scalar, part.node))?;
     Ok(after_item(file.bytes, opening, b'}', gap_end(file.bytes, part.next))?)
 }
@@ -141,7 +148,8 @@ fn read_entry(
     };
     match read_flow_value(file, state, opening, &key, depth)? {
         FoundNode::Node(part) => {
-            let after = put_entry(file, opening, &mut mapping.entries, key.read, part)?;
+            let key = key.read;
+            let after = put_entry(file, opening, &mut mapping.entries, EntryRead { key, part })?;
             Ok(FlowStep::AfterNode(after))
         }
         FoundNode::Opens(bracket) => {
@@ -208,12 +216,13 @@ pub fn resume(file: &File, frame: &mut FlowFrame, part: Part) -> Result<After, R
         (waiting_of file.now.bytes.now frame.old.inner.at frame.old.has)
         (part_of file.now.bytes.now part) s (open_of frame.new.has) result }
     ensures within { LiesOrStops (size file.now) (IsPut (size file.now) part.next) result }
+    ensures kept { frame.new ≡ record frame.old { has = frame.new.has } }
 {
     let opening = frame.opening;
     match &mut frame.has {
         Open::Items(items) => put_item(file, opening, items, part),
         Open::Entries(mapping) => match mapping.waits.take() {
-            Some(key) => put_entry(file, opening, &mut mapping.entries, key, part),
+            Some(key) => { put_entry(file, opening, &mut mapping.entries, EntryRead { key, part }) }
             None => Err(ReadError::at(YamlCode::WrongKey, frame.inner.at)),
         },
     }

@@ -15,6 +15,7 @@ use Rattle.al_yaml_tree.specs.Blocks.{BlockReader, rest_below, sequence_entries,
 use Rattle.al_yaml_tree.specs.Blocks.{block_node, bare_node}
 use Rattle.al_yaml_parts.specs.BlockReads.{IsKeyAfter, IsTabInside, key_seen, slot_of}
 use Rattle.al_yaml_parts.specs.Answers.{completing, mark_of, noting, then_read}
+use Rattle.al_yaml_parts.specs.FlowReads.{IsBracket}
 use Rattle.al_yaml_parts.specs.Places.{next_of, IsLineFrom}
 use Rattle.al_yaml_parts.specs.Reads.{State, run, FailsWith, IsPartAfter, part_of}
 use Rattle.al_yaml_parts.specs.Stacks.{HasRoom, OpenCollections}
@@ -22,6 +23,7 @@ use Rattle.al_yaml_tree.specs.View.{view, entry_view, nodes_of, entries_of}
 use Rattle.al_yaml_parts.specs.declared.faults.ReadError.{ReadError}
 use Rattle.al_yaml_parts.specs.declared.part.Part as code
 use Rattle.al_yaml_parts.specs.declared.content.Next.{Next}
+use Rattle.al_yaml_parts.specs.declared.keys.Key as key_type
 use Rattle.al_yaml_parts.specs.declared.content.Next.TheVariants as next
 use Rattle.al_yaml_parts.specs.declared.slots.Slot as slot
 use Rattle.al_yaml_parts.specs.declared.slots.Cursor as cursor
@@ -133,9 +135,27 @@ pub record IsLineBelow (bytes : List ℕ) (node : NodePlace) : Type 0 where
   pub within : node.slot.within ≤ node.start.at + 1
   pub empty : node.slot.empty ≤ length bytes
 
-pub record IsDashAt (bytes : List ℕ) (at : ℕ) : Type 0 where
-  pub dash : content.is_dash (text_at bytes at) ≡ true
-  pub inside : at < length bytes
+-- the first entry of a block sequence is read from here on
+pub record IsDashHere (bytes : List ℕ) (now : OpenCollections) (place : NodePlace) : Type 0 where
+  pub here : IsNodeHere bytes now place
+  pub dash : content.is_dash (text_at bytes place.start.at) ≡ true
+  pub inside : place.start.at < length bytes
+
+-- the first key of a block mapping was read from here on
+pub record IsKeyHere (bytes : List ℕ) (now : OpenCollections) (place : NodePlace)
+    (read : key_type.Key) : Type 0 where
+  pub here : IsNodeHere bytes now place
+  pub key : IsKeyAfter bytes place.start.at read
+
+-- an anchor or alias is read from here on
+pub record IsPropertyHere (bytes : List ℕ) (now : OpenCollections) (place : NodePlace) : Type 0 where
+  pub here : IsNodeHere bytes now place
+  pub property : content.is_property (text_at bytes place.start.at) ≡ true
+
+-- a flow collection is read from here on, in block context
+pub record IsFlowHere (bytes : List ℕ) (now : OpenCollections) (at : ℕ) : Type 0 where
+  pub outside : now.flows ≡ []
+  pub bracket : IsBracket bytes at at
 
 abbrev pub IsNextInside : ℕ → Next → Type 0
 IsNextInside size next.Ended = Unit {0}
@@ -184,17 +204,13 @@ Begins bytes bound depth reading before (Ok (task.Found r)) after =
     run before reading ≡ Ok (part_of bytes r.part, after)
 Begins bytes bound depth reading before (Err e) after = FailsWith reading before e
 
--- a node in a collection that begins at an offset was read, and the line after it
-pub record IsReadBefore (bytes : List ℕ) (r : before_type.PartBefore) : Type 0 where
-  pub inside : r.part.next ≤ length bytes
-  pub end : r.part.end ≤ length bytes
-  pub next : IsNextAfter bytes r.part r.next
-
--- a collection that was popped waits for it
+-- a node was read, and the line after it, for which a collection that was popped waits
 pub record IsReadFor (bytes : List ℕ) (now : OpenCollections) (f : BlockFrame)
     (r : before_type.PartBefore) : Type 0 where
   pub start : f.begun.start.at ≤ length bytes
-  pub read : IsReadBefore bytes r
+  pub inside : r.part.next ≤ length bytes
+  pub end : r.part.end ≤ length bytes
+  pub next : IsNextAfter bytes r.part r.next
   pub room : HasRoom now
 
 -- a part that was found from an offset on, with the line after it

@@ -1,5 +1,5 @@
 -- What the whole collection answers, told by the flow collections that are open in it.
-use Rattle.std.specs.Prelude.{◌≡◌, ℕ, ◌+◌, List, length, map, Result, Ok, Err}
+use Rattle.std.specs.Prelude.{ℕ, ◌+◌, List, length, map, Result, Ok, Err}
 use Rattle.al_scalar.specs.Places.{lines_at}
 use Rattle.al_yaml_tree.specs.Flow.{flow_collection}
 use Rattle.al_yaml.specs.Private.FlowFrames.{IsMadeOf, frame_of, open_of}

@@ -19,7 +19,8 @@ pub record LiesInStack {A : Type 0} (lies : A → Type 0) (before after : OpenCo
   pub there : lies x
   pub same : after ≡ before
 
--- no collection is open
-pub record IsClosed (now : OpenCollections) : Type 0 where
+-- What is said of a place holds, and no collection is open.
+pub record IsOutside (Here : Type 0) (now : OpenCollections) : Type 0 where
+  pub here : Here
   pub outside : now.flows ≡ []
   pub none : now.blocks ≡ []
