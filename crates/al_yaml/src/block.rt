@@ -13,7 +13,7 @@ ghost use Rattle.al_yaml_parts.specs.Files.{left_at, size};
 ghost use Rattle.al_yaml_parts.specs.Places.{Shows, next_of, option_lines};
 ghost use Rattle.al_yaml_parts.specs.Reads.{IsPartAfter, IsRead, part_of, state_of};
 ghost use Rattle.al_yaml_parts.specs.Stacks.{depth_in};
-ghost use Rattle.std.specs.Prelude.{IfSome, Ok, length, suc, ℕ, ◌+◌, ◌<◌, ◌≡◌};
+ghost use Rattle.std.specs.Prelude.{IfSome, Ok, length, suc, ℕ, ◌+◌, ◌<◌};
 
 use crate::block_nodes::read_node;
 use crate::entries::{entry_key, no_entry};

@@ -148,7 +148,8 @@ pub record IsKeyHere (bytes : List ℕ) (now : OpenCollections) (place : NodePla
   pub key : IsKeyAfter bytes place.start.at read
 
 -- an anchor or alias is read from here on
-pub record IsPropertyHere (bytes : List ℕ) (now : OpenCollections) (place : NodePlace) : Type 0 where
+pub record IsPropertyHere (bytes : List ℕ) (now : OpenCollections)
+    (place : NodePlace) : Type 0 where
   pub here : IsNodeHere bytes now place
   pub property : content.is_property (text_at bytes place.start.at) ≡ true
 
