@@ -4,4 +4,5 @@ pub mod BlockFrames
 pub mod FlowAnswers
 pub mod FlowFrames
 pub mod Frames
+pub mod Lying
 pub mod Nested

@@ -1,19 +1,19 @@
 //! Reading nodes in block context from front to back: the loop over the open block collections, and
 //! its steps.
 
-ghost use Rattle.al_yaml.specs.Private.BlockFrames.{Enters, FindsBlock, IsEntered, IsFoundFrom};
-ghost use Rattle.al_yaml.specs.Private.BlockFrames.{IsNextAt, IsNodeAt};
-ghost use Rattle.al_yaml.specs.Private.BlockFrames.{IsNextInside, IsOpenAt, IsReadBefore, IsRestAt};
+ghost use Rattle.al_yaml.specs.Private.BlockFrames.{Enters, FindsBlock, IsEntered, IsEntryOn};
+ghost use Rattle.al_yaml.specs.Private.BlockFrames.{IsFoundFrom, IsLineBelow, IsNextInside};
+ghost use Rattle.al_yaml.specs.Private.BlockFrames.{IsNodeAt, IsOpenAt, IsReadFor, IsRestAt};
 ghost use Rattle.al_yaml.specs.Private.BlockFrames.{IsResumed, ResumesBlock};
 ghost use Rattle.al_yaml.specs.Private.BlockFrames.{block_open_of, block_rest, block_waiting_of};
+ghost use Rattle.al_yaml.specs.Private.Lying.{IsOutside, LiesInStack, LiesOrFails, LiesOrStops};
 ghost use Rattle.al_yaml_parts.specs.BlockReads.{next_found, slot_of};
 ghost use Rattle.al_yaml_tree.specs.Blocks as block;
 ghost use Rattle.al_yaml_parts.specs.Files.{left_at, size};
 ghost use Rattle.al_yaml_parts.specs.Places.{Shows, next_of, option_lines};
-ghost use Rattle.al_yaml_parts.specs.Reads.{IsPartAfter, IsRead, IsStopInside, part_of, state_of};
-ghost use Rattle.al_yaml_parts.specs.Stacks.{HasRoom, depth_in};
-ghost use Rattle.std.specs.Prelude.{IfErr, IfOk, IfSome, Ok, [], length, suc, ℕ, ◌+◌, ◌<◌, ◌≡◌};
-ghost use Rattle.std.specs.Prelude.{◌≤◌};
+ghost use Rattle.al_yaml_parts.specs.Reads.{IsPartAfter, IsRead, part_of, state_of};
+ghost use Rattle.al_yaml_parts.specs.Stacks.{depth_in};
+ghost use Rattle.std.specs.Prelude.{IfSome, Ok, length, suc, ℕ, ◌+◌, ◌<◌};
 
 use crate::block_nodes::read_node;
 use crate::entries::{entry_key, no_entry};
@@ -81,61 +81,56 @@ pub enum BlockTask {
 pub fn find_rest(
     file: &File,
     state: &mut State,
-    slot: Slot,
-    start: Cursor,
-    anchor: Option<usize>,
+    node: NodePlace,
     rest: usize,
 ) -> Result<BlockTask, ReadError>
-    requires rest { IsRestAt file.now.bytes.now slot start rest }
-    ensures fault { IfErr result (IsStopInside (size file.now)) }
-    ensures is { (node : block.BlockReader) (depth : ℕ) → FindsBlock file.now.bytes.now node anchor
-        depth (block.rest_node node (slot_of slot) depth start.column (left_at file.now start.at)
-        (left_at file.now rest)) (state_of state.old) result (state_of state.new) }
-    ensures within { IfOk result (λ task. IsFoundFrom file.now.bytes.now rest task) }
+    requires { IsRestAt file.now.bytes.now node.slot node.start rest }
+    ensures is { (reader : block.BlockReader) (depth : ℕ)
+        → FindsBlock file.now.bytes.now reader node.anchor depth
+        (block.rest_node reader (slot_of node.slot) depth node.start.column
+        (left_at file.now node.start.at) (left_at file.now rest))
+        (state_of state.old) result (state_of state.new) }
+    ensures within { LiesOrStops (size file.now) (IsFoundFrom file.now.bytes.now rest) result }
 {
     if is_skipped(file.bytes, rest) {
-        return find_below(file, state, slot, anchor, next_line(file.bytes, rest));
+        let at = next_line(file.bytes, rest);
+        let start = Cursor { at, column: 0 };
+        return find_below(file, state, NodePlace { start, ..node });
     }
     let at = blanks_end(file.bytes, rest);
-    let spot = spot_after(file.bytes, rest, slot.spot);
-    let column = start.column + characters(file.bytes, start.at, at);
+    let spot = spot_after(file.bytes, rest, node.slot.spot);
+    let column = node.start.column + characters(file.bytes, node.start.at, at);
     Ok(BlockTask::Node(NodePlace {
-        slot: Slot { spot, ..slot },
+        slot: Slot { spot, ..node.slot },
         start: Cursor { at, column },
-        anchor,
+        ..node
     }))
 }
 
-/// Finds the node on the next content line if it is there; otherwise reads the empty node.
-fn find_below(
-    file: &File,
-    state: &mut State,
-    slot: Slot,
-    anchor: Option<usize>,
-    at: usize,
-) -> Result<BlockTask, ReadError>
-    requires inside { at ≤ size file.now }
-    requires within { slot.within ≤ at + 1 }
-    requires empty { slot.empty ≤ size file.now }
-    ensures fault { IfErr result (IsStopInside (size file.now)) }
-    ensures is { (node : block.BlockReader) (depth : ℕ) → FindsBlock file.now.bytes.now node
-        anchor depth (block.node_below node (slot_of slot) depth (left_at file.now at))
+/// Finds the node on the next content line, from the start of a line on, if it is there; otherwise
+/// reads the empty node.
+fn find_below(file: &File, state: &mut State, node: NodePlace) -> Result<BlockTask, ReadError>
+    requires { IsLineBelow file.now.bytes.now node }
+    ensures is { (reader : block.BlockReader) (depth : ℕ)
+        → FindsBlock file.now.bytes.now reader node.anchor depth
+        (block.node_below reader (slot_of node.slot) depth (left_at file.now node.start.at))
         (state_of state.old) result (state_of state.new) }
-    ensures within { IfOk result (λ task. IsFoundFrom file.now.bytes.now at task) }
+    ensures within { LiesOrStops (size file.now)
+        (IsFoundFrom file.now.bytes.now node.start.at) result }
 {
-    let found = next_content(file.bytes, at)?;
+    let found = next_content(file.bytes, node.start.at)?;
     match found {
-        Next::Line { indent: column, at } if is_deeper(file.bytes, slot, column, at) => {
+        Next::Line { indent: column, at } if is_deeper(file.bytes, node.slot, column, at) => {
             let spot = Spot::OwnLine;
             Ok(BlockTask::Node(NodePlace {
-                slot: Slot { spot, ..slot },
+                slot: Slot { spot, ..node.slot },
                 start: Cursor { at, column },
-                anchor,
+                ..node
             }))
         }
         _ => {
-            let empty = empty_part(file, state, slot.empty, at)?;
-            let part = complete(file, state, anchor, empty)?;
+            let empty = empty_part(file, state, node.slot.empty, node.start.at)?;
+            let part = complete(file, state, node.anchor, empty)?;
             Ok(BlockTask::Found(PartBefore { part, next: found }))
         }
     }
@@ -148,15 +143,14 @@ fn enter(
     state: &mut State,
     inside: OpenBlock,
 ) -> Result<(BlockWaiting, BlockTask), ReadError>
-    requires has { IsOpenAt file.now.bytes.now inside.begun.start.column inside.at inside.has }
-    ensures fault { IfErr result (IsStopInside (size file.now)) }
-    ensures within { IfOk result (λ r. IsEntered file.now.bytes.now inside.at r) }
+    requires { IsOpenAt file.now.bytes.now inside.begun.start.column inside.at inside.has }
     ensures is { (bound turns depth : ℕ)
         → Enters file.now.bytes.now bound turns depth inside.begun.start.at
         inside.begun.start.column
         (block_rest (suc turns) bound depth inside.begun.start.at inside.begun.start.column
         (block_open_of file.now.bytes.now inside.has)
         (left_at file.now inside.at)) (state_of state.old) result (state_of state.new) }
+    ensures within { LiesOrStops (size file.now) (IsEntered file.now.bytes.now inside.at) result }
 {
     let OpenBlock { begun, has, at } = inside;
     let column = begun.start.column;
@@ -168,7 +162,12 @@ fn enter(
                 in_mapping: false,
                 empty: at + 1,
             };
-            let task = find_rest(file, state, slot, Cursor { at, column }, None, at + 1)?;
+            let place = NodePlace {
+                slot,
+                start: Cursor { at, column },
+                anchor: None,
+            };
+            let task = find_rest(file, state, place, at + 1)?;
             Ok((BlockWaiting::Item(in_mapping, items), task))
         }
         BlockOpen::Entries(entries, key) => {
@@ -179,7 +178,12 @@ fn enter(
                 in_mapping: true,
                 empty: at,
             };
-            let task = find_rest(file, state, slot, Cursor { at, column: 0 }, None, at)?;
+            let place = NodePlace {
+                slot,
+                start: Cursor { at, column: 0 },
+                anchor: None,
+            };
+            let task = find_rest(file, state, place, at)?;
             Ok((BlockWaiting::Value(entries, key.read), task))
         }
     }
@@ -189,12 +193,10 @@ fn enter(
 /// there.
 fn entry_on(bytes: &[u8], column: usize, next: Next) -> Result<Option<usize>, FaultAt>
     requires { IsNextInside (length bytes.now) next }
-    ensures fault { IfErr result (λ f. f.at ≤ length bytes.now) }
     ensures is { Shows (option_lines bytes.now)
         (next_found column (next_of bytes.now next)) result }
-    ensures inside { IfOk result (λ found. IfSome found (λ at. at ≤ length bytes.now)) }
-    ensures column { IfOk result (λ found. IfSome found (λ at. column ≤ at)) }
-    ensures here { IfOk result (λ found. IfSome found (IsNextAt next)) }
+    ensures within { LiesOrFails (length bytes.now)
+        (λ found. IfSome found (IsEntryOn (length bytes.now) column next)) result }
 {
     match next {
         Next::Line { indent, at } if indent == column => Ok(Some(at)),
@@ -212,10 +214,7 @@ fn resume_block(
     frame: BlockFrame,
     read: PartBefore,
 ) -> Result<BlockTask, ReadError>
-    requires start { frame.begun.start.at ≤ size file.now }
-    requires read { IsReadBefore file.now.bytes.now read }
-    requires room { HasRoom progress.old.stack }
-    ensures fault { IfErr result (IsStopInside (size file.now)) }
+    requires { IsReadFor file.now.bytes.now progress.old.stack frame read }
     ensures is { (bound turns : ℕ) → size file.now < suc bound + read.part.next
         → ResumesBlock file.now.bytes.now bound turns
         (depth_in progress.old.stack + 1) frame.begun.start.at
@@ -223,8 +222,9 @@ fn resume_block(
         (block_waiting_of file.now.bytes.now frame.waiting)
         (part_of file.now.bytes.now read.part) (state_of progress.old.state) result
         (state_of progress.new.state) }
-    ensures within { IfOk result (λ task. IsResumed file.now.bytes.now read.part.next task) }
-    ensures same { IfOk result (λ _. progress.new.stack ≡ progress.old.stack) }
+    ensures within { LiesOrStops (size file.now)
+        (LiesInStack (IsResumed file.now.bytes.now read.part.next)
+        progress.old.stack progress.new.stack) result }
 {
     let BlockFrame { begun, waiting } = frame;
     let PartBefore { part, next } = read;
@@ -271,15 +271,13 @@ pub fn read_block_node(
     slot: Slot,
     start: Cursor,
 ) -> Result<Part, ReadError>
-    requires node { IsNodeAt file.now.bytes.now slot start }
-    requires outside { progress.old.stack.flows ≡ [] }
-    requires none { progress.old.stack.blocks ≡ [] }
-    ensures fault { IfErr result (IsStopInside (size file.now)) }
+    requires { IsOutside (IsNodeAt file.now.bytes.now slot start) progress.old.stack }
     ensures is { (bound : ℕ) → size file.now < bound + start.at
         → IsRead (part_of file.now.bytes.now)
         (block.block_node bound (slot_of slot) 1 start.column (left_at file.now start.at))
         (state_of progress.old.state) result (state_of progress.new.state) }
-    ensures within { IfOk result (λ part. IsPartAfter file.now.bytes.now start.at part) }
+    ensures within { LiesOrStops (size file.now)
+        (IsPartAfter file.now.bytes.now start.at) result }
 {
     let mut task = BlockTask::Node(NodePlace {
         slot,

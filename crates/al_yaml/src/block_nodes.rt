@@ -1,17 +1,20 @@
 //! Nodes in block context that are read in one step, and the beginnings of collections.
 
 ghost use Rattle.al_scalar.specs.Places.{text_at};
-ghost use Rattle.al_yaml.specs.Private.BlockFrames.{Begins, IsBegun, IsNodeAt, node_reader};
+ghost use Rattle.al_yaml.specs.Private.BlockFrames.{Begins, IsBegun, IsDashHere, IsFlowHere};
+ghost use Rattle.al_yaml.specs.Private.BlockFrames.{IsKeyHere, IsNodeHere, IsPropertyHere};
+ghost use Rattle.al_yaml.specs.Private.BlockFrames.{node_at};
+ghost use Rattle.al_yaml.specs.Private.Lying.{LiesInStack, LiesOrStops};
 ghost use Rattle.al_yaml_parts.specs.Answers.{completing};
-ghost use Rattle.al_yaml_parts.specs.BlockReads.{IsKeyAfter, key_seen, slot_of, spot_of};
+ghost use Rattle.al_yaml_parts.specs.BlockReads.{key_seen, slot_of, spot_of};
 ghost use Rattle.al_yaml_tree.specs.Blocks as block;
 ghost use Rattle.al_yaml_tree.specs.Content as content;
 ghost use Rattle.al_yaml_parts.specs.Files.{left_at, size};
 ghost use Rattle.al_yaml_tree.specs.Flow as flow;
 ghost use Rattle.al_yaml_tree.specs.Keys as keys;
-ghost use Rattle.al_yaml_parts.specs.Reads.{IsPartAfter, IsRead, IsStopInside, part_of, state_of};
+ghost use Rattle.al_yaml_parts.specs.Reads.{IsPartAfter, IsRead, part_of, state_of};
 ghost use Rattle.al_yaml_parts.specs.Stacks.{depth_in};
-ghost use Rattle.std.specs.Prelude.{IfErr, IfOk, [], length, not, suc, true, ℕ, ◌&&◌, ◌+◌, ◌<◌};
+ghost use Rattle.std.specs.Prelude.{IfOk, length, not, suc, true, ℕ, ◌&&◌, ◌+◌, ◌<◌};
 ghost use Rattle.std.specs.Prelude.{◌||◌, ◌≡◌, ◌≤◌};
 
 use crate::block::{BlockOpen, BlockTask, NodePlace, OpenBlock, find_rest};
@@ -61,16 +64,14 @@ fn read_line_flow(
     spot: Spot,
     at: usize,
 ) -> Result<Part, ReadError>
-    requires inside { at < size file.now }
-    requires bracket { content.is_flow_start (text_at file.now.bytes.now at) ≡ true }
-    requires outside { progress.old.stack.flows ≡ [] }
-    ensures fault { IfErr result (IsStopInside (size file.now)) }
+    requires { IsFlowHere file.now.bytes.now progress.old.stack at }
     ensures is { (bound : ℕ) → size file.now < bound + at
         → IsRead (part_of file.now.bytes.now) (block.flow_at (flow.flow_collection bound)
         (spot_of spot) (depth_in progress.old.stack) (left_at file.now at))
         (state_of progress.old.state) result (state_of progress.new.state) }
-    ensures within { IfOk result (λ part. IsPartAfter file.now.bytes.now at part) }
-    ensures same { IfOk result (λ _. progress.new.stack ≡ progress.old.stack) }
+    ensures within { LiesOrStops (size file.now)
+        (LiesInStack (IsPartAfter file.now.bytes.now at) progress.old.stack progress.new.stack)
+        result }
 {
     let depth = progress.stack.depth();
     let part = read_flow_collection(file, progress, depth, at)?;
@@ -88,18 +89,14 @@ pub fn read_node(
     progress: &mut Progress,
     node: NodePlace,
 ) -> Result<BlockTask, ReadError>
-    requires outside { progress.old.stack.flows ≡ [] }
-    requires node { IsNodeAt file.now.bytes.now node.slot node.start }
-    ensures fault { IfErr result (IsStopInside (size file.now)) }
+    requires { IsNodeHere file.now.bytes.now progress.old.stack node }
     ensures is { (bound : ℕ) → size file.now < suc bound + node.start.at
         → Begins file.now.bytes.now bound (depth_in progress.old.stack)
-        (completing file.now.bytes.now node.anchor
-        (node_reader (suc bound) node.anchor (slot_of node.slot)
-        (depth_in progress.old.stack) node.start.column (left_at file.now node.start.at)))
+        (node_at file.now.bytes.now (suc bound) (depth_in progress.old.stack) node)
         (state_of progress.old.state) result (state_of progress.new.state) }
-    ensures within { IfOk result
-        (λ task. IsBegun file.now.bytes.now node.start.at (depth_in progress.old.stack) task) }
-    ensures same { IfOk result (λ _. progress.new.stack ≡ progress.old.stack) }
+    ensures within { LiesOrStops (size file.now) (LiesInStack
+        (IsBegun file.now.bytes.now node.start.at (depth_in progress.old.stack))
+        progress.old.stack progress.new.stack) result }
 {
     if is_property(file.bytes, node.start.at) {
         return read_property(file, progress, node);
@@ -132,18 +129,13 @@ fn read_property(
     progress: &mut Progress,
     node: NodePlace,
 ) -> Result<BlockTask, ReadError>
-    requires outside { progress.old.stack.flows ≡ [] }
-    requires node { IsNodeAt file.now.bytes.now node.slot node.start }
-    requires property { content.is_property (text_at file.now.bytes.now node.start.at) ≡ true }
-    ensures fault { IfErr result (IsStopInside (size file.now)) }
+    requires { IsPropertyHere file.now.bytes.now progress.old.stack node }
     ensures is { (bound : ℕ) → Begins file.now.bytes.now bound (depth_in progress.old.stack)
-        (completing file.now.bytes.now node.anchor
-        (node_reader (suc bound) node.anchor (slot_of node.slot)
-        (depth_in progress.old.stack) node.start.column (left_at file.now node.start.at)))
+        (node_at file.now.bytes.now (suc bound) (depth_in progress.old.stack) node)
         (state_of progress.old.state) result (state_of progress.new.state) }
-    ensures within { IfOk result
-        (λ task. IsBegun file.now.bytes.now node.start.at (depth_in progress.old.stack) task) }
-    ensures same { IfOk result (λ _. progress.new.stack ≡ progress.old.stack) }
+    ensures within { LiesOrStops (size file.now) (LiesInStack
+        (IsBegun file.now.bytes.now node.start.at (depth_in progress.old.stack))
+        progress.old.stack progress.new.stack) result }
 {
     if node.anchor.is_some() || has_no_name(file.bytes, node.start.at) {
         return Err(ReadError::at(YamlCode::UnexpectedCharacter, node.start.at));
@@ -159,8 +151,9 @@ fn read_property(
         return Ok(BlockTask::Read(Part { next, ..part }));
     }
     let rest = property_end(file.bytes, node.start.at);
-    let NodePlace { slot, start, .. } = node;
-    find_rest(file, &mut progress.state, slot, start, Some(start.at), rest)
+    let anchor = Some(node.start.at);
+    let node = NodePlace { anchor, ..node };
+    find_rest(file, &mut progress.state, node, rest)
 }
 
 /// Begins the sequence whose first dash is at an offset.
@@ -169,11 +162,7 @@ fn begin_sequence(
     progress: &mut Progress,
     node: NodePlace,
 ) -> Result<BlockTask, ReadError>
-    requires dash { content.is_dash (text_at file.now.bytes.now node.start.at) ≡ true }
-    requires inside { node.start.at < size file.now }
-    requires node { IsNodeAt file.now.bytes.now node.slot node.start }
-    requires outside { progress.old.stack.flows ≡ [] }
-    ensures fault { IfErr result (IsStopInside (size file.now)) }
+    requires { IsDashHere file.now.bytes.now progress.old.stack node }
     ensures is { (bound : ℕ)
         → Begins file.now.bytes.now bound (depth_in progress.old.stack)
         (completing file.now.bytes.now node.anchor
@@ -181,9 +170,9 @@ fn begin_sequence(
         (suc bound) (slot_of node.slot)
         (depth_in progress.old.stack) node.start.column (left_at file.now node.start.at)))
         (state_of progress.old.state) result (state_of progress.new.state) }
-    ensures within { IfOk result
-        (λ task. IsBegun file.now.bytes.now node.start.at (depth_in progress.old.stack) task) }
-    ensures same { IfOk result (λ _. progress.new.stack ≡ progress.old.stack) }
+    ensures within { LiesOrStops (size file.now) (LiesInStack
+        (IsBegun file.now.bytes.now node.start.at (depth_in progress.old.stack))
+        progress.old.stack progress.new.stack) result }
 {
     let NodePlace { start, anchor, .. } = node;
     if is_after_key(node.slot.spot) {
@@ -208,10 +197,7 @@ fn begin_mapping(
     node: NodePlace,
     key: Key,
 ) -> Result<BlockTask, ReadError>
-    requires key { IsKeyAfter file.now.bytes.now node.start.at key }
-    requires node { IsNodeAt file.now.bytes.now node.slot node.start }
-    requires outside { progress.old.stack.flows ≡ [] }
-    ensures fault { IfErr result (IsStopInside (size file.now)) }
+    requires { IsKeyHere file.now.bytes.now progress.old.stack node key }
     ensures is { (bound : ℕ)
         → Begins file.now.bytes.now bound (depth_in progress.old.stack)
         (completing file.now.bytes.now node.anchor
@@ -220,9 +206,9 @@ fn begin_mapping(
         (depth_in progress.old.stack) node.start.column (left_at file.now node.start.at)
         (key_seen file.now.bytes.now key)))
         (state_of progress.old.state) result (state_of progress.new.state) }
-    ensures within { IfOk result
-        (λ task. IsBegun file.now.bytes.now node.start.at (depth_in progress.old.stack) task) }
-    ensures same { IfOk result (λ _. progress.new.stack ≡ progress.old.stack) }
+    ensures within { LiesOrStops (size file.now) (LiesInStack
+        (IsBegun file.now.bytes.now node.start.at (depth_in progress.old.stack))
+        progress.old.stack progress.new.stack) result }
 {
     let NodePlace { start, anchor, .. } = node;
     let wrong = ReadError::at(YamlCode::WrongKey, start.at);

@@ -1,22 +1,18 @@
 //! Reading flow collections from front to back: the loop over the open ones.
 
-ghost use Rattle.al_base.specs.Limits.{deepest_collection};
-ghost use Rattle.al_scalar.specs.Places.{text_at};
-ghost use Rattle.al_yaml_tree.specs.Content as content;
 ghost use Rattle.al_yaml_parts.specs.Files.{left_at, size};
 ghost use Rattle.al_yaml_tree.specs.Flow as flow;
 ghost use Rattle.al_yaml.specs.Private.FlowAnswers.{Answers, AfterNode, Inside, NodeAnswer};
-ghost use Rattle.al_yaml.specs.Private.FlowFrames.{AreOpen, IsFurther, IsPut, Opens, after_at};
-ghost use Rattle.al_yaml.specs.Private.FlowFrames.{closed_of, frame_of, open_of};
+ghost use Rattle.al_yaml.specs.Private.FlowFrames.{IsCollectionAt, IsFurther, IsMadeOf, IsOn};
+ghost use Rattle.al_yaml.specs.Private.FlowFrames.{IsOpenHere, IsPutIn, Opens, frame_of, open_of};
+ghost use Rattle.al_yaml.specs.Private.Lying.{LiesInStack, LiesOrStops};
+ghost use Rattle.al_yaml_parts.specs.FlowReads.{IsBracket};
 ghost use Rattle.al_yaml_tree.specs.Limits.{broken_limit};
 ghost use Rattle.al_yaml_tree.specs.Reading.{start_of};
 ghost use Rattle.al_yaml_parts.specs.declared.frames.FlowFrame as frame_code;
 ghost use Rattle.al_yaml_parts.specs.Reads as reads;
-ghost use Rattle.al_yaml_parts.specs.Reads.{IsPartAfter, IsRead, IsStopInside, with_nodes, part_of};
-ghost use Rattle.al_yaml_parts.specs.Reads.{state_of};
-ghost use Rattle.al_yaml_tree.specs.View.{view};
-ghost use Rattle.std.specs.Prelude.{IfErr, IfOk, List, None, [], length, map, true, ℕ, ◌+◌, ◌<◌};
-ghost use Rattle.std.specs.Prelude.{◌^◌, ◌∷◌, ◌≡◌, ◌≤◌};
+ghost use Rattle.al_yaml_parts.specs.Reads.{IsPartAfter, IsRead, part_of, state_of, with_nodes};
+ghost use Rattle.std.specs.Prelude.{List, None, [], length, map, ℕ, ◌+◌, ◌<◌, ◌^◌, ◌∷◌, ◌≡◌};
 
 use crate::flow_items::{After, FlowPlace, FlowStep, read_inside, resume};
 use al_scalar::lines::begins;
@@ -39,14 +35,11 @@ pub struct OpenFlow {
 /// The collection whose opening bracket is at an offset, still empty, and what comes first in it.
 #[inline(always)]
 fn open_at(file: &File, opening: usize) -> OpenFlow
-    requires inside { opening < size file.now }
-    requires bracket { content.is_flow_start (text_at file.now.bytes.now opening) ≡ true }
+    requires { IsBracket file.now.bytes.now opening opening }
     ensures is { (depth : ℕ) (s t : reads.State)
         → broken_limit s.nodes s.text (start_of opening 1 depth ∷ []) ≡ None → t ≡ with_nodes 1 s →
         Opens file.now.bytes.now depth opening s (open_of result.has) result.next t }
-    ensures opening { result.opening ≡ opening }
-    ensures from { opening < after_at result.next }
-    ensures end { after_at result.next ≤ size file.now }
+    ensures within { IsOn (size file.now) opening opening result }
 {
     let next = After::GoesOn(gap_end(file.bytes, opening + 1));
     if begins(file.bytes, opening, b'[') {
@@ -65,9 +58,7 @@ fn open_at(file: &File, opening: usize) -> OpenFlow
 fn closed_part(collection: OpenFlow, end: usize) -> Part
     requires start { collection.opening < 2 ^ 32 }
     requires end { end < 2 ^ 32 }
-    ensures node { view result.node ≡ closed_of collection.opening (open_of collection.has) end }
-    ensures end { result.end ≡ end }
-    ensures next { result.next ≡ end }
+    ensures { IsMadeOf collection.opening (open_of collection.has) end result }
 {
     let opening = collection.opening;
     match collection.has {
@@ -84,22 +75,20 @@ fn resume_outer(
     frame: FlowFrame,
     part: Part,
 ) -> Result<OpenFlow, ReadError>
-    requires inside { part.next ≤ size file.now }
-    requires opening { frame.opening < size file.now }
-    requires at { frame.inner.at < size file.now }
-    ensures fault { IfErr result (IsStopInside (size file.now)) }
+    requires { IsPutIn (size file.now) frame part }
     ensures is { (depth : ℕ) (whole : NodeAnswer) (outer : List frame_code.FlowFrame)
         → AfterNode file.now.bytes.now depth whole
         (map (frame_of file.now.bytes.now) (frame ∷ outer))
         (state_of state.old) part
         → Answers file.now.bytes.now depth whole outer result (state_of state.new) }
-    ensures opening { IfOk result (λ collection. collection.opening ≡ frame.opening) }
-    ensures within { IfOk result (λ collection. IsPut (size file.now) part.next collection.next) }
+    ensures within { LiesOrStops (size file.now)
+        (IsOn (size file.now) frame.opening part.next) result }
 {
     let opening = frame.opening;
-    let mut has = frame.has;
+    let mut frame = frame;
     let part = complete(file, state, frame.inner.anchor, part)?;
-    let next = resume(file, opening, &mut has, frame.inner.at, part)?;
+    let next = resume(file, &mut frame, part)?;
+    let has = frame.has;
     Ok(OpenFlow { opening, has, next })
 }
 
@@ -109,34 +98,27 @@ fn resume_outer(
 fn read_on(
     file: &File,
     progress: &mut Progress,
-    collection: OpenFlow,
-    at: usize,
-    depth: u32,
+    has: Open,
+    place: FlowPlace,
 ) -> Result<OpenFlow, ReadError>
-    requires at { at ≤ size file.now }
-    requires opening { collection.opening < size file.now }
-    requires outer { AreOpen (size file.now) progress.old.stack.flows }
-    requires depth { depth ≤ deepest_collection + 1 }
-    requires room { length progress.old.stack.flows + length progress.old.stack.blocks < depth }
-    ensures fault { IfErr result (IsStopInside (size file.now)) }
+    requires { IsOpenHere (size file.now) progress.old.stack place }
     ensures is { (first : ℕ) (whole : NodeAnswer)
-        → depth ≡ first + length progress.old.stack.flows + 1
+        → place.depth ≡ first + length progress.old.stack.flows + 1
         → Inside file.now.bytes.now first whole
         (map (frame_of file.now.bytes.now) progress.old.stack.flows)
-        (state_of progress.old.state) collection.opening (open_of collection.has) at
+        (state_of progress.old.state) place.opening (open_of has) place.at
         → Answers file.now.bytes.now first whole progress.new.stack.flows result
         (state_of progress.new.state) }
-    ensures within { IfOk result
-        (IsFurther (size file.now) at depth progress.old.stack progress.new.stack) }
+    ensures within { LiesOrStops (size file.now)
+        (IsFurther (size file.now) place progress.old.stack progress.new.stack) result }
 {
-    let opening = collection.opening;
-    let mut has = collection.has;
-    let place = FlowPlace { opening, at, depth };
+    let opening = place.opening;
+    let mut has = has;
     let step = read_inside(file, &mut progress.state, &mut has, place)?;
     match step {
         FlowStep::AfterNode(next) => Ok(OpenFlow { opening, has, next }),
         FlowStep::Opens(inner) => {
-            progress.state.start(inner.at, 1, depth)?;
+            progress.state.start(inner.at, 1, place.depth)?;
             progress.stack.push_flow(FlowFrame {
                 opening,
                 has,
@@ -156,17 +138,13 @@ pub fn read_flow_collection(
     depth: u32,
     at: usize,
 ) -> Result<Part, ReadError>
-    requires inside { at < size file.now }
-    requires bracket { content.is_flow_start (text_at file.now.bytes.now at) ≡ true }
-    requires depth { depth ≤ deepest_collection + 1 }
-    requires outside { progress.old.stack.flows ≡ [] }
-    requires room { length progress.old.stack.blocks ≤ depth }
-    ensures fault { IfErr result (IsStopInside (size file.now)) }
+    requires { IsCollectionAt file.now.bytes.now progress.old.stack depth at }
     ensures is { (bound : ℕ) → size file.now < bound + at →
         IsRead (part_of file.now.bytes.now) (flow.flow_collection bound depth (left_at file.now at))
         (state_of progress.old.state) result (state_of progress.new.state) }
-    ensures within { IfOk result (λ part. IsPartAfter file.now.bytes.now at part) }
-    ensures same { IfOk result (λ _. progress.new.stack ≡ progress.old.stack) }
+    ensures within { LiesOrStops (size file.now)
+        (LiesInStack (IsPartAfter file.now.bytes.now at) progress.old.stack progress.new.stack)
+        result }
 {
     progress.state.start(at, 1, depth)?;
     let outside = progress.stack.len();
@@ -181,8 +159,12 @@ pub fn read_flow_collection(
                 collection = resume_outer(file, &mut progress.state, frame, part)?;
             }
             After::GoesOn(from) => {
-                let inner = depth + 1 + (progress.stack.len() - outside) as u32;
-                collection = read_on(file, progress, collection, from, inner)?;
+                let place = FlowPlace {
+                    opening: collection.opening,
+                    at: from,
+                    depth: depth + 1 + (progress.stack.len() - outside) as u32,
+                };
+                collection = read_on(file, progress, collection.has, place)?;
             }
         }
     }

@@ -1,18 +1,19 @@
 //! One step in an open flow collection: the next item or entry, and what follows it.
 
-ghost use Rattle.al_scalar.specs.Line as line;
 ghost use Rattle.al_scalar.specs.ReadScalar.{read_of};
-ghost use Rattle.al_scalar.specs.Places.{lines_at, text_at};
+ghost use Rattle.al_scalar.specs.Places.{lines_at};
 ghost use Rattle.al_yaml_parts.specs.Files.{left_at, size};
-ghost use Rattle.al_yaml.specs.Private.FlowFrames.{IsAfter, IsPlaceInside, IsPut, IsStep, Resumes};
-ghost use Rattle.al_yaml.specs.Private.FlowFrames.{Steps, after_of, closer_of, open_of, waiting_of};
+ghost use Rattle.al_yaml.specs.Private.FlowFrames.{IsEntryIn, IsOpenIn, IsPut, IsPutIn, IsStep};
+ghost use Rattle.al_yaml.specs.Private.FlowFrames.{Resumes, Steps, after_of, closer_of, open_of};
+ghost use Rattle.al_yaml.specs.Private.FlowFrames.{waiting_of};
 ghost use Rattle.al_yaml.specs.Private.Frames as frames;
+ghost use Rattle.al_yaml.specs.Private.Lying.{LiesOrFails, LiesOrStops};
 ghost use Rattle.al_yaml_parts.specs.Places.{Shows};
 ghost use Rattle.al_yaml_parts.specs.Reads as reads;
-ghost use Rattle.al_yaml_parts.specs.Reads.{IsStopInside, part_of, state_of};
+ghost use Rattle.al_yaml_parts.specs.Reads.{part_of, state_of};
 ghost use Rattle.al_yaml_tree.specs.View.{entries_of, entry_view, nodes_of, view};
 ghost use Rattle.al_yaml_parts.specs.declared.frames.Open.TheVariants as open_code;
-ghost use Rattle.std.specs.Prelude.{IfErr, IfOk, false, length, map, ℕ, ◌+◌, ◌<◌, ◌≡◌, ◌≤◌};
+ghost use Rattle.std.specs.Prelude.{length, map, ℕ, ◌≡◌};
 
 use al_base::YamlCode;
 use al_scalar::lines::begins;
@@ -23,7 +24,7 @@ use al_yaml_parts::file::File;
 use al_yaml_parts::flow_nodes::{
     Bracket, FlowSlot, FoundKey, FoundNode, read_flow_key, read_flow_node, read_flow_value,
 };
-use al_yaml_parts::frames::{Open, OpenMapping};
+use al_yaml_parts::frames::{FlowFrame, Open, OpenMapping};
 use al_yaml_parts::limits::State;
 use al_yaml_parts::lines::is_text_end;
 use al_yaml_parts::part::Part;
@@ -46,6 +47,13 @@ pub struct FlowPlace {
     pub depth: u32,
 }
 
+/// An entry of a flow mapping that was read: its key, and its value with what follows it.
+#[derive(Drop)]
+pub struct EntryRead {
+    pub key: ScalarRead,
+    pub part: Part,
+}
+
 /// How far one step reads: up to what follows a node, or to the opening bracket of a nested
 /// collection.
 #[derive(Clone, Copy)]
@@ -57,12 +65,10 @@ pub enum FlowStep {
 /// What follows an item or entry and the gap after it.
 #[inline(always)]
 fn after_item(bytes: &[u8], opening: usize, close: u8, at: usize) -> Result<After, FaultAt>
-    requires inside { at ≤ length bytes.now }
-    requires opening { opening ≤ length bytes.now }
-    ensures fault { IfErr result (λ f. f.at ≤ length bytes.now) }
+    requires { IsOpenIn (length bytes.now) opening at }
     ensures is { Shows (after_of bytes.now)
         (frames.after_item opening close (lines_at bytes.now at)) result }
-    ensures after { IfOk result (λ after. IsAfter at (length bytes.now) after) }
+    ensures within { LiesOrFails (length bytes.now) (IsPut (length bytes.now) at) result }
 {
     if is_text_end(bytes, at) {
         return Err(FaultAt::new(YamlCode::UnclosedFlow, opening));
@@ -84,14 +90,12 @@ fn put_item(
     items: &mut Vec<Node>,
     part: Part,
 ) -> Result<After, ReadError>
-    requires inside { part.next ≤ size file.now }
-    requires opening { opening ≤ size file.now }
-    ensures fault { IfErr result (IsStopInside (size file.now)) }
+    requires { IsOpenIn (size file.now) opening part.next }
     ensures is { (depth : ℕ) (s : reads.State) →
         Resumes file.now.bytes.now depth opening (frames.item (nodes_of (map view items.old.items)))
         (part_of file.now.bytes.now part) s
         (frames.items (nodes_of (map view items.new.items))) result }
-    ensures within { IfOk result (IsPut (size file.now) part.next) }
+    ensures within { LiesOrStops (size file.now) (IsPut (size file.now) part.next) result }
 {
     items.push(part.node)?;
     Ok(after_item(file.bytes, opening, b']', gap_end(file.bytes, part.next))?)
@@ -103,19 +107,17 @@ fn put_entry(
     file: &File,
     opening: usize,
     entries: &mut Vec<Entry>,
-    key: ScalarRead,
-    part: Part,
+    entry: EntryRead,
 ) -> Result<After, ReadError>
-    requires inside { part.next ≤ size file.now }
-    requires opening { opening ≤ size file.now }
-    ensures fault { IfErr result (IsStopInside (size file.now)) }
+    requires { IsOpenIn (size file.now) opening entry.part.next }
     ensures is { (depth : ℕ) (s : reads.State) → Resumes file.now.bytes.now depth opening
         (frames.value (entries_of (map entry_view entries.old.items))
-        (read_of file.now.bytes.now key))
-        (part_of file.now.bytes.now part) s
+        (read_of file.now.bytes.now entry.key))
+        (part_of file.now.bytes.now entry.part) s
         (frames.entries (entries_of (map entry_view entries.new.items))) result }
-    ensures within { IfOk result (IsPut (size file.now) part.next) }
+    ensures within { LiesOrStops (size file.now) (IsPut (size file.now) entry.part.next) result }
 {
+    let EntryRead { key, part } = entry;
     entries.push(entry_of(key.scalar, part.node))?;
     Ok(after_item(file.bytes, opening, b'}', gap_end(file.bytes, part.next))?)
 }
@@ -129,15 +131,12 @@ fn read_entry(
     mapping: &mut OpenMapping,
     place: FlowPlace,
 ) -> Result<FlowStep, ReadError>
-    requires place { IsPlaceInside (size file.now) place }
-    requires solid { false ≡ line.is_empty (text_at file.now.bytes.now place.at) }
-    requires other { false ≡ line.begins 125 (text_at file.now.bytes.now place.at) }
-    ensures fault { IfErr result (IsStopInside (size file.now)) }
+    requires { IsEntryIn file.now.bytes.now place }
     ensures is { Steps file.now.bytes.now place.depth
         place.opening (λ c t. frames.open_rest c t place.depth place.opening (frames.entries
         (entries_of (map entry_view mapping.old.entries.items))) (left_at file.now place.at))
         (state_of state.old) (open_code.Entries mapping.new) result (state_of state.new) }
-    ensures within { IfOk result (IsStep file.now.bytes.now place.at) }
+    ensures within { LiesOrStops (size file.now) (IsStep file.now.bytes.now place.at) result }
 {
     let FlowPlace { opening, at, depth } = place;
     let key = match read_flow_key(file, state, at)? {
@@ -149,7 +148,8 @@ fn read_entry(
     };
     match read_flow_value(file, state, opening, &key, depth)? {
         FoundNode::Node(part) => {
-            let after = put_entry(file, opening, &mut mapping.entries, key.read, part)?;
+            let key = key.read;
+            let after = put_entry(file, opening, &mut mapping.entries, EntryRead { key, part })?;
             Ok(FlowStep::AfterNode(after))
         }
         FoundNode::Opens(bracket) => {
@@ -178,12 +178,11 @@ pub fn read_inside(
     has: &mut Open,
     place: FlowPlace,
 ) -> Result<FlowStep, ReadError>
-    requires place { IsPlaceInside (size file.now) place }
-    ensures fault { IfErr result (IsStopInside (size file.now)) }
+    requires { IsOpenIn (size file.now) place.opening place.at }
     ensures is { Steps file.now.bytes.now place.depth
         place.opening (λ c t. frames.open_rest c t place.depth place.opening (open_of has.old)
         (left_at file.now place.at)) (state_of state.old) has.new result (state_of state.new) }
-    ensures within { IfOk result (IsStep file.now.bytes.now place.at) }
+    ensures within { LiesOrStops (size file.now) (IsStep file.now.bytes.now place.at) result }
 {
     if is_text_end(file.bytes, place.at) {
         return Err(ReadError::at(YamlCode::UnclosedFlow, place.opening));
@@ -210,27 +209,21 @@ pub fn read_inside(
 
 /// Passes a complete collection to the one that waited for it, and reads what follows it.
 #[inline(always)]
-pub fn resume(
-    file: &File,
-    opening: usize,
-    has: &mut Open,
-    at: usize,
-    part: Part,
-) -> Result<After, ReadError>
-    requires inside { part.next ≤ size file.now }
-    requires opening { opening ≤ size file.now }
-    requires at { at ≤ size file.now }
-    ensures fault { IfErr result (IsStopInside (size file.now)) }
+pub fn resume(file: &File, frame: &mut FlowFrame, part: Part) -> Result<After, ReadError>
+    requires { IsPutIn (size file.now) frame.old part }
     ensures is { (depth : ℕ) (s : reads.State) →
-        Resumes file.now.bytes.now depth opening (waiting_of file.now.bytes.now at has.old)
-        (part_of file.now.bytes.now part) s (open_of has.new) result }
-    ensures within { IfOk result (IsPut (size file.now) part.next) }
+        Resumes file.now.bytes.now depth frame.old.opening
+        (waiting_of file.now.bytes.now frame.old.inner.at frame.old.has)
+        (part_of file.now.bytes.now part) s (open_of frame.new.has) result }
+    ensures within { LiesOrStops (size file.now) (IsPut (size file.now) part.next) result }
+    ensures kept { frame.new ≡ record frame.old { has = frame.new.has } }
 {
-    match has {
+    let opening = frame.opening;
+    match &mut frame.has {
         Open::Items(items) => put_item(file, opening, items, part),
         Open::Entries(mapping) => match mapping.waits.take() {
-            Some(key) => put_entry(file, opening, &mut mapping.entries, key, part),
-            None => Err(ReadError::at(YamlCode::WrongKey, at)),
+            Some(key) => { put_entry(file, opening, &mut mapping.entries, EntryRead { key, part }) }
+            None => Err(ReadError::at(YamlCode::WrongKey, frame.inner.at)),
         },
     }
 }

@@ -1,5 +1,5 @@
 -- What a stack of open block collections stands for, and how contracts speak of it.
-use Rattle.std.specs.Prelude.{◌≡◌, ℕ, suc, ◌+◌, ◌<◌, ◌≤◌, List, length, map, Bool, true}
+use Rattle.std.specs.Prelude.{◌≡◌, ℕ, suc, ◌+◌, ◌<◌, ◌≤◌, List, [], length, map, Bool, true}
 use Rattle.std.specs.Prelude.{if◌then◌else◌, Option, Some, None, Result, Ok, Err}
 use Rattle.al_base.specs.Limits.{deepest_collection}
 use Rattle.al_scalar.specs.Line.{Line}
@@ -14,22 +14,26 @@ use Rattle.al_yaml_tree.specs.Keys.{Key, no_entry, entry_key}
 use Rattle.al_yaml_tree.specs.Blocks.{BlockReader, rest_below, sequence_entries, mapping_entries}
 use Rattle.al_yaml_tree.specs.Blocks.{block_node, bare_node}
 use Rattle.al_yaml_parts.specs.BlockReads.{IsKeyAfter, IsTabInside, key_seen, slot_of}
-use Rattle.al_yaml_parts.specs.Answers.{then_read, noting}
-use Rattle.al_yaml_parts.specs.Answers.{mark_of}
+use Rattle.al_yaml_parts.specs.Answers.{completing, mark_of, noting, then_read}
+use Rattle.al_yaml_parts.specs.FlowReads.{IsBracket}
 use Rattle.al_yaml_parts.specs.Places.{next_of, IsLineFrom}
 use Rattle.al_yaml_parts.specs.Reads.{State, run, FailsWith, IsPartAfter, part_of}
+use Rattle.al_yaml_parts.specs.Stacks.{HasRoom, OpenCollections}
 use Rattle.al_yaml_tree.specs.View.{view, entry_view, nodes_of, entries_of}
 use Rattle.al_yaml_parts.specs.declared.faults.ReadError.{ReadError}
 use Rattle.al_yaml_parts.specs.declared.part.Part as code
 use Rattle.al_yaml_parts.specs.declared.content.Next.{Next}
+use Rattle.al_yaml_parts.specs.declared.keys.Key as key_type
 use Rattle.al_yaml_parts.specs.declared.content.Next.TheVariants as next
 use Rattle.al_yaml_parts.specs.declared.slots.Slot as slot
 use Rattle.al_yaml_parts.specs.declared.slots.Cursor as cursor
 use Rattle.al_yaml.specs.declared.block.BlockOpen as open_type
 use Rattle.al_yaml.specs.declared.block.BlockOpen.TheVariants as open_code
+use Rattle.al_yaml_parts.specs.declared.frames.BlockFrame.{BlockFrame}
 use Rattle.al_yaml_parts.specs.declared.frames.BlockWaiting as waiting_type
 use Rattle.al_yaml_parts.specs.declared.frames.BlockWaiting.TheVariants as waiting_code
 use Rattle.al_yaml.specs.declared.block.BlockTask as task_type
+use Rattle.al_yaml.specs.declared.block.NodePlace.{NodePlace}
 use Rattle.al_yaml.specs.declared.block.PartBefore as before_type
 use Rattle.al_yaml.specs.declared.block.BlockTask.TheVariants as task
 
@@ -96,6 +100,12 @@ abbrev pub node_reader : ℕ → Option ℕ → BlockReader
 node_reader bound None = block_node bound
 node_reader bound (Some at) = bare_node bound
 
+-- a node from its first character on, or from after its anchor
+abbrev pub node_at : List ℕ → ℕ → ℕ → NodePlace → Reading (Part Node)
+node_at bytes bound depth node =
+    completing bytes node.anchor (node_reader bound node.anchor (slot_of node.slot) depth
+    node.start.column (lines_at bytes node.start.at))
+
 -- where a node may begin
 pub record IsNodeAt (bytes : List ℕ) (s : slot.Slot) (p : cursor.Cursor) : Type 0 where
   pub inside : p.at ≤ length bytes
@@ -114,6 +124,40 @@ pub record IsRestAt (bytes : List ℕ) (s : slot.Slot) (p : cursor.Cursor) (rest
   pub empty : s.empty ≤ length bytes
   pub tab : IsTabInside (length bytes) s.spot
 
+-- a node is read from here on, outside of flow collections
+pub record IsNodeHere (bytes : List ℕ) (now : OpenCollections) (place : NodePlace) : Type 0 where
+  pub outside : now.flows ≡ []
+  pub node : IsNodeAt bytes place.slot place.start
+
+-- a node is looked for from the start of a line on
+pub record IsLineBelow (bytes : List ℕ) (node : NodePlace) : Type 0 where
+  pub inside : node.start.at ≤ length bytes
+  pub within : node.slot.within ≤ node.start.at + 1
+  pub empty : node.slot.empty ≤ length bytes
+
+-- the first entry of a block sequence is read from here on
+pub record IsDashHere (bytes : List ℕ) (now : OpenCollections) (place : NodePlace) : Type 0 where
+  pub here : IsNodeHere bytes now place
+  pub dash : content.is_dash (text_at bytes place.start.at) ≡ true
+  pub inside : place.start.at < length bytes
+
+-- the first key of a block mapping was read from here on
+pub record IsKeyHere (bytes : List ℕ) (now : OpenCollections) (place : NodePlace)
+    (read : key_type.Key) : Type 0 where
+  pub here : IsNodeHere bytes now place
+  pub key : IsKeyAfter bytes place.start.at read
+
+-- an anchor or alias is read from here on
+pub record IsPropertyHere (bytes : List ℕ) (now : OpenCollections)
+    (place : NodePlace) : Type 0 where
+  pub here : IsNodeHere bytes now place
+  pub property : content.is_property (text_at bytes place.start.at) ≡ true
+
+-- a flow collection is read from here on, in block context
+pub record IsFlowHere (bytes : List ℕ) (now : OpenCollections) (at : ℕ) : Type 0 where
+  pub outside : now.flows ≡ []
+  pub bracket : IsBracket bytes at at
+
 abbrev pub IsNextInside : ℕ → Next → Type 0
 IsNextInside size next.Ended = Unit {0}
 IsNextInside size (next.Line indent at) = (at ≤ size) × (indent ≤ at)
@@ -122,6 +166,17 @@ IsNextInside size (next.Line indent at) = (at ≤ size) × (indent ≤ at)
 abbrev pub IsNextAt : Next → ℕ → Type 0
 IsNextAt next.Ended at = ⊥
 IsNextAt (next.Line indent first) at = at ≡ first
+
+-- an entry of a collection at a column, which begins the next content line
+pub record IsEntryOn (size indent : ℕ) (line : Next) (at : ℕ) : Type 0 where
+  pub inside : at ≤ size
+  pub column : indent ≤ at
+  pub here : IsNextAt line at
+
+-- a further entry is looked for in an open block collection
+pub record IsEntryHere (size : ℕ) (now : OpenCollections) (at : ℕ) : Type 0 where
+  pub inside : at ≤ size
+  pub room : HasRoom now
 
 -- the next content line after a part
 abbrev pub IsNextAfter : List ℕ → code.Part → Next → Type 0
@@ -150,11 +205,14 @@ Begins bytes bound depth reading before (Ok (task.Found r)) after =
     run before reading ≡ Ok (part_of bytes r.part, after)
 Begins bytes bound depth reading before (Err e) after = FailsWith reading before e
 
--- a node in a collection that begins at an offset was read, and the line after it
-pub record IsReadBefore (bytes : List ℕ) (r : before_type.PartBefore) : Type 0 where
+-- a node was read, and the line after it, for which a collection that was popped waits
+pub record IsReadFor (bytes : List ℕ) (now : OpenCollections) (f : BlockFrame)
+    (r : before_type.PartBefore) : Type 0 where
+  pub start : f.begun.start.at ≤ length bytes
   pub inside : r.part.next ≤ length bytes
   pub end : r.part.end ≤ length bytes
   pub next : IsNextAfter bytes r.part r.next
+  pub room : HasRoom now
 
 -- a part that was found from an offset on, with the line after it
 abbrev pub IsFoundPart : List ℕ → ℕ → before_type.PartBefore → Type 0

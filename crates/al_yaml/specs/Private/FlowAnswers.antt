@@ -1,8 +1,8 @@
 -- What the whole collection answers, told by the flow collections that are open in it.
-use Rattle.std.specs.Prelude.{◌≡◌, ℕ, ◌+◌, List, length, map, Result, Ok, Err}
+use Rattle.std.specs.Prelude.{ℕ, ◌+◌, List, length, map, Result, Ok, Err}
 use Rattle.al_scalar.specs.Places.{lines_at}
 use Rattle.al_yaml_tree.specs.Flow.{flow_collection}
-use Rattle.al_yaml.specs.Private.FlowFrames.{closed_of, frame_of, open_of}
+use Rattle.al_yaml.specs.Private.FlowFrames.{IsMadeOf, frame_of, open_of}
 use Rattle.al_yaml.specs.Private.Frames.{Open, Frame, open_rest, frame_rest}
 pub use Rattle.al_yaml.specs.Private.Nested.{NodeAnswer}
 use Rattle.al_yaml.specs.Private.Nested.{Goes, IsInnermost, WholeStops}
@@ -14,7 +14,6 @@ use Rattle.al_yaml_parts.specs.declared.part.Part as code
 use Rattle.al_yaml.specs.declared.flow_items.After.{After}
 use Rattle.al_yaml.specs.declared.flow_items.After.TheVariants as after
 use Rattle.al_yaml.specs.declared.flow.OpenFlow.{OpenFlow}
-use Rattle.al_yaml_tree.specs.View.{view}
 
 -- The depth is that of the outermost collection.
 abbrev pub flow_goes : ℕ → Goes Frame
@@ -39,7 +38,7 @@ abbrev pub Keeps : List ℕ → ℕ → NodeAnswer → List FlowFrame → State 
 Keeps bytes depth whole stack n opening has (after.GoesOn at) =
     Inside bytes depth whole (map (frame_of bytes) stack) n opening has at
 Keeps bytes depth whole stack n opening has (after.Closes end) =
-    (p : code.Part) → view p.node ≡ closed_of opening has end → p.end ≡ end → p.next ≡ end
+    (p : code.Part) → IsMadeOf opening has end p
     → AfterNode bytes depth whole (map (frame_of bytes) stack) n p
 
 -- what a step leaves

@@ -1,8 +1,9 @@
 -- How contracts speak of open flow collections.
 use Rattle.std.specs.Prelude.{◌≡◌, ℕ, suc, ◌+◌, ◌<◌, ◌≤◌, List, [], ◌∷◌, length, map, Option, Some}
-use Rattle.std.specs.Prelude.{None, Result, Ok, Err}
+use Rattle.std.specs.Prelude.{None, Result, Ok, Err, false}
+use Rattle.al_scalar.specs.Line as line
 use Rattle.al_scalar.specs.ReadScalar.{read_of}
-use Rattle.al_scalar.specs.Places.{lines_at}
+use Rattle.al_scalar.specs.Places.{lines_at, text_at}
 use Rattle.al_base.specs.Limits.{deepest_collection}
 use Rattle.al_base.specs.Spans.{span}
 use Rattle.al_scalar.specs.declared.scalars.ScalarRead.{ScalarRead}
@@ -21,6 +22,7 @@ use Rattle.al_yaml_parts.specs.declared.faults.ReadError.{ReadError}
 use Rattle.al_yaml_parts.specs.declared.frames.Open.{Open}
 use Rattle.al_yaml_parts.specs.declared.frames.Open.TheVariants as open_code
 use Rattle.al_yaml_parts.specs.declared.frames.FlowFrame.{FlowFrame}
+use Rattle.al_yaml_parts.specs.declared.part.Part as code
 use Rattle.al_yaml.specs.declared.flow_items.After.{After}
 use Rattle.al_yaml.specs.declared.flow_items.After.TheVariants as after
 use Rattle.al_yaml.specs.declared.flow_items.FlowPlace.{FlowPlace}
@@ -67,10 +69,6 @@ closer_of (frames.entries es) = 125
 abbrev pub after_of : List ℕ → After → frames.After
 after_of bytes (after.GoesOn next) = frames.goes_on (lines_at bytes next)
 after_of bytes (after.Closes next) = frames.closes next (lines_at bytes next)
-
-abbrev pub IsAfter : ℕ → ℕ → After → Type 0
-IsAfter at size (after.GoesOn next) = (at < next) × (next ≤ size)
-IsAfter at size (after.Closes next) = (at < next) × (next ≤ size)
 
 -- reading goes on in a collection after a comma, or ends with its closer
 abbrev pub GoesOn : List ℕ → ℕ → ℕ → (CollectionReader → ℕ → Answer (Part tree.Node)) → frames.Open
@@ -124,22 +122,61 @@ abbrev pub IsStep : List ℕ → ℕ → FlowStep → Type 0
 IsStep bytes at (step.AfterNode next) = IsPut (length bytes) at next
 IsStep bytes at (step.Opens b) = IsBracket bytes at b.at
 
--- a collection is read in the file
-pub record IsPlaceInside (size : ℕ) (p : FlowPlace) : Type 0 where
-  pub inside : p.at ≤ size
-  pub opening : p.opening ≤ size
+-- an open collection is read in the file
+pub record IsOpenIn (size start at : ℕ) : Type 0 where
+  pub inside : at ≤ size
+  pub opening : start ≤ size
+
+-- a mapping is read at an entry, not at its closing bracket
+pub record IsEntryIn (bytes : List ℕ) (p : FlowPlace) : Type 0 where
+  pub place : IsOpenIn (length bytes) p.opening p.at
+  pub solid : false ≡ line.is_empty (text_at bytes p.at)
+  pub other : false ≡ line.begins 125 (text_at bytes p.at)
+
+-- a collection that was read goes to the one that waited for it
+pub record IsPutIn (size : ℕ) (f : FlowFrame) (p : code.Part) : Type 0 where
+  pub inside : p.next ≤ size
+  pub opening : f.opening ≤ size
+  pub at : f.inner.at ≤ size
+
+-- the part that is made of a collection
+pub record IsMadeOf (opening : ℕ) (has : frames.Open) (past : ℕ) (p : code.Part) : Type 0 where
+  pub node : view p.node ≡ closed_of opening has past
+  pub end : p.end ≡ past
+  pub next : p.next ≡ past
 
 -- the collections that are open begin in the file
 abbrev pub AreOpen : ℕ → List FlowFrame → Type 0
 AreOpen size [] = Unit {0}
 AreOpen size (f ∷ fs) = (f.opening < size) × (f.inner.at < size) × AreOpen size fs
 
+-- a collection that may begin here, so deep
+pub record IsCollectionAt (bytes : List ℕ) (now : OpenCollections) (deep at : ℕ) : Type 0 where
+  pub bracket : IsBracket bytes at at
+  pub depth : deep ≤ deepest_collection + 1
+  pub outside : now.flows ≡ []
+  pub room : length now.blocks ≤ deep
+
+-- the innermost collection is read from here on; one in it may be so deep
+pub record IsOpenHere (size : ℕ) (now : OpenCollections) (p : FlowPlace) : Type 0 where
+  pub at : p.at ≤ size
+  pub opening : p.opening < size
+  pub outer : AreOpen size now.flows
+  pub depth : p.depth ≤ deepest_collection + 1
+  pub room : length now.flows + length now.blocks < p.depth
+
+-- the collection in which reading goes on, after an offset
+pub record IsOn (size start from : ℕ) (now : OpenFlow) : Type 0 where
+  pub opening : now.opening ≡ start
+  pub next : IsPut size from now.next
+
 -- where reading goes on in an open collection or in one that was opened in it, and what is open
 -- then
-pub record IsFurther (size at depth : ℕ) (old new : OpenCollections) (now : OpenFlow) : Type 0 where
+pub record IsFurther (size : ℕ) (p : FlowPlace) (old new : OpenCollections)
+    (now : OpenFlow) : Type 0 where
   pub blocks : new.blocks ≡ old.blocks
   pub outer : AreOpen size new.flows
-  pub room : length new.flows + depth ≤ length old.flows + (deepest_collection + 1)
+  pub room : length new.flows + p.depth ≤ length old.flows + (deepest_collection + 1)
   pub more : length new.flows ≤ length old.flows + 1
   pub opening : now.opening < size
-  pub next : IsPut size at now.next
+  pub next : IsPut size p.at now.next

@@ -18,16 +18,16 @@ pub returns-then-is_some-clause-is : goal.returns-then-is_some-clause-is
 unfolding block_node block_property
 returns-then-is_some-clause-is c = λ bound. rw c.at.ensures.is (elim c.then-is_some.branch [
   | then-is_some-via-then-is_some w ↦ second-stops bound c.args.node.anchor (slot_of c.args.node.slot) (depth_in c.args.progress.now.stack)
-      c.args.node.start.column (state_of c.args.progress.now.state) c.args.file.now.bytes.now c.args.node.start.at c.requires.node.inside
+      c.args.node.start.column (state_of c.args.progress.now.state) c.args.file.now.bytes.now c.args.node.start.at c.requires.here.node.inside
       c.requires.property w.if-is_some.ensures
   | then-is_some-via-else-is_some+then-has_no_name w ↦ no-anchor bound c.args.node.anchor _ _ _ _ _ _ w.if-is_some.ensures
-      ∙ rw (c.requires.property, ← w.if-has_no_name.ensures, start-at c.args.file.now.bytes.now c.args.node.start.at c.requires.node.inside) (run-fails _ _ _)
+      ∙ rw (c.requires.property, ← w.if-has_no_name.ensures, start-at c.args.file.now.bytes.now c.args.node.start.at c.requires.here.node.inside) (run-fails _ _ _)
 ])
 
 pub returns-then-on_key-clause-is : goal.returns-then-on_key-clause-is
 unfolding block_node block_property
 returns-then-on_key-clause-is c = λ bound.
-    let here = start-at c.args.file.now.bytes.now c.args.node.start.at c.requires.node.inside in
+    let here = start-at c.args.file.now.bytes.now c.args.node.start.at c.requires.here.node.inside in
     let on_key = sym c.in_ok-on_key.ensures ∙ c.if-on_key.true in
     rw c.at-then-on_key.ensures.is (no-anchor bound c.args.node.anchor _ _ _ _ _ _ c.if-is_some.ensures
     ∙ rw (c.requires.property, ← c.if-has_no_name.ensures, on_key, here) (run-fails _ _ _))
@@ -60,7 +60,7 @@ returns-then-begins-clause-is c = λ bound. no-anchor bound c.args.node.anchor _
 pub returns-clause-is : goal.returns-clause-is
 unfolding block_node block_property
 returns-clause-is c = λ bound.
-    let here = start-at c.args.file.now.bytes.now c.args.node.start.at c.requires.node.inside in
+    let here = start-at c.args.file.now.bytes.now c.args.node.start.at c.requires.here.node.inside in
     let free = sym c.in_ok-on_key.ensures ∙ c.if-on_key.false in
     property-begins c.args.file.now.bytes.now bound (depth_in c.args.progress.now.stack) c.args.node.start.at (state_of c.args.progress.now.state)
     (state_of c.find_rest.new.state) _ _ c.find_rest.result (no-anchor bound c.args.node.anchor _ _ _ _ _ _ c.if-is_some.ensures

@@ -11,8 +11,8 @@ returns-in_err-step-clause-is c = λ first whole deep now.
     let bytes = c.args.file.now.bytes.now in
     let outer = c.args.progress.now.stack.flows in
     let p = err_from_is_err_and c.from_residual.result c.from_residual.ensures.1 in
-    rw (p.1, p.2) (inside-stops bytes first whole outer (state_of c.args.progress.now.state) c.args.collection.opening (open_of c.args.collection.has)
-    c.args.at c.args.depth (omega (arith, deep, frames-length bytes outer)) now c.requires.at c.in_err-step.field-0.0 c.in_err-step.ensures.is)
+    rw (p.1, p.2) (inside-stops bytes first whole outer (state_of c.args.progress.now.state) c.args.place.opening (open_of c.args.has)
+    c.args.place.at c.args.place.depth (omega (arith, deep, frames-length bytes outer)) now c.requires.at c.in_err-step.field-0.0 c.in_err-step.ensures.is)
 
 pub returns-in-AfterNode-clause-is : goal.returns-in-AfterNode-clause-is
 returns-in-AfterNode-clause-is c = λ first whole deep now.
@@ -20,8 +20,8 @@ returns-in-AfterNode-clause-is c = λ first whole deep now.
     let outer = c.args.progress.now.stack.flows in
     let found = rw c.in-AfterNode.is at c.in_ok-step.ensures.is in
     let within = rw c.in-AfterNode.is at c.in_ok-step.ensures.within in
-    step-keeps bytes first whole outer (state_of c.args.progress.now.state) c.args.collection.opening (open_of c.args.collection.has) c.args.at
-    c.args.depth (omega (arith, deep, frames-length bytes outer)) now (state_of c.read_inside.new.state) (open_of c.read_inside.new.has)
+    step-keeps bytes first whole outer (state_of c.args.progress.now.state) c.args.place.opening (open_of c.args.has) c.args.place.at
+    c.args.place.depth (omega (arith, deep, frames-length bytes outer)) now (state_of c.read_inside.new.state) (open_of c.read_inside.new.has)
     c.in-AfterNode.next c.requires.at found within.0
 
 pub returns-in-AfterNode-clause-within : goal.returns-in-AfterNode-clause-within
@@ -44,10 +44,10 @@ returns-in_err-start-in-Opens-clause-is c = λ first whole deep now.
     let found = rw c.in-Opens.is at c.in_ok-step.ensures.is in
     let within = rw c.in-Opens.is at c.in_ok-step.ensures.within in
     let p = err_from_is_err_and c.from_residual-in_err-start-in-Opens.result c.from_residual-in_err-start-in-Opens.ensures.1 in
-    rw (p.1, p.2) (opens-broken bytes first whole outer (state_of c.args.progress.now.state) c.args.collection.opening
-    (open_of c.args.collection.has) c.args.at c.args.depth (omega (arith, deep, frames-length bytes outer)) now n c.in-Opens.inner
+    rw (p.1, p.2) (opens-broken bytes first whole outer (state_of c.args.progress.now.state) c.args.place.opening
+    (open_of c.args.has) c.args.place.at c.args.place.depth (omega (arith, deep, frames-length bytes outer)) now n c.in-Opens.inner
     c.read_inside.new.has found within.from within.inside c.in_err-start-in-Opens.field-0.0
-    (λ bound. collection-broken bound c.args.depth n bytes c.in-Opens.inner.at (omega (arith, within.inside))
+    (λ bound. collection-broken bound c.args.place.depth n bytes c.in-Opens.inner.at (omega (arith, within.inside))
     c.in_err-start-in-Opens.field-0.0 c.in_err-start-in-Opens.ensures.limits))
 
 pub returns-in_ok-push_flow-in-Opens-clause-is : goal.returns-in_ok-push_flow-in-Opens-clause-is
@@ -58,12 +58,12 @@ returns-in_ok-push_flow-in-Opens-clause-is c = λ first whole deep now.
     let found = rw c.in-Opens.is at c.in_ok-step.ensures.is in
     let within = rw c.in-Opens.is at c.in_ok-step.ensures.within in
     let begun = c.open_at in
-    rw (c.in_ok-push_flow-in-Opens.ensures.flows, begun.ensures.opening)
-    (opens-keeps bytes first whole outer (state_of c.args.progress.now.state) c.args.collection.opening
-    (open_of c.args.collection.has) c.args.at c.args.depth (omega (arith, deep, frames-length bytes outer)) now
+    rw (c.in_ok-push_flow-in-Opens.ensures.flows, begun.ensures.within.opening)
+    (opens-keeps bytes first whole outer (state_of c.args.progress.now.state) c.args.place.opening
+    (open_of c.args.has) c.args.place.at c.args.place.depth (omega (arith, deep, frames-length bytes outer)) now
     (state_of c.read_inside.new.state) b c.read_inside.new.has found within.from within.inside (state_of c.start.new.self)
-    (open_of begun.result.has) begun.result.next begun.ensures.from
-    (begun.ensures.is c.args.depth (state_of c.read_inside.new.state) (state_of c.start.new.self)
+    (open_of begun.result.has) begun.result.next begun.ensures.within.next.0
+    (begun.ensures.is c.args.place.depth (state_of c.read_inside.new.state) (state_of c.start.new.self)
     c.in_ok-start-in-Opens.ensures.limits c.in_ok-start-in-Opens.ensures.state))
 
 pub returns-in_ok-push_flow-in-Opens-clause-within : goal.returns-in_ok-push_flow-in-Opens-clause-within
@@ -75,6 +75,6 @@ returns-in_ok-push_flow-in-Opens-clause-within c =
       outer = subst (AreOpen size) (sym c.in_ok-push_flow-in-Opens.ensures.flows) (c.requires.opening, within.inside, c.requires.outer);
       room = omega (arith, ap length c.in_ok-push_flow-in-Opens.ensures.flows, c.in_ok-start-in-Opens.ensures.depth);
       more = omega (arith, ap length c.in_ok-push_flow-in-Opens.ensures.flows);
-      opening = omega (arith, c.open_at.ensures.opening, within.inside);
-      next = (omega (arith, within.from, c.open_at.ensures.from), c.open_at.ensures.end);
+      opening = omega (arith, c.open_at.ensures.within.opening, within.inside);
+      next = (omega (arith, within.from, c.open_at.ensures.within.next.0), c.open_at.ensures.within.next.1);
     }

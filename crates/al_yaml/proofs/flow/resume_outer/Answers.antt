@@ -1,4 +1,4 @@
-use Rattle.std.proofs.Common.{suc, ◌+◌, length, map, arith}
+use Rattle.std.proofs.Common.{suc, ◌+◌, length, map, arith, refl}
 use Rattle.std.proofs.lemmas.Result.{err_from_is_err_and}
 use Rattle.al_yaml.specs.Private.FlowFrames.{frame_of, open_of, waiting_of}
 use Rattle.al_yaml_parts.specs.Reads.{state_of}
@@ -22,9 +22,12 @@ returns-clause-is c = λ depth whole outer past.
     let n = state_of c.complete.new.state in
     let waits = pops-waits bytes depth whole (state_of c.args.state.now) c.args.part frame outer n c.in_ok-part.part
     c.in_ok-part.ensures.part c.in_ok-part.ensures.state past in
-    resumed-keeps bytes depth whole outer n frame.opening (waiting_of bytes frame.inner.at frame.has) (open_of c.resume.new.has) c.in_ok-part.part
+    resumed-keeps bytes depth whole outer n frame.opening (waiting_of bytes frame.inner.at frame.has) (open_of c.resume.new.frame.has) c.in_ok-part.part
     c.args.part.next c.in_ok-next.next waits (c.in_ok-next.ensures.is (depth + length (map (frame_of bytes) outer) + 1) n)
     (omega (arith, c.in_ok-part.ensures.next, c.in_ok-next.ensures.within.0))
 
 pub returns-clause-within : goal.returns-clause-within
-returns-clause-within c = (omega (arith, c.in_ok-part.ensures.next, c.in_ok-next.ensures.within.0), c.in_ok-next.ensures.within.1)
+returns-clause-within c = record {
+  opening = refl;
+  next = (omega (arith, c.in_ok-part.ensures.next, c.in_ok-next.ensures.within.0), c.in_ok-next.ensures.within.1);
+}
