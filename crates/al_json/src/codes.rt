@@ -2,8 +2,8 @@
 
 use crate::json::Json;
 use al_text::{
-    Args, CallCode, Caller, Code, ExpressionCode, Fault, Format, KeyCode, Output, RuleCode, Span,
-    YamlCode, kind, write_fault,
+    Args, CallCode, Caller, Code, ExpressionCode, Fault, Format, KeyCode, Output, PrintedFile,
+    RuleCode, Span, YamlCode, kind, write_fault,
 };
 use std::alloc::{AllocError, Global};
 
@@ -187,7 +187,12 @@ fn line_of(alloc: Global, fault: &Fault) -> Result<Vec<u8>, AllocError> {
     if fault.span.end != 0 || fault.span.start != 0 {
         return Ok(line);
     }
-    match write_fault(&mut Output::new(&mut line), "", b"", fault, Format::Oneline) {
+    let file = PrintedFile {
+        path: "",
+        bytes: b"",
+        format: Format::Oneline,
+    };
+    match write_fault(&mut Output::new(&mut line), &file, fault) {
         Ok(()) => Ok(line),
         Err(_) => Err(AllocError),
     }

@@ -1,17 +1,21 @@
 //! What a report prints of a folder's files.
 
-ghost use Rattle.std.specs.Prelude.{◌≡◌, not, length, ◌==◌};
-ghost use Rattle.std.specs.List.{enumerate_from, flat_map, list_any};
+ghost use Rattle.std.specs.Prelude.{◌≡◌, ◌≤◌, not, length, ◌==◌};
+ghost use Rattle.std.specs.List.{AllByRecursion, enumerate_from, flat_map, list_any};
+ghost use Rattle.al_base.specs.Limits.{largest_file};
+ghost use Rattle.al_base.specs.LineStarts.{line_starts};
+ghost use Rattle.al_base.specs.Spans.{LiesIn};
 ghost use Rattle.al_base.specs.Streams.{WritesOrFails};
+ghost use Rattle.al_text.specs.Snippets.{text_in};
 ghost use Rattle.al_session_folder.specs.Kept.{folder_of, referents};
 ghost use Rattle.al_session_folder.specs.Printing.{AreListed, ArePrintable, IsPrintable};
 ghost use Rattle.al_session_folder.specs.Printing.{joined_or_own};
 ghost use Rattle.al_session.specs.Private.Printing.{lines_of, numbered_lines};
 
-use al_base::{Fault, Location, Output, Stop};
+use al_base::{Fault, Lines, Output, Stop};
 use al_lint::Lint;
 use al_session_folder::{Files, KeptFile, file_number};
-use al_text::{Format, write_fault_at, write_faults};
+use al_text::{FaultPrinter, Format, PrintedFile, write_faults};
 use std::io::Write;
 
 /// Whether any file has a fault of its own, not of a call cycle. Doesn't allocate.
@@ -71,52 +75,35 @@ fn write_file<U, I, W: Write>(
         (lines_of listing.now.format listing.now.path.now listing.now.file.now
         (joined_or_own listing.now.file.now joined.now)) }
 {
-    if !joined.is_empty() {
-        return write_referred(writer, listing, joined);
-    }
     let file = listing.file;
-    write_faults(
-        writer,
-        &file.lines,
-        listing.path,
-        &file.bytes,
-        &file.faults,
-        listing.format,
-    )
+    let printed = PrintedFile {
+        path: listing.path,
+        bytes: &file.bytes,
+        format: listing.format,
+    };
+    if !joined.is_empty() {
+        return write_referred(writer, &printed, &file.lines, joined);
+    }
+    write_faults(writer, &printed, &file.lines, &file.faults)
 }
 
 // Writes faults of a file, given by reference, as `write_faults` does.
-fn write_referred<U, I, W: Write>(
+fn write_referred<'a, W: Write>(
     writer: &mut Output<W>,
-    listing: &Listing<'_, U, I>,
+    file: &PrintedFile<'a>,
+    lines: &'a Lines,
     faults: &[&Fault],
 ) -> Result<(), Stop>
-    requires { IsPrintable listing.now.file.now (referents faults.now) }
+    requires made { lines.now ≡ line_starts file.now.bytes.now }
+    requires within { AllByRecursion (λ fault. LiesIn (length file.now.bytes.now) fault.span)
+        (referents faults.now) }
+    requires small { length file.now.bytes.now ≤ largest_file }
     ensures { WritesOrFails W.contents writer.old writer.new result
-        (lines_of listing.now.format listing.now.path.now listing.now.file.now
-        (referents faults.now)) }
+        (flat_map (text_in file.now) (referents faults.now)) }
 {
-    let bytes = listing.file.bytes.as_slice();
-    let mut at = 0;
-    let mut location = Location {
-        line: 1,
-        column: 1,
-        start: 0,
-    };
+    let mut printer = FaultPrinter::new(file, lines);
     for fault in faults {
-        location = listing
-            .file
-            .lines
-            .location_after(bytes, at, location, fault.span.start);
-        at = fault.span.start;
-        write_fault_at(
-            writer,
-            listing.path,
-            bytes,
-            *fault,
-            location,
-            listing.format,
-        )?;
+        printer.write_fault(writer, *fault)?;
     }
     Ok(())
 }

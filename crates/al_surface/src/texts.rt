@@ -4,9 +4,9 @@ ghost use Rattle.std.specs.Prelude.{◌≡◌, ◌≤◌, length, true};
 
 use al_text::limits::LARGEST_FILE;
 use al_text::{
-    Args, CallCode, Caller, Code, ExpressionCode, Fault, Format, Input, KeyCode, Lines, Output,
-    Path, PathFault, RuleCode, Span, Stop, WriteFault, YamlCode, kind, location_of, path_fault,
-    position, write_fault_at, write_faults,
+    Args, CallCode, Caller, Code, ExpressionCode, Fault, FaultPrinter, Format, Input, KeyCode,
+    Lines, Output, Path, PathFault, PrintedFile, RuleCode, Span, Stop, YamlCode, kind, path_fault,
+    position, write_fault, write_faults,
 };
 use std::alloc::{AllocError, Global};
 use std::io::Write;
@@ -151,20 +151,24 @@ fn is_within(bytes: &[u8], span: Span) -> bool
     span.start <= span.end && span.end as usize <= bytes.len()
 }
 
+/// A file with these bytes, whose faults are printed with their lines.
+fn printed_file(bytes: &[u8]) -> PrintedFile<'_>
+    ensures { result.entry.bytes.now ≡ bytes.now }
+{
+    PrintedFile {
+        path: PATH,
+        bytes,
+        format: Format::Snippet,
+    }
+}
+
 fn is_printed(alloc: Global, bytes: &[u8], fault: &Fault, wanted: &[u8]) -> bool {
     if bytes.len() > LARGEST_FILE || !is_within(bytes, fault.span) {
         return false;
     }
-    let start = location_of(bytes, fault.span.start);
+    let file = printed_file(bytes);
     let mut text = Vec::new(alloc);
-    let result = write_fault_at(
-        &mut Output::new(&mut text),
-        PATH,
-        bytes,
-        fault,
-        start,
-        Format::Snippet,
-    );
+    let result = write_fault(&mut Output::new(&mut text), &file, fault);
     result.is_ok() && text.as_slice() == wanted
 }
 
@@ -180,13 +184,8 @@ fn is_printed_by_lines(
     }
     let lines = Lines::of(alloc, bytes)?;
     let mut text = Vec::new(alloc);
-    let result = lines.write_fault(
-        &mut Output::new(&mut text),
-        PATH,
-        bytes,
-        fault,
-        Format::Snippet,
-    );
+    let mut printer = FaultPrinter::new(&printed_file(bytes), &lines);
+    let result = printer.write_fault(&mut Output::new(&mut text), fault);
     Ok(result.is_ok() && text.as_slice() == wanted)
 }
 
@@ -213,14 +212,8 @@ fn are_printed(
     }
     let lines = Lines::of(alloc, bytes)?;
     let mut text = Vec::new(alloc);
-    let result = write_faults(
-        &mut Output::new(&mut text),
-        &lines,
-        PATH,
-        bytes,
-        &[fault],
-        Format::Snippet,
-    );
+    let file = printed_file(bytes);
+    let result = write_faults(&mut Output::new(&mut text), &file, &lines, &[fault]);
     Ok(result.is_ok() && text.as_slice() == wanted)
 }
 

@@ -1,7 +1,7 @@
 //! A printed fault whose arguments have control bytes.
 
 use al_base::{Args, Code, Fault, KeyCode, Output, Span, Stop};
-use al_text::{Format, write_fault};
+use al_text::{Format, PrintedFile, write_fault};
 use std::alloc::{AllocError, Global};
 
 fn args_of(alloc: Global, text: &str) -> Result<Args, AllocError> {
@@ -15,13 +15,12 @@ fn printed(alloc: Global, args: Args) -> Result<Vec<u8>, Stop> {
         args,
     };
     let mut output = Vec::new(alloc);
-    write_fault(
-        &mut Output::new(&mut output),
-        "x.yml",
-        b"a\r\nb",
-        &fault,
-        Format::Oneline,
-    )?;
+    let file = PrintedFile {
+        path: "x.yml",
+        bytes: b"a\r\nb",
+        format: Format::Oneline,
+    };
+    write_fault(&mut Output::new(&mut output), &file, &fault)?;
     Ok(output)
 }
 

@@ -4,6 +4,7 @@
 //!
 //! - `wordings`: the message and the kind of each fault code
 //! - `printing` and `snippets`: the line of a fault, and the source line with marks below it
+//! - `printer`: the faults of a file one after another
 //!
 //! Spans and offsets are bytes of a file, from 0; lines and columns count from 1, columns in
 //! characters.
@@ -14,27 +15,23 @@
 //!
 //! ```rust
 //! use al_text::limits::LARGEST_FILE;
-//! use al_text::{Fault, Format, Output, Stop, write_fault};
+//! use al_text::{Fault, Output, PrintedFile, Stop, write_fault};
 //! use std::alloc::Global;
 //!
-//! /// A fault as a report prints it in this format; `None` if it isn't in the file.
-//! fn printed(
-//!     alloc: Global,
-//!     file: &[u8],
-//!     fault: &Fault,
-//!     format: Format,
-//! ) -> Result<Option<Vec<u8>>, Stop> {
-//!     let span = fault.span;
-//!     if file.len() > LARGEST_FILE || span.start > span.end || span.end as usize > file.len() {
+//! /// A fault of this file as a report prints it; `None` if it isn't in the file.
+//! fn printed(alloc: Global, file: &PrintedFile<'_>, fault: &Fault) -> Result<Option<Vec<u8>>, Stop> {
+//!     let (length, span) = (file.bytes.len(), fault.span);
+//!     if length > LARGEST_FILE || span.start > span.end || span.end as usize > length {
 //!         return Ok(None);
 //!     }
 //!     let mut text = Vec::new(alloc);
-//!     write_fault(&mut Output::new(&mut text), "a.yml", file, fault, format)?;
+//!     write_fault(&mut Output::new(&mut text), file, fault)?;
 //!     Ok(Some(text))
 //! }
 //! ```
 #![tactic(auto)]
 
+mod printer;
 mod printing;
 mod snippets;
 mod wordings;
@@ -49,5 +46,6 @@ pub use al_base::{
     path_fault, position, printable, rows,
 };
 pub use examples::snippet_rows;
-pub use printing::{Format, WriteFault, write_fault, write_fault_at, write_faults};
+pub use printer::{FaultPrinter, write_faults};
+pub use printing::{Format, PrintedFile, write_fault};
 pub use wordings::kind;

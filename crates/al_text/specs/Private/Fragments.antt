@@ -14,8 +14,11 @@ fragment_bytes (Marks mark bytes) = map (mark_byte mark) (chars_of bytes.now)
 abbrev pub bytes_of_fragments : List Fragment → List ℕ
 bytes_of_fragments fragments = flat_map fragment_bytes fragments
 
--- PATH:LINE:COLUMN: MESSAGE [KIND] and a line feed, from these parts
-abbrev pub line_of : List ℕ → List ℕ → List ℕ → List ℕ → List ℕ → List ℕ
-line_of path line column message kind =
-    path ++ codes ":" ++ line ++ codes ":" ++ column ++ codes ": " ++ message
-    ++ (codes " [" ++ kind ++ codes "]\n")
+-- PATH:LINE:COLUMN: and a space, from these parts
+abbrev pub position_text : List ℕ → List ℕ → List ℕ → List ℕ
+position_text path line column =
+    path ++ codes ":" ++ line ++ codes ":" ++ column ++ codes ": "
+
+-- MESSAGE [KIND] and a line feed
+abbrev pub message_line : List ℕ → List ℕ → List ℕ
+message_line message kind = message ++ (codes " [" ++ kind ++ codes "]\n")

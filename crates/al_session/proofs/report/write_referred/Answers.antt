@@ -5,43 +5,34 @@ use Rattle.al_base.specs.declared.faults.Fault.{Fault}
 use Rattle.al_base.specs.Spans.{LiesIn}
 use Rattle.al_base.proofs.Bytes.{Appends-next}
 use Rattle.al_base.proofs.Writing.{fails_in_element, succeeds}
-use Rattle.al_text.specs.Snippets.{fault_text}
+use Rattle.al_text.specs.Snippets.{text_in}
 use Rattle.al_session_folder.proofs.ListedFaults.{all-referred}
 use Rattle.al_session.proofs.report.write_referred.Goals as goal
 
-pub location_after-location-requires-clause-within : goal.location_after-location-requires-clause-within
-location_after-location-requires-clause-within g c =
-    let in_file = all-referred (λ (fault : Fault). LiesIn (length c.as_slice-bytes.result.now) fault.span) c.args.faults.now c.loop-fault.fault-index c.fault-item.result
-    (rw (← c.as_slice-bytes.ensures.value) at c.requires.inside)
-    (omega (arith, c.loop-fault-test.true)) c.fault-item.is in
-    let start = in_file.ordered in let end = in_file.inside in omega (arith, start, end)
+pub write_fault-requires : goal.write_fault-requires
+write_fault-requires g c =
+    let inside = all-referred (λ (fault : Fault). LiesIn (length c.args.file.now.bytes.now) fault.span) c.args.faults.now c.loop-fault.fault-index
+    c.fault-item.result c.requires.within (omega (arith, c.loop-fault-test.true)) c.fault-item.is in
+    record { within = rw c.loop-fault.invariant.same inside; }
 
-pub write_fault_at-requires-clause-within : goal.write_fault_at-requires-clause-within
-write_fault_at-requires-clause-within g c =
-    all-referred (λ (fault : Fault). LiesIn (length c.as_slice-bytes.result.now) fault.span) c.args.faults.now c.loop-fault.fault-index c.fault-item.result
-    (rw (← c.as_slice-bytes.ensures.value) at c.requires.inside)
-    (omega (arith, c.loop-fault-test.true)) c.fault-item.is
-
-pub returns-in_err-write_fault_at : goal.returns-in_err-write_fault_at
-returns-in_err-write_fault_at g c =
-    let text = fault_text c.args.listing.now.format c.args.listing.now.path.now c.as_slice-bytes.result.now in
-    rw (← c.as_slice-bytes.ensures.value, flat_map-map text _ c.args.faults.now)
-    (fails_in_element _ _ _ _ (λ r. text r.now) c.args.faults.now c.loop-fault.fault-index c.fault-item.result (omega (arith, c.loop-fault-test.true)) c.fault-item.is
-    c.loop-fault.invariant.appended c.loop-fault.invariant.unfailed _ _ c.from_residual.ensures.1 c.in_err-write_fault_at.ensures)
+pub returns-in_err-write_fault : goal.returns-in_err-write_fault
+returns-in_err-write_fault g c =
+    rw (flat_map-map (text_in c.args.file.now) _ c.args.faults.now)
+    (fails_in_element _ _ _ _ (λ r. text_in c.args.file.now r.now) c.args.faults.now c.loop-fault.fault-index c.fault-item.result
+    (omega (arith, c.loop-fault-test.true)) c.fault-item.is c.loop-fault.invariant.appended c.loop-fault.invariant.unfailed _ _ c.from_residual.ensures.1
+    (rw c.loop-fault.invariant.same at c.in_err-write_fault.ensures.written))
 
 pub loop-fault-preserved : goal.loop-fault-preserved
-loop-fault-preserved g c = record {
-  appended = Appends-next (λ r. fault_text c.args.listing.now.format c.args.listing.now.path.now c.as_slice-bytes.result.now r.now) c.args.faults.now c.loop-fault.fault-index
-      c.fault-item.result (omega (arith, c.loop-fault-test.true)) c.fault-item.is _ _ _ c.loop-fault.invariant.appended
-      c.in_ok-write_fault_at.ensures.all;
-  unfailed = c.in_ok-write_fault_at.ensures.failures ∙ c.loop-fault.invariant.unfailed;
-  line = c.location_after-location.ensures.line;
-  column = c.location_after-location.ensures.column;
-  start = c.location_after-location.ensures.start;
-}
+loop-fault-preserved g c =
+    let written = rw c.loop-fault.invariant.same at c.in_ok-write_fault.ensures.written in
+    record {
+      appended = Appends-next (λ r. text_in c.args.file.now r.now) c.args.faults.now c.loop-fault.fault-index
+          c.fault-item.result (omega (arith, c.loop-fault-test.true)) c.fault-item.is _ _ _ c.loop-fault.invariant.appended written.all;
+      unfailed = written.failures ∙ c.loop-fault.invariant.unfailed;
+      same = c.in_ok-write_fault.ensures.file ∙ c.loop-fault.invariant.same;
+    }
 
 pub returns : goal.returns
 returns g c =
     let whole = take_all c.loop-fault.fault-index c.args.faults.now (omega (arith, c.loop-fault-test.false)) in
-    let text = fault_text c.args.listing.now.format c.args.listing.now.path.now c.as_slice-bytes.result.now in
-    rw (← c.as_slice-bytes.ensures.value, flat_map-map text _ c.args.faults.now) (succeeds _ _ _ _ _ (rw whole at c.loop-fault.invariant.appended) c.loop-fault.invariant.unfailed)
+    rw (flat_map-map (text_in c.args.file.now) _ c.args.faults.now) (succeeds _ _ _ _ _ (rw whole at c.loop-fault.invariant.appended) c.loop-fault.invariant.unfailed)

@@ -1,17 +1,14 @@
 use Rattle.std.proofs.Common.{◌≡◌, take}
 use Rattle.std.specs.Io.KnownBytes.{Appends}
 use Rattle.std.specs.List.{flat_map}
-use Rattle.al_base.specs.Positions.{BeginsLine, column_at, line_at}
 use Rattle.al_base.specs.Streams.{bytes_written, write_failures}
-use Rattle.al_text.specs.Snippets.{fault_text}
+use Rattle.al_text.specs.Snippets.{text_in}
 use Rattle.al_session.proofs.report.write_referred.Given as goal
 
 abbrev pub invariant-loop-fault : goal.invariant-loop-fault
 invariant-loop-fault g l = record {
   appended : Appends (bytes_written g.W.Write.contents l.fn.writer) (bytes_written g.W.Write.contents l.writer)
-      (flat_map (λ r. fault_text l.listing.format l.listing.path.now l.bytes r.now) (take l.fault-index l.faults));
+      (flat_map (λ r. text_in l.file r.now) (take l.fault-index l.faults));
   unfailed : write_failures l.writer ≡ write_failures l.fn.writer;
-  line : l.location.line ≡ line_at l.bytes l.at;
-  column : l.location.column ≡ column_at l.bytes l.at;
-  start : BeginsLine l.bytes l.at l.location.start;
+  same : l.printer.file ≡ l.file;
 }

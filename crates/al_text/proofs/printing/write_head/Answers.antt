@@ -1,36 +1,20 @@
-use Rattle.std.proofs.Common.{◌≡◌, ◌∙◌, ◌++◌, ◌∷◌, [], ℕ, List, Bor, Option, Some, None, unwrap_or, ap, refl, slice_get, subst, append_assoc}
-use Rattle.std.specs.Option.{option_copied}
-use Rattle.al_base.specs.Streams.{WritesOrFails}
-use Rattle.al_text.specs.Messages.{argument}
+use Rattle.std.specs.Prelude.{decimal}
+use Rattle.al_base.proofs.Writing.{after, fails_early}
+use Rattle.al_text.specs.Messages.{message}
+use Rattle.al_text.specs.Wordings.{code_row}
+use Rattle.al_text.specs.Private.Fragments.{position_text, message_line}
 use Rattle.al_text.proofs.printing.write_head.Goals as goal
 
--- the appended parts, reassociated to the left
-line_is : (p l c h f m s t k : List ℕ) →
-    p ++ ((58 ∷ []) ++ (l ++ ((58 ∷ []) ++ (c ++ ((58 ∷ 32 ∷ []) ++ (h ++ (f ++ (m ++ (s ++ (t ++ ((32 ∷ 91 ∷ []) ++ (k ++ ((93 ∷ 10 ∷ []) ++ [])))))))))))))
-    ≡ p ++ 58 ∷ [] ++ l ++ 58 ∷ [] ++ c ++ 58 ∷ 32 ∷ [] ++ (h ++ f ++ m ++ s ++ t) ++ 32 ∷ 91 ∷ (k ++ 93 ∷ 10 ∷ [])
-line_is p l c h f m s t k = simp append_assoc
-
-text_or_none : (text : Option (Bor (List ℕ))) (none : Bor (List ℕ)) → (unwrap_or text none).now ≡ unwrap_or (option_copied text) none.now
-text_or_none None none = refl
-text_or_none (Some text) none = refl
+pub returns-in_err-write_position : goal.returns-in_err-write_position
+returns-in_err-write_position g c =
+    let a = c.args in
+    fails_early _ _ _ _ _ (position_text a.path.now (decimal a.location.line) (decimal a.location.column))
+    (message_line (message a.fault.now.code a.fault.now.args) ((code_row a.fault.now.code).kind)) c.from_residual.ensures.1
+    (rw (c.format-line.ensures.text, c.format-column.ensures.text) at c.in_err-write_position.ensures)
 
 pub returns : goal.returns
 returns g c =
     let a = c.args in
-    let row = c.row_of-row.ensures in
-    let first : c.unwrap_or.result.now ≡ unwrap_or (slice_get a.fault.now.args 0) [] =
-    ap (λ t. t.now) c.unwrap_or.ensures ∙ text_or_none c.first.result _ ∙ ap (λ o. unwrap_or o []) c.first.ensures.is in
-    let second : c.unwrap_or-2.result.now ≡ unwrap_or (slice_get a.fault.now.args 1) [] =
-    ap (λ t. t.now) c.unwrap_or-2.ensures ∙ text_or_none c.second.result _ ∙ ap (λ o. unwrap_or o []) c.second.ensures in
-    let w = rw (
-      c.as_bytes.ensures.value,
-      c.as_bytes-2.ensures.value,
-      c.as_bytes-3.ensures.value,
-      c.as_bytes-4.ensures.value ∙ row.head,
-      c.as_bytes-5.ensures.value ∙ first,
-      c.as_bytes-6.ensures.value ∙ row.middle,
-      c.as_bytes-7.ensures.value ∙ second,
-      c.as_bytes-8.ensures.value ∙ row.tail,
-      c.as_bytes-9.ensures.value ∙ row.kind,
-    ) at c.write_fragments.ensures in
-    subst (WritesOrFails _ _ _ _) (line_is a.path.now a.line.now a.column.now _ (argument a.fault.now.args 0) _ (argument a.fault.now.args 1) _ _) w
+    let position = rw (c.format-line.ensures.text, c.format-column.ensures.text) at c.in_ok-write_position.ensures in
+    after _ _ _ _ _ (position_text a.path.now (decimal a.location.line) (decimal a.location.column))
+    (message_line (message a.fault.now.code a.fault.now.args) ((code_row a.fault.now.code).kind)) position.all position.failures c.write_message.ensures
