@@ -153,7 +153,7 @@ fn is_within(bytes: &[u8], span: Span) -> bool
 
 /// A file with these bytes, whose faults are printed with their lines.
 fn printed_file(bytes: &[u8]) -> PrintedFile<'_>
-    ensures { result.entry.bytes.now ≡ bytes.now }
+    ensures { result.bytes.now ≡ bytes.now }
 {
     PrintedFile {
         path: PATH,
