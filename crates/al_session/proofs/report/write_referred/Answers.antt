@@ -13,7 +13,7 @@ pub write_fault-requires : goal.write_fault-requires
 write_fault-requires g c =
     let inside = all-referred (λ (fault : Fault). LiesIn (length c.args.file.now.bytes.now) fault.span) c.args.faults.now c.loop-fault.fault-index
     c.fault-item.result c.requires.within (omega (arith, c.loop-fault-test.true)) c.fault-item.is in
-    record { within = rw c.loop-fault.invariant.same inside; }
+    record { within = rw c.loop-fault.invariant.same inside }
 
 pub returns-in_err-write_fault : goal.returns-in_err-write_fault
 returns-in_err-write_fault g c =
