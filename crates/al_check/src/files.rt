@@ -4,8 +4,11 @@ ghost use Rattle.std.specs.Prelude.{◌≡◌, ◌≤◌, ◌++◌, length, map,
 ghost use Rattle.std.specs.Option.{option_copied};
 ghost use Rattle.al_tree.specs.Faults.{root_faults};
 ghost use Rattle.al_base.specs.FaultLists.{fault_list};
+ghost use Rattle.al_base.specs.Growth.{SameSet};
 ghost use Rattle.al_base.specs.Limits.{largest_file};
 ghost use Rattle.al_tree.specs.Files.{kind_in, root_of, shape_of};
+ghost use Rattle.al_yaml_tree.specs.Spans.{IsLaid};
+ghost use Rattle.al_yaml_tree.specs.Texts.{HasTexts};
 ghost use Rattle.al_yaml_tree.specs.View.{view};
 ghost use Rattle.al_check_interfaces.specs.FolderCalls.{AreCallsOf};
 ghost use Rattle.al_check_interfaces.specs.Uses as uses;
@@ -18,7 +21,9 @@ ghost use Rattle.al_check.specs.Reading.{IsRead};
 
 use crate::printed_args::with_printed_args;
 use al_base::{Code, Fault, FaultSink, add_copies, fault_list};
-use al_check_calls::{Calling, faults_with_answers};
+use al_check_calls::{check_calls, known_outputs, with_answers};
+use al_check_contexts::Env;
+use al_check_expressions::expression_faults;
 use al_check_interfaces::{FolderCall, Interface, calls_in, folder_calls, interface_of};
 use al_rules::rules;
 use al_scalar::YamlFault;
@@ -104,6 +109,34 @@ pub(crate) fn read_file(alloc: Global, source: Source<'_>) -> Result<ReadFile, A
     })
 }
 
+/// Adds the faults of a file that depend on the answers of its calls, X1 to X20, C1 to C6 and C8:
+/// those of its expressions, which see the outputs known from the answers, and those of its calls.
+/// Calls with the same candidates have the same answer. Of equal faults, as of calls by aliases, at
+/// least one is added.
+fn faults_with_answers(
+    tree: &Tree,
+    kept: &[FolderCall],
+    answers: &[Option<&Interface>],
+    faults: &mut FaultSink,
+) -> Result<(), AllocError>
+    requires laid { IsLaid largest_file (root_of tree.now) }
+    requires texts { HasTexts (root_of tree.now) }
+    requires calls { AreCallsOf (kind_in tree.now) (root_of tree.now) kept.now }
+    requires answers { let calls = uses.calls_in (kind_in tree.now) (root_of tree.now) in
+        AreAnswers (uses.targets_of calls) (map (λ a. option_copied a) answers.now) }
+    ensures { OnOk result (SameSet faults.new (faults.old
+        ++ meant.faults_with_answers (kind_in tree.now) (root_of tree.now)
+        (map (λ a. option_copied a) answers.now))) }
+{
+    let alloc = faults.alloc();
+    let calls = calls_in(alloc, tree.kind(), tree.root())?;
+    let answered = with_answers(alloc, calls.as_slice(), kept, answers)?;
+    let known = known_outputs(alloc, answered.as_slice())?;
+    let mut env = Env::new(alloc, known.file(tree.kind(), tree.root()))?;
+    expression_faults(&mut env, faults)?;
+    check_calls(&mut env, answered.as_slice(), faults)
+}
+
 /// The faults of a file that was read from this source, given the answers of its calls of files in
 /// the folder: its one YAML fault, or else all faults of the document, in report order, each once.
 pub(crate) fn file_faults(
@@ -127,12 +160,7 @@ pub(crate) fn file_faults(
             return Ok(faults.into_faults());
         }
     };
-    let calling = Calling {
-        kind: tree.kind(),
-        root: tree.root(),
-        calls: file.calls.as_slice(),
-    };
-    faults_with_answers(calling, answers, &mut faults)?;
+    faults_with_answers(tree, file.calls.as_slice(), answers, &mut faults)?;
     // The file's own faults, which are few, are appended to those found, which can be millions.
     let mut found = faults.into_faults();
     add_copies(alloc, &file.own, &mut found)?;

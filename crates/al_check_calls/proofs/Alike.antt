@@ -22,8 +22,9 @@ use Rattle.al_check_interfaces.specs.declared.interfaces.ParameterKind.TheVarian
 use Rattle.al_check_interfaces.specs.declared.interfaces.Signature.{Signature}
 use Rattle.al_check_interfaces.specs.Uses.{Call, site_caller}
 use Rattle.al_check_calls.specs.Answers.{Answered}
+use Rattle.al_check_calls.specs.Preconditions.{AreToldByUses}
 use Rattle.al_check_calls.specs.CallFaults.{callable_signature}
-use Rattle.al_check_calls.specs.Private.Comparing.{AreToldByUses, CallAlike, Comparison, HaveOneSignature, TellSignatures, call_alike, compared_with}
+use Rattle.al_check_calls.specs.Private.Comparing.{CallAlike, Comparison, HaveOneSignature, TellSignatures, call_alike, compared_with}
 use Rattle.al_check_calls.specs.Private.Comparing.{comparison_of, comparisons, is_compared}
 
 -- ---- equality tests are exact

@@ -14,19 +14,18 @@ use Rattle.std.proofs.lemmas.Slice.Eq.{bytes_eq-Decides}
 use Rattle.al_base.specs.declared.codes.Caller.TheVariants as caller
 use Rattle.al_tree.proofs.Kept.{all_seen}
 use Rattle.al_check_calls.specs.Answers.{Answered}
+use Rattle.al_check_calls.specs.Preconditions.{AreToldByUses}
 use Rattle.al_check_calls.specs.CallFaults.{callable_signature}
 use Rattle.al_check_interfaces.specs.Uses.{site_caller}
 use Rattle.al_check_interfaces.specs.declared.interfaces.Signature.{Signature}
-use Rattle.al_check_calls.specs.Outputs.{called_outputs, shows_outputs}
-use Rattle.al_check_calls.specs.Private.AnswerViews.{answered_of}
+use Rattle.al_check_calls.specs.Outputs.{called_outputs, known_from_calls, known_of_call, shows_outputs}
+use Rattle.al_check_calls.specs.AnswerViews.{answered_of}
 use Rattle.al_check_calls.specs.declared.answers.Answered as code
-use Rattle.al_check_contexts.specs.Answered.{OutputsOfCall, call_outputs}
+use Rattle.al_check_contexts.specs.Answered.{OutputsOfCall, call_outputs, known_in}
 use Rattle.al_check_contexts.specs.declared.known.Answer.{Answer}
 use Rattle.al_check_calls.specs.Private.KnownLists.{ArePlaced, Naming, StandsAt, Takes, lists_of, position_of}
-use Rattle.al_check_calls.specs.Private.Comparing.{AreToldByUses}
 use Rattle.al_check_calls.specs.declared.known.Lists.{Lists}
 use Rattle.std.specs.Bool.{then_some}
-use Rattle.al_check_calls.specs.FileCalls.{known_of_call}
 
 abbrev Names : Type 0
 Names = List (List ℕ)
@@ -179,12 +178,13 @@ naming_of found told of_step text =
 
 -- all calls
 pub all_known : (answered : List code.Answered) (i : ℕ) (ls : Lists) (known : List Answer) → length answered ≤ i → AreToldByUses (map answered_of answered) →
-    AreKnown answered i ls known → map (call_outputs (lists_of ls)) known ≡ map known_of_call (map answered_of answered)
+    AreKnown answered i ls known → known_in (map (call_outputs (lists_of ls)) known) ≡ known_from_calls (map answered_of answered)
 all_known answered i ls known end told so_far =
     let found = map answered_of answered in
     let naming = naming_of found told in
     let IsAnswered : Answered → Type 0 = λ a. a.answer ≡ told.answer (site_caller a.call.site) a.call.text in
     let named = All-weaker IsAnswered (IsNamed naming) (λ a h. ap (λ o. option_and_then outputs_in (callable_signature (site_caller a.call.site) o)) (sym h))
     found (All-from_recursion IsAnswered found told.told) in
-    ap (λ l. map (call_outputs l) known) (sym (append-nil (lists_of ls))) ∙ (so_far naming named).1 []
-    ∙ ap (λ l. map known_of_call (map answered_of l)) (take_all i answered end)
+    ap known_in
+    (ap (λ l. map (call_outputs l) known) (sym (append-nil (lists_of ls))) ∙ (so_far naming named).1 []
+    ∙ ap (λ l. map known_of_call (map answered_of l)) (take_all i answered end))

@@ -26,7 +26,7 @@ use Rattle.al_check_interfaces.specs.declared.interfaces.Signature.{Signature}
 use Rattle.al_check_interfaces.specs.Uses.{Call}
 use Rattle.al_check_calls.specs.Answers.{Answered}
 use Rattle.al_check_calls.specs.CallFaults.{missing_code, names_against}
-use Rattle.al_check_calls.specs.Private.AnswerViews.{compared_of}
+use Rattle.al_check_calls.specs.Private.ComparisonViews.{compared_of}
 use Rattle.al_check_calls.specs.Private.Comparing.{Comparison, HaveOneSignature, IsSaid, call_alike, compared_with, comparison_of, comparisons}
 use Rattle.al_check_calls.specs.Private.Comparing.{fault_unless_given, faults_of_names, gives, is_by_same_uses, mandatory_for, missing_fault, missing_of}
 use Rattle.al_check_calls.specs.Private.Comparing.{names_of_kind, signature_for}

@@ -1,47 +1,24 @@
--- The texts of a file that was read are short, and so are those of the nodes that call.
+-- If the texts of a file are short, so are those of the nodes that call.
 use Rattle.std.proofs.Common.{◌≡◌, ℕ, List, map, Option, Some, subst}
-use Rattle.std.specs.Prelude.{All, IfSome, IsUtf8}
+use Rattle.std.specs.Prelude.{All, IfSome}
 use Rattle.std.specs.List.{AllByRecursion}
 use Rattle.std.proofs.lemmas.List.Elements.{All-from_recursion, All-same}
-use Rattle.al_scalar.specs.Scalar.{Scalar, text_of}
+use Rattle.al_scalar.specs.Scalar.{Scalar}
 use Rattle.al_yaml_tree.specs.Access.{entries, nodes, scalar_in}
-use Rattle.al_yaml_tree.specs.Node.{Node, Nodes, Entries, scalar, sequence, mapping, no_nodes, item, no_entries, entry}
-use Rattle.al_yaml_tree.proofs.LaidLemmas.{Laid}
-use Rattle.al_yaml_tree.specs.Spans.{AreLaid, EntriesLaid, IsLaid}
-use Rattle.al_yaml_tree.specs.Texts.{EntriesHaveTexts, HasTexts, HaveTexts}
+use Rattle.al_yaml_tree.specs.Node.{Node, Nodes, Entries, no_nodes, item, no_entries, entry}
 use Rattle.al_yaml_tree.specs.View.{view}
 use Rattle.al_tree.proofs.Kept.{AreKept, Pair, all_seen, entries_kept, scalar_kept}
 use Rattle.al_tree.specs.Values.{entries_at, member_of}
 use Rattle.al_tree.specs.declared.values.Member.{Member}
 use Rattle.al_tree.specs.declared.files.FileKind.{FileKind}
-use Rattle.al_check_expressions.proofs.Places.{readable}
 use Rattle.al_check_interfaces.specs.declared.interfaces.Interface.{Interface}
 use Rattle.al_check_interfaces.specs.Uses.{Call, calls_in}
 use Rattle.al_check_interfaces.proofs.Parts.{calls_kept}
-use Rattle.al_check_calls.specs.Private.AnswerViews.{answered_of}
+use Rattle.al_check_calls.specs.AnswerViews.{answered_of}
 use Rattle.al_check_calls.specs.Answers.{Answered, calls_with_answers}
 use Rattle.al_check_calls.specs.declared.answers.Answered as code
 use Rattle.al_check_calls.proofs.Answering.{each_answered}
-use Rattle.al_check_calls.specs.FileCalls.{AreShort, EntriesShort, IsShort, ItemsShort}
-
-short_scalar : (s : Scalar) → Laid 1048576 1048576 s → IsUtf8 (text_of s) → IsShort s
-short_scalar s w t = (t, (readable s w.1 (w.0).inside).0)
-
-mutual
-  short_all : (n : Node) → IsLaid 1048576 n → HasTexts n → AreShort n
-  short_all (scalar s) w t = short_scalar s w t
-  short_all (sequence ns at) w t = short_items ns w.1 t
-  short_all (mapping es at) w t = short_entries es w.1 t
-
-  short_items : (ns : Nodes) → AreLaid 1048576 ns → HaveTexts ns → ItemsShort ns
-  short_items no_nodes w t = tt
-  short_items (item n ns) w t = (short_all n w.0 t.0, short_items ns w.1 t.1)
-
-  short_entries : (es : Entries) → EntriesLaid 1048576 es → EntriesHaveTexts es → EntriesShort es
-  short_entries no_entries w t = tt
-  short_entries (entry k v es) w t = (short_scalar k w.0 t.0, short_all v w.1 t.1, short_entries es w.2 t.2)
-
--- ---- what is true of a node is true of the nodes in it
+use Rattle.al_check_calls.specs.Preconditions.{AreShort, EntriesShort, IsShort, ItemsShort}
 
 items_short : (ns : Nodes) → ItemsShort ns → AllByRecursion AreShort (nodes ns)
 items_short no_nodes h = tt
@@ -65,9 +42,9 @@ AnsweredIsShort a = CallIsShort a.call
 
 -- the calls that the code found, with their answers
 pub all_short : (as' : List code.Answered) (k : FileKind) (root : Node) (answers : List (Option Interface)) →
-    map answered_of as' ≡ calls_with_answers (calls_in k root) answers → IsLaid 1048576 root → HasTexts root → All (λ (a : code.Answered). AreShort (view a.call.site.node.now)) as'
-all_short as' k root answers e w t i d within =
-    let all = All-from_recursion AnsweredIsShort _ (each_answered CallIsShort (calls_in k root) answers (calls_short k root (short_all root w t))) in
+    map answered_of as' ≡ calls_with_answers (calls_in k root) answers → AreShort root → All (λ (a : code.Answered). AreShort (view a.call.site.node.now)) as'
+all_short as' k root answers e h i d within =
+    let all = All-from_recursion AnsweredIsShort _ (each_answered CallIsShort (calls_in k root) answers (calls_short k root h)) in
     (all_seen answered_of AnsweredIsShort as' (All-same AnsweredIsShort _ _ e all) i d within).1
 
 -- the members that the code found under a key of a node

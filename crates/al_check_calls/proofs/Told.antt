@@ -14,7 +14,7 @@ use Rattle.al_check_interfaces.specs.declared.interfaces.Interface.{Interface}
 use Rattle.al_check_interfaces.specs.Forms.{form_by}
 use Rattle.al_check_interfaces.specs.Uses.{Call, Site, call_at, call_by, calls_in, sites_in, target_in, targets_of, site_caller}
 use Rattle.al_check_calls.specs.Answers.{Answered, answered_by, calls_with_answers}
-use Rattle.al_check_calls.specs.Private.Comparing.{AreToldByUses}
+use Rattle.al_check_calls.specs.Preconditions.{AreToldByUses}
 
 -- ---- what is called
 

@@ -24,7 +24,7 @@ use Rattle.al_tree.specs.Keys.{key_of}
 use Rattle.al_check_interfaces.specs.Kinds.{parameters_of}
 use Rattle.al_check_interfaces.specs.Parameters.{has_parameter}
 use Rattle.al_check_calls.specs.CallFaults.{given_by, is_free_for, undefined_code}
-use Rattle.al_check_calls.specs.Private.AnswerViews.{name_of}
+use Rattle.al_check_calls.specs.Private.ComparisonViews.{name_of}
 use Rattle.al_check_calls.specs.Private.Comparing.{AreThere, Comparison, GivenName, HaveOneSignature, TellSignatures, TellSignaturesBy, call_alike}
 use Rattle.al_check_calls.specs.Private.Comparing.{is_same_name_given, name_by, names_by, undefined_at, undefined_of}
 use Rattle.al_check_calls.specs.declared.undefined.GivenName as code

@@ -1,8 +1,9 @@
 pub mod CallFaults
 pub mod Answers
+pub mod AnswerViews
 pub mod Laws
 pub mod Outputs
+pub mod Preconditions
 pub mod Private
 pub mod Rows
 pub mod Types
-pub mod FileCalls

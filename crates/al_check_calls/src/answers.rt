@@ -3,7 +3,7 @@ ghost use Rattle.std.specs.Prelude.{◌≡◌, map, IfOk};
 ghost use Rattle.std.specs.Option.{option_copied};
 ghost use Rattle.al_check_calls.specs.Answers as answering;
 ghost use Rattle.al_check_calls.specs.CallFaults as meant;
-ghost use Rattle.al_check_calls.specs.Private.AnswerViews.{answered_of};
+ghost use Rattle.al_check_calls.specs.AnswerViews.{answered_of};
 ghost use Rattle.al_tree.specs.declared.files.FileKind.{FileKind};
 ghost use Rattle.al_check_interfaces.specs.FolderCalls.{AreCallsOf};
 ghost use Rattle.al_check_interfaces.specs.CallViews.{call_of};
@@ -17,16 +17,16 @@ use std::alloc::{AllocError, Global};
 /// A call of a file in the folder with its answer: the interface of its first candidate that
 /// exists, or `None`.
 #[derive(Clone, Copy)]
-pub(crate) struct Answered<'a> {
+pub struct Answered<'a> {
     pub(crate) call: Call<'a>,
     pub(crate) answer: Option<&'a Interface>,
 }
 
-/// The kept calls of files in the folder, with their answers in order. `calls` are all calls of the
-/// file.
+/// The kept calls of files in the folder, each with its answer. `calls` are all calls of the file;
+/// `answers` are those of the kept calls, in order, and a call past their end has `None`.
 ///
 /// Fails with `AllocError` when out of memory.
-pub(crate) fn with_answers<'a>(
+pub fn with_answers<'a>(
     alloc: Global,
     calls: &[Call<'a>],
     kept: &[FolderCall],

@@ -4,9 +4,9 @@ ghost use Rattle.std.specs.List.{flat_map};
 ghost use Rattle.al_base.specs.Growth.{SameSet};
 ghost use Rattle.al_check_calls.specs.Answers.{answered_faults};
 ghost use Rattle.al_check_calls.specs.CallFaults as meant;
-ghost use Rattle.al_check_calls.specs.FileCalls.{AreShort};
-ghost use Rattle.al_check_calls.specs.Private.AnswerViews.{answered_of, typing_in};
-ghost use Rattle.al_check_calls.specs.Private.Comparing.{AreToldByUses, faults_but_names};
+ghost use Rattle.al_check_calls.specs.Preconditions.{AreShort, AreToldByUses};
+ghost use Rattle.al_check_calls.specs.AnswerViews.{answered_of, typing_in};
+ghost use Rattle.al_check_calls.specs.Private.Comparing.{faults_but_names};
 ghost use Rattle.al_check_contexts.specs.Environments.{HasMoved, IsAtPosition, file_of};
 ghost use Rattle.al_yaml_tree.specs.View.{view};
 
@@ -60,10 +60,15 @@ fn check_call<'a>(
     }
 }
 
-/// Adds the faults of some calls of the environment's file, and moves the environment to them. Of
-/// equal faults, as of calls by aliases, at least one is added. Finding the faults of names takes
-/// time proportional to what the calls give, and to the mandatory parameters once for each `uses`.
-pub(crate) fn check_calls<'a>(
+/// Adds the faults of some calls of the environment's file, C1 to C6 and C8, and moves the
+/// environment to them. Of equal faults, as of calls by aliases, at least one is added. Finding the
+/// faults of names takes time proportional to what the calls give, and to the mandatory parameters
+/// once for each `uses`.
+///
+/// The texts of nodes that call are UTF-8 and at most 4,194,304 bytes long. Steps, or jobs, that
+/// call by the same text have the same answer. Fails with `AllocError` when out of memory; what the
+/// sink holds then is unspecified.
+pub fn check_calls<'a>(
     env: &mut Env<'a>,
     answered: &[Answered<'a>],
     faults: &mut FaultSink,

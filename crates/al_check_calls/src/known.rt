@@ -1,13 +1,11 @@
 //! What is known of outputs from the answers of calls.
 ghost use Rattle.std.specs.Prelude.{◌≡◌, map, is_some, IfOk};
 ghost use Rattle.std.specs.Option.{option_copied};
-ghost use Rattle.al_check_calls.specs.Outputs.{called_outputs};
-ghost use Rattle.al_check_calls.specs.Private.AnswerViews.{answered_of};
-ghost use Rattle.al_check_contexts.specs.Answered.{known_in, known_of};
-ghost use Rattle.al_check_calls.specs.FileCalls.{known_of_call};
+ghost use Rattle.al_check_calls.specs.Outputs.{called_outputs, known_from_calls};
+ghost use Rattle.al_check_calls.specs.AnswerViews.{answered_of, outputs_known};
+ghost use Rattle.al_check_contexts.specs.Answered.{known_of};
 ghost use Rattle.al_check_calls.specs.Private.KnownLists.{ArePlaced, Naming, Takes};
-ghost use Rattle.al_check_calls.specs.Private.KnownLists.{all_call_outputs};
-ghost use Rattle.al_check_calls.specs.Private.Comparing.{AreToldByUses};
+ghost use Rattle.al_check_calls.specs.Preconditions.{AreToldByUses};
 ghost use Rattle.al_yaml_tree.specs.View.{view};
 
 use crate::answers::{Answered, called_signature};
@@ -71,17 +69,17 @@ impl<'a> Lists<'a> {
 
 /// What is known of the outputs of the calls of a file.
 #[derive(Drop)]
-pub(crate) struct KnownOutputs<'a> {
+pub struct KnownOutputs<'a> {
     answers: Vec<Answer<'a>>,
     lists: Lists<'a>,
 }
 
 impl KnownOutputs<'_> {
-    /// The file of the calls, with what is known.
-    pub(crate) fn file<'k>(&'k self, kind: FileKind, root: &'k Node) -> File<'k>
+    /// The file of the calls, given its kind and its root, with what is known.
+    pub fn file<'k>(&'k self, kind: FileKind, root: &'k Node) -> File<'k>
         ensures kind { result.kind ≡ kind }
         ensures root { view result.root.now ≡ view root.now }
-        ensures known { known_of result.known ≡ known_in (all_call_outputs self.now) }
+        ensures known { known_of result.known ≡ outputs_known self.now }
     {
         let answers = self.answers.as_slice();
         let lists = self.lists.lists.as_slice();
@@ -90,15 +88,17 @@ impl KnownOutputs<'_> {
     }
 }
 
-/// What is known of the outputs of some calls, in order. Steps, or jobs, that call by the same text
-/// have the same answer, and so the same position.
-pub(crate) fn known_outputs<'a>(
+/// What is known of the outputs of some calls from their answers. Steps, or jobs, that call by the
+/// same text have the same answer, and so their outputs are listed once.
+///
+/// Fails with `AllocError` when out of memory.
+pub fn known_outputs<'a>(
     alloc: Global,
     answered: &[Answered<'a>],
 ) -> Result<KnownOutputs<'a>, AllocError>
     requires { AreToldByUses (map answered_of answered.now) }
     ensures { IfOk result
-        (λ known. all_call_outputs known ≡ map known_of_call (map answered_of answered.now)) }
+        (λ known. outputs_known known ≡ known_from_calls (map answered_of answered.now)) }
 {
     let mut lists = Lists::new(alloc);
     let mut answers = Vec::new(alloc);

@@ -1,13 +1,12 @@
-//! The faults of a file that depend on the files that it calls: those of its calls, given the
-//! interfaces of the called files and the types of the values that jobs give, and those of its
-//! expressions, which see the outputs known from the answers.
+//! The calls of a file with their answers, which are the interfaces of the called files: what is
+//! known from them of outputs, which expressions see, and the faults of the calls, given the types
+//! of the values that jobs give.
 #![tactic(auto)]
 
 mod answers;
 mod comparisons;
 mod examples;
 mod faults;
-mod files;
 mod known;
 mod laws;
 mod missing;
@@ -16,6 +15,8 @@ mod types;
 mod undefined;
 mod values;
 
+pub use answers::{Answered, with_answers};
 pub use examples::rows;
-pub use files::{Calling, faults_with_answers};
+pub use faults::check_calls;
+pub use known::{KnownOutputs, known_outputs};
 pub use laws::faults_lie;

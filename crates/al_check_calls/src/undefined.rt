@@ -5,7 +5,7 @@ ghost use Rattle.std.specs.Prelude.{◌≡◌, ◌++◌, map, IfOk, IfSome, OnOk
 ghost use Rattle.std.specs.List.{flat_map};
 ghost use Rattle.al_base.specs.Growth.{SameSet};
 ghost use Rattle.al_check_calls.specs.CallFaults as meant;
-ghost use Rattle.al_check_calls.specs.Private.AnswerViews.{compared_of, name_of};
+ghost use Rattle.al_check_calls.specs.Private.ComparisonViews.{compared_of, name_of};
 ghost use Rattle.al_check_calls.specs.Private.Comparing as comparing;
 ghost use Rattle.al_check_calls.specs.Private.Comparing.{AreThere, HaveOneSignature};
 ghost use Rattle.al_check_calls.specs.Private.Comparing.{TellSignatures};

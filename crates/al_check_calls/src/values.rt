@@ -3,9 +3,10 @@
 ghost use Rattle.std.specs.Prelude.{◌≡◌, ◌++◌, IfOk, OnOk};
 ghost use Rattle.std.specs.List.{flat_map};
 ghost use Rattle.al_check_calls.specs.CallFaults as meant;
-ghost use Rattle.al_check_calls.specs.FileCalls as file_calls;
-ghost use Rattle.al_check_calls.specs.FileCalls.{AreShort, value_type_in_job};
-ghost use Rattle.al_check_calls.specs.Private.AnswerViews.{typing_in};
+ghost use Rattle.al_check_calls.specs.Preconditions.{AreShort};
+ghost use Rattle.al_check_calls.specs.Types as value_types;
+ghost use Rattle.al_check_calls.specs.Types.{value_type_in_job};
+ghost use Rattle.al_check_calls.specs.AnswerViews.{typing_in};
 ghost use Rattle.al_check_calls.specs.Private.Comparing.{wrong_value};
 ghost use Rattle.al_check_contexts.specs.Answered.{known_of};
 ghost use Rattle.al_check_contexts.specs.Environments.{HasMoved, IsAtPosition, file_of};
@@ -30,7 +31,7 @@ use std::alloc::AllocError;
 
 /// The place of the value of a key under `with` of a job.
 fn place_of_value<'a>(job: &'a [u8], key: &'a Scalar, scalar: &'a Scalar) -> Place<'a>
-    ensures { place_of result ≡ file_calls.place_of_value job.now key.now scalar.now }
+    ensures { place_of result ≡ value_types.place_of_value job.now key.now scalar.now }
 {
     Place {
         scalar,

@@ -32,12 +32,14 @@ use Rattle.al_lint.specs.declared.lint.Target.{Target}
 use Rattle.al_check.specs.Calling.{file_targets}
 use Rattle.al_check.specs.Sites.{file_sites}
 use Rattle.al_check_calls.proofs.Inside.{call_faults_lie}
-use Rattle.al_check_calls.specs.Answers.{Answered, calls_with_answers, answered_faults}
-use Rattle.al_check_calls.specs.FileCalls.{faults_with_answers, known_from_calls, typing}
+use Rattle.al_check_calls.specs.Answers.{call_faults_in, calls_with_answers}
+use Rattle.al_check_calls.specs.Outputs.{known_from_calls}
+use Rattle.al_check_calls.specs.Types.{typing}
 use Rattle.al_expr_typing.proofs.Inside.{both_lie}
 use Rattle.al_rules.proofs.Lying.{rules_lie}
 use Rattle.al_tree.specs.Faults.{root_faults}
-use Rattle.al_check.specs.FileFaults.{document_faults, file_faults, own_faults, printed_fault}
+use Rattle.al_check.specs.FileFaults.{document_faults, faults_with_answers, file_faults}
+use Rattle.al_check.specs.FileFaults.{own_faults, printed_fault}
 use Rattle.al_rules.specs.Rules.{rule_faults}
 use Rattle.al_check_interfaces.specs.Uses.{wrong_uses}
 use Rattle.al_base.specs.declared.codes.Code.TheVariants as code
@@ -58,15 +60,13 @@ CallLies size c = LiesIn size c.at × IsInside size c.site.node
 module _ (size : ℕ) (kind : FileKind) (root : Node) (i : IsInside size root) (w : IsLaid size root)
     (f : AreFrom size root)
     (answers : List (Option Interface)) where
-  abbrev calls : List Answered
-  calls = calls_with_answers (calls_in kind root) answers
-
   with_answers_lie : AllLie size (faults_with_answers kind root answers)
   with_answers_lie =
-      both_lie size (expression_faults kind (known_from_calls calls) root)
-      (flat_map (answered_faults (typing kind (known_from_calls calls) root)) calls)
-      (expression_faults_lie size kind (known_from_calls calls) root w f)
-      (call_faults_lie size kind (typing kind (known_from_calls calls) root) root answers i)
+      let known = known_from_calls (calls_with_answers (calls_in kind root) answers) in
+      let types = typing kind known root in
+      both_lie size (expression_faults kind known root) (call_faults_in kind types root answers)
+      (expression_faults_lie size kind known root w f)
+      (call_faults_lie size kind types root answers i)
 
   abbrev all_faults : List Fault
   all_faults = own_faults kind root ++ faults_with_answers kind root answers

@@ -1,7 +1,7 @@
 -- The faults of a call by itself, and the faults of names for all calls of a file together.
 use Rattle.std.specs.Prelude.{◌≡◌, ◌⊎◌, List, [], ◌∷◌, ◌++◌, Bool, true, false, ◌&&◌, not, Contains}
-use Rattle.std.specs.Prelude.{ℕ, map, Option, None, option_map, if◌then◌else◌}
-use Rattle.std.specs.List.{AllByRecursion, cons_option, flat_map}
+use Rattle.std.specs.Prelude.{map, Option, None, option_map, if◌then◌else◌}
+use Rattle.std.specs.List.{cons_option, flat_map}
 use Rattle.std.specs.Option.{option_map_or}
 use Rattle.std.specs.Str.{bytes_eq}
 use Rattle.al_base.specs.contracts.codes.CallerPartialEq.TheImpl as caller
@@ -103,11 +103,6 @@ HaveOneSignature q r =
 
 abbrev pub TellSignatures : List Comparison → Type 0
 TellSignatures qs = (q r : Comparison) → Contains qs q → Contains qs r → HaveOneSignature q r
-
--- calls whose answers depend only on the caller and the text
-pub record AreToldByUses (found : List Answered) : Type 0 where
-  pub answer : Caller → List ℕ → Option Interface
-  pub told : AllByRecursion (λ a. a.answer ≡ answer (site_caller a.call.site) a.call.text) found
 
 -- calls with the same kind of names, caller and text
 abbrev pub call_alike : Comparison → Comparison → Bool

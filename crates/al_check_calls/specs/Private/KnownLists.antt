@@ -4,8 +4,6 @@ use Rattle.std.specs.Prelude.{slice_get}
 use Rattle.std.specs.BTreeMap.{get_by}
 use Rattle.std.specs.Cmp.Lexicographic.{slice_cmp}
 use Rattle.std.specs.Ordering.{bool_cmp, nat_cmp, ordering_then}
-use Rattle.al_check_contexts.specs.Answered.{OutputsOfCall, call_outputs}
-use Rattle.al_check_calls.specs.declared.known.KnownOutputs.{KnownOutputs}
 use Rattle.al_check_calls.specs.declared.known.Lists.{Lists}
 
 -- the names by whether a step calls, and by the text of its `uses`
@@ -41,6 +39,3 @@ pub record Takes (old new : Lists) (of_step : Bool) (text : List ℕ) (names : O
       → ArePlaced naming new
   pub stands : (naming : Naming) → naming of_step text ≡ names → ArePlaced naming old
       → StandsAt (lists_of new) position names
-
-abbrev pub all_call_outputs : KnownOutputs → List OutputsOfCall
-all_call_outputs known = map (call_outputs (lists_of known.lists)) known.answers.items

@@ -3,12 +3,9 @@ use Rattle.std.specs.Option.{option_copied}
 use Rattle.al_base.proofs.Sets.{set_moved_after}
 use Rattle.al_base.specs.FaultLists.{fault_list}
 use Rattle.al_base.specs.Growth.{SameSet}
-use Rattle.al_lint.specs.Meaning.{AreAnswers}
 use Rattle.al_tree.specs.Files.{kind_in, root_of}
-use Rattle.al_check_calls.specs.FileCalls.{faults_with_answers}
 use Rattle.al_check_interfaces.specs.FolderCalls.{AreCallsOf}
-use Rattle.al_check_interfaces.specs.Uses.{calls_in, targets_of}
-use Rattle.al_check.specs.FileFaults.{own_faults}
+use Rattle.al_check.specs.FileFaults.{faults_with_answers, own_faults}
 use Rattle.al_check.specs.Reading.{IsTree}
 use Rattle.al_check.proofs.Given.{document_read, targets_called}
 use Rattle.al_check.proofs.Sets.{one_list, same_list}
@@ -17,23 +14,21 @@ use Rattle.al_check.proofs.files.file_faults.Goals as goal
 pub faults_with_answers-requires-clause-laid : goal.faults_with_answers-requires-clause-laid
 faults_with_answers-requires-clause-laid c =
     let given : IsTree c.args.source.kind c.args.source.bytes.now c.in-Ok.tree = rw c.in-Ok.is at c.requires.read.given in
-    rw c.root.ensures given.laid
+    given.laid
 
 pub faults_with_answers-requires-clause-texts : goal.faults_with_answers-requires-clause-texts
 faults_with_answers-requires-clause-texts c =
     let given : IsTree c.args.source.kind c.args.source.bytes.now c.in-Ok.tree = rw c.in-Ok.is at c.requires.read.given in
-    rw c.root.ensures given.texts
+    given.texts
 
 pub faults_with_answers-requires-clause-calls : goal.faults_with_answers-requires-clause-calls
 faults_with_answers-requires-clause-calls c =
     let calls : AreCallsOf (kind_in c.in-Ok.tree) (root_of c.in-Ok.tree) c.args.file.now.calls.items = rw c.in-Ok.is at c.requires.read.calls in
-    rw (c.kind.ensures, c.root.ensures, c.as_slice.ensures.value) calls
+    rw c.as_slice.ensures.value calls
 
 pub faults_with_answers-requires-clause-answers : goal.faults_with_answers-requires-clause-answers
 faults_with_answers-requires-clause-answers c =
-    let answers : AreAnswers (targets_of (calls_in (kind_in c.in-Ok.tree) (root_of c.in-Ok.tree))) (map (λ a. option_copied a) c.args.answers.now) =
-    rw (← targets_called c.args.file.now c.args.source.kind c.args.source.bytes.now c.requires.read, c.in-Ok.is) at c.requires.answers in
-    rw (c.kind.ensures, c.root.ensures) answers
+    rw (← targets_called c.args.file.now c.args.source.kind c.args.source.bytes.now c.requires.read, c.in-Ok.is) at c.requires.answers
 
 pub returns : goal.returns
 returns c =
@@ -44,7 +39,7 @@ returns c =
     let own : SameSet c.args.file.now.own.items (own_faults kind root) = rw c.in-Ok.is at c.requires.read.own in
     let after = faults_with_answers kind root (map (λ a. option_copied a) c.args.answers.now) in
     let found = c.into_faults-found.result.items in
-    let added : SameSet c.faults_with_answers.new.faults after = rw (c.kind.ensures, c.root.ensures, c.new-faults.ensures) at c.in_ok-faults_with_answers.ensures in
+    let added : SameSet c.faults_with_answers.new.faults after = rw c.new-faults.ensures at c.in_ok-faults_with_answers.ensures in
     let moved = set_moved_after c.args.file.now.own.items found after c.add_copies.new.out.items
     (c.in_ok-add_copies.ensures.all ∙ ap (λ l. found ++ l) c.deref.ensures.value)
     (subst (λ l. SameSet l after) (sym c.into_faults-found.ensures) added) in

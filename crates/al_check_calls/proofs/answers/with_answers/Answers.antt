@@ -5,7 +5,7 @@ use Rattle.std.specs.Option.{option_copied}
 use Rattle.std.specs.Prelude.{unwrap_or}
 use Rattle.al_check_interfaces.specs.CallViews.{call_of}
 use Rattle.al_check_calls.specs.Answers.{answered_by}
-use Rattle.al_check_calls.specs.Private.AnswerViews.{answered_of}
+use Rattle.al_check_calls.specs.AnswerViews.{answered_of}
 use Rattle.al_check_calls.proofs.Answering.{all_answered, answer_there, answered_more, item_at}
 use Rattle.al_check_calls.proofs.answers.with_answers.Goals as goal
 

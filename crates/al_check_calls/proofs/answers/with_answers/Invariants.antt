@@ -2,7 +2,7 @@ use Rattle.std.proofs.Common.{◌≡◌, ◌++◌, drop, map}
 use Rattle.std.specs.Option.{option_copied}
 use Rattle.al_check_interfaces.specs.CallViews.{call_of}
 use Rattle.al_check_interfaces.specs.FolderCalls.{folder_call}
-use Rattle.al_check_calls.specs.Private.AnswerViews.{answered_of}
+use Rattle.al_check_calls.specs.AnswerViews.{answered_of}
 use Rattle.al_check_calls.proofs.Answering.{answered_of_kept}
 use Rattle.al_check_calls.proofs.answers.with_answers.Given as goal
 

@@ -1,7 +1,8 @@
 use Rattle.std.proofs.Common.{◌≡◌, ◌++◌, ◌∙◌, List, [], ◌∷◌, Option, Some, None, ap, append_assoc, append-nil, map}
 use Rattle.std.specs.List.{cons_option}
 use Rattle.al_base.proofs.Sets.{list_more}
-use Rattle.al_check_calls.specs.Private.AnswerViews.{answered_of, compared_of}
+use Rattle.al_check_calls.specs.AnswerViews.{answered_of}
+use Rattle.al_check_calls.specs.Private.ComparisonViews.{compared_of}
 use Rattle.al_check_calls.specs.Private.Comparing.{comparisons}
 use Rattle.al_check_calls.proofs.comparisons.all_comparisons.Goals as goal
 

@@ -1,6 +1,7 @@
 use Rattle.std.proofs.Common.{◌≡◌, map, take}
 use Rattle.std.specs.List.{flat_map}
-use Rattle.al_check_calls.specs.Private.AnswerViews.{answered_of, compared_of}
+use Rattle.al_check_calls.specs.AnswerViews.{answered_of}
+use Rattle.al_check_calls.specs.Private.ComparisonViews.{compared_of}
 use Rattle.al_check_calls.specs.Private.Comparing.{comparisons}
 use Rattle.al_check_calls.proofs.comparisons.all_comparisons.Given as goal
 

@@ -12,7 +12,7 @@ use Rattle.al_check_interfaces.specs.declared.interfaces.Signature.{Signature}
 use Rattle.al_check_interfaces.specs.Uses.{Call, site_caller}
 use Rattle.al_check_calls.specs.Answers.{Typing, values_in}
 use Rattle.al_check_calls.specs.CallFaults.{callable_signature, given_by, given_type, uses_faults, wrong_input}
-use Rattle.al_check_calls.specs.Private.AnswerViews.{answered_of, typing_in}
+use Rattle.al_check_calls.specs.AnswerViews.{answered_of, typing_in}
 use Rattle.al_check_calls.specs.Private.Comparing.{value_faults, values_against, wrong_value}
 use Rattle.al_check_calls.proofs.faults.check_call.Goals as goal
 

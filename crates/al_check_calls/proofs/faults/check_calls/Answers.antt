@@ -4,7 +4,8 @@ use Rattle.std.proofs.lemmas.Result.{on_ok_weaker}
 use Rattle.al_base.proofs.Growing.{same_set}
 use Rattle.al_base.proofs.Sets.{list_more}
 use Rattle.al_check_calls.specs.Answers.{answered_faults}
-use Rattle.al_check_calls.specs.Private.AnswerViews.{answered_of, compared_of, typing_in}
+use Rattle.al_check_calls.specs.AnswerViews.{answered_of, typing_in}
+use Rattle.al_check_calls.specs.Private.ComparisonViews.{compared_of}
 use Rattle.al_check_calls.specs.Private.Comparing.{faults_but_names, faults_of_names}
 use Rattle.al_check_calls.proofs.Alike.{tell_signatures}
 use Rattle.al_check_calls.proofs.CallParts.{call_parts}

@@ -1,6 +1,6 @@
 use Rattle.std.proofs.Common.{◌≡◌, ◌++◌, map, take}
 use Rattle.std.specs.List.{flat_map}
-use Rattle.al_check_calls.specs.Private.AnswerViews.{answered_of, typing_in}
+use Rattle.al_check_calls.specs.AnswerViews.{answered_of, typing_in}
 use Rattle.al_check_calls.specs.Private.Comparing.{faults_but_names}
 use Rattle.al_check_contexts.specs.Environments.{HasMoved, file_of}
 use Rattle.al_check_calls.proofs.faults.check_calls.Given as goal

@@ -1,7 +1,7 @@
 use Rattle.std.proofs.Common.{map}
 use Rattle.std.proofs.lemmas.List.Sorted.{IsPermutation-map}
 use Rattle.al_base.proofs.Sets.{mapped_in, step_last, step_more}
-use Rattle.al_check_calls.specs.Private.AnswerViews.{compared_of}
+use Rattle.al_check_calls.specs.Private.ComparisonViews.{compared_of}
 use Rattle.al_check_calls.specs.Private.Comparing.{HaveOneSignature, missing_of}
 use Rattle.al_check_calls.proofs.Alike.{tell_next, tell_permuted}
 use Rattle.al_check_calls.proofs.MissingNames.{order_found}

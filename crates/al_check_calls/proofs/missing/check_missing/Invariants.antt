@@ -2,7 +2,7 @@ use Rattle.std.proofs.Common.{◌++◌, map, take}
 use Rattle.std.specs.Prelude.{Contains, IfSome}
 use Rattle.std.specs.List.{flat_map}
 use Rattle.al_base.specs.Growth.{SameSet}
-use Rattle.al_check_calls.specs.Private.AnswerViews.{compared_of}
+use Rattle.al_check_calls.specs.Private.ComparisonViews.{compared_of}
 use Rattle.al_check_calls.specs.Private.Comparing.{IsSaid, missing_of}
 use Rattle.al_check_calls.proofs.missing.check_missing.Given as goal
 

@@ -1,7 +1,7 @@
 use Rattle.std.proofs.Common.{ap, map, sym, ◌∙◌}
 use Rattle.std.proofs.lemmas.Result.{on_ok_weaker}
 use Rattle.al_check_interfaces.specs.Parameters.{mandatory_of}
-use Rattle.al_check_calls.specs.Private.AnswerViews.{compared_of}
+use Rattle.al_check_calls.specs.Private.ComparisonViews.{compared_of}
 use Rattle.al_check_calls.proofs.MissingNames.{alike_said, first_said, next_found, next_said}
 use Rattle.al_expr_types.proofs.Returned.{both_ok}
 use Rattle.al_check_calls.proofs.missing.check_next.Goals as goal

@@ -6,7 +6,7 @@ use Rattle.al_tree.specs.Keys.{keys_in}
 use Rattle.al_tree.specs.Values.{member_of}
 use Rattle.al_check_interfaces.proofs.Positions.{has_place}
 use Rattle.al_check_calls.specs.CallFaults.{given_by}
-use Rattle.al_check_calls.specs.Private.AnswerViews.{compared_of}
+use Rattle.al_check_calls.specs.Private.ComparisonViews.{compared_of}
 use Rattle.al_check_calls.specs.Private.Comparing.{fault_unless_given, gives, parameter_if_given}
 use Rattle.al_check_calls.proofs.missing.check_parameters.Goals as goal
 

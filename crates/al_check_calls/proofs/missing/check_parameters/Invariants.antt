@@ -1,6 +1,6 @@
 use Rattle.std.proofs.Common.{◌≡◌, ◌++◌, map, take}
 use Rattle.std.specs.List.{flat_map}
-use Rattle.al_check_calls.specs.Private.AnswerViews.{compared_of}
+use Rattle.al_check_calls.specs.Private.ComparisonViews.{compared_of}
 use Rattle.al_check_calls.specs.Private.Comparing.{fault_unless_given, parameter_if_given}
 use Rattle.al_check_calls.proofs.missing.check_parameters.Given as goal
 

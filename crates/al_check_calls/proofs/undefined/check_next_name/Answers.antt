@@ -1,5 +1,5 @@
 use Rattle.std.proofs.Common.{sym, ◌∙◌}
-use Rattle.al_check_calls.specs.Private.AnswerViews.{name_of}
+use Rattle.al_check_calls.specs.Private.ComparisonViews.{name_of}
 use Rattle.al_check_calls.proofs.UndefinedNames.{same_there}
 use Rattle.al_check_calls.proofs.undefined.check_next_name.Goals as goal
 

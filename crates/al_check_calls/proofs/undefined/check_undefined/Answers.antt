@@ -1,6 +1,6 @@
 use Rattle.std.proofs.Common.{map}
 use Rattle.al_base.proofs.Sets.{mapped_in, step_last, step_more}
-use Rattle.al_check_calls.specs.Private.AnswerViews.{compared_of, name_of}
+use Rattle.al_check_calls.specs.Private.ComparisonViews.{compared_of, name_of}
 use Rattle.al_check_calls.specs.Private.Comparing.{HaveOneSignature, undefined_at}
 use Rattle.al_check_calls.proofs.Alike.{tell_next}
 use Rattle.al_check_calls.proofs.UndefinedNames.{added_there, names_found, names_told}

@@ -2,7 +2,7 @@ use Rattle.std.proofs.Common.{◌++◌, map, take}
 use Rattle.std.specs.Prelude.{Contains, IfSome}
 use Rattle.std.specs.List.{flat_map}
 use Rattle.al_base.specs.Growth.{SameSet}
-use Rattle.al_check_calls.specs.Private.AnswerViews.{name_of}
+use Rattle.al_check_calls.specs.Private.ComparisonViews.{name_of}
 use Rattle.al_check_calls.specs.Private.Comparing.{AreThere, undefined_at}
 use Rattle.al_check_calls.proofs.undefined.check_undefined.Given as goal
 

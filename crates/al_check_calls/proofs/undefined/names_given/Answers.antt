@@ -2,7 +2,7 @@ use Rattle.std.proofs.Common.{[], ◌++◌, ◌∙◌, ap, append-nil, arith, ma
 use Rattle.std.proofs.lemmas.List.{drop_all}
 use Rattle.al_base.proofs.Sets.{list_more}
 use Rattle.al_tree.specs.Values.{member_of}
-use Rattle.al_check_calls.specs.Private.AnswerViews.{compared_of, name_of}
+use Rattle.al_check_calls.specs.Private.ComparisonViews.{compared_of, name_of}
 use Rattle.al_check_calls.specs.Private.Comparing.{name_by, names_by}
 use Rattle.al_check_calls.proofs.undefined.names_given.Goals as goal
 

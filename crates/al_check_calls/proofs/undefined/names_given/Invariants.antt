@@ -1,7 +1,7 @@
 use Rattle.std.proofs.Common.{◌≡◌, ◌++◌, drop, map, take}
 use Rattle.std.specs.List.{flat_map}
 use Rattle.al_tree.specs.Values.{member_of}
-use Rattle.al_check_calls.specs.Private.AnswerViews.{compared_of, name_of}
+use Rattle.al_check_calls.specs.Private.ComparisonViews.{compared_of, name_of}
 use Rattle.al_check_calls.specs.Private.Comparing.{name_by, names_by}
 use Rattle.al_check_calls.proofs.undefined.names_given.Given as goal
 

@@ -19,7 +19,7 @@ use Rattle.al_check_interfaces.specs.Parameters.{is_parameter}
 use Rattle.al_check_interfaces.specs.Uses.{Call}
 use Rattle.al_check_interfaces.specs.declared.interfaces.Parameter.{Parameter}
 use Rattle.al_check_calls.specs.CallFaults.{call_fault, given_type, type_faults, type_name, wrong_input}
-use Rattle.al_check_calls.specs.FileCalls.{value_type_in_job}
+use Rattle.al_check_calls.specs.Types.{value_type_in_job}
 use Rattle.al_check_calls.proofs.values.check_value.Goals as goal
 
 -- the text of a job's key; empty if there is none

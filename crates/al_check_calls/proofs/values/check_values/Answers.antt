@@ -6,8 +6,8 @@ use Rattle.al_check_contexts.specs.Environments.{file_of}
 use Rattle.al_check_contexts.proofs.Environments.{moved_further}
 use Rattle.al_check_interfaces.specs.CallViews.{call_of}
 use Rattle.al_tree.specs.Values.{member_of}
-use Rattle.al_check_calls.specs.FileCalls.{AreShort}
-use Rattle.al_check_calls.specs.Private.AnswerViews.{typing_in}
+use Rattle.al_check_calls.specs.Preconditions.{AreShort}
+use Rattle.al_check_calls.specs.AnswerViews.{typing_in}
 use Rattle.al_check_calls.specs.Private.Comparing.{wrong_value}
 use Rattle.al_check_calls.proofs.Short.{members_short}
 use Rattle.al_check_calls.proofs.values.check_values.Goals as goal

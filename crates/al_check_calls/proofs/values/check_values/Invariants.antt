@@ -1,6 +1,6 @@
 use Rattle.std.proofs.Common.{◌≡◌, ◌++◌, map, take}
 use Rattle.std.specs.List.{flat_map}
-use Rattle.al_check_calls.specs.Private.AnswerViews.{typing_in}
+use Rattle.al_check_calls.specs.AnswerViews.{typing_in}
 use Rattle.al_check_calls.specs.Private.Comparing.{wrong_value}
 use Rattle.al_check_contexts.specs.Environments.{HasMoved, file_of}
 use Rattle.al_check_interfaces.specs.CallViews.{call_of}

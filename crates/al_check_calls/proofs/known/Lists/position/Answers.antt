@@ -1,7 +1,7 @@
 use Rattle.std.proofs.Common.{Some, ap, is_some, sym, ◌∙◌}
 use Rattle.std.specs.Option.{option_copied}
 use Rattle.al_check_calls.specs.Outputs.{called_outputs}
-use Rattle.al_check_calls.specs.Private.AnswerViews.{answered_of}
+use Rattle.al_check_calls.specs.AnswerViews.{answered_of}
 use Rattle.al_check_calls.specs.Private.KnownLists.{position_of}
 use Rattle.al_check_calls.proofs.KnownLists.{found_takes, none_takes, pushed_lists, pushed_stands, put_takes, takes_as}
 use Rattle.al_check_calls.proofs.known.Lists.position.Goals as goal
