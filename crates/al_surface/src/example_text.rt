@@ -5,7 +5,7 @@ use al_text::{Fault, Output, PrintedFile, Stop, write_fault};
 use std::alloc::Global;
 
 /// A fault of this file as a report prints it; `None` if it isn't in the file.
-fn printed(alloc: Global, file: &PrintedFile<'_>, fault: &Fault) -> Result<Option<Vec<u8>>, Stop> {
+fn show(alloc: Global, file: &PrintedFile<'_>, fault: &Fault) -> Result<Option<Vec<u8>>, Stop> {
     let (length, span) = (file.bytes.len(), fault.span);
     if length > LARGEST_FILE || span.start > span.end || span.end as usize > length {
         return Ok(None);
@@ -38,7 +38,7 @@ fn a_file(bytes: &[u8], format: Format) -> PrintedFile<'_> {
 
 fn prints(alloc: Global, file: &PrintedFile<'_>, wanted: &[u8]) -> Result<bool, Stop> {
     let fault = unexpected(alloc)?;
-    Ok(match printed(alloc, file, &fault)? {
+    Ok(match show(alloc, file, &fault)? {
         Some(text) => text.as_slice() == wanted,
         None => false,
     })
@@ -46,7 +46,7 @@ fn prints(alloc: Global, file: &PrintedFile<'_>, wanted: &[u8]) -> Result<bool, 
 
 fn is_none(alloc: Global, file: &PrintedFile<'_>) -> Result<bool, Stop> {
     let fault = unexpected(alloc)?;
-    Ok(printed(alloc, file, &fault)?.is_none())
+    Ok(show(alloc, file, &fault)?.is_none())
 }
 
 #[test]

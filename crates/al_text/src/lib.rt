@@ -19,11 +19,7 @@
 //! use std::alloc::Global;
 //!
 //! /// A fault of this file as a report prints it; `None` if it isn't in the file.
-//! fn printed(
-//!     alloc: Global,
-//!     file: &PrintedFile<'_>,
-//!     fault: &Fault,
-//! ) -> Result<Option<Vec<u8>>, Stop> {
+//! fn show(alloc: Global, file: &PrintedFile<'_>, fault: &Fault) -> Result<Option<Vec<u8>>, Stop> {
 //!     let (length, span) = (file.bytes.len(), fault.span);
 //!     if length > LARGEST_FILE || span.start > span.end || span.end as usize > length {
 //!         return Ok(None);
