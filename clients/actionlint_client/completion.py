@@ -186,7 +186,8 @@ def _named_keys(cursor: Cursor) -> Iterable[Offer]:
         for scope in (one for one in names()["permission scopes"] if one not in place.siblings):
             text = _key_text(cursor, key, scope)
             access = "read" if takes_access(scope, "read") else "write"
-            yield Offer(scope, "key", text if place.has_colon else text + access, "scope", meaning("permissions", scope))
+            is_whole = place.has_colon or place.has_value
+            yield Offer(scope, "key", text if is_whole else text + access, "scope", meaning("permissions", scope))
     if key in ("with", "secrets") and section in ("step", "job"):
         callee = cursor.project.callee(cursor.texts(len(place.path) - 1).get("uses"), section == "job")
         tree = cursor.project.good_tree(callee) if callee else None
@@ -205,17 +206,19 @@ def _declared_key(place: Place, one: files.Declaration) -> Offer:
     """An input or a secret of the called file, with a value that fits its type."""
     kind = one.value.text("type") or ""
     value = {"boolean": "true", "number": "0"}.get(kind, "")
-    text = one.name if place.has_colon else f"{one.name}: {value}"
+    text = one.name if place.has_colon else f"{one.name}:" if place.has_value else f"{one.name}: {value}"
     return Offer(one.name, "key", text, (kind or "text") + (", required" if one.is_required else ""),
                  escaped_or_none(one.value.text("description")), 0 if one.is_required else 1)
 
 
 def _key_text(cursor: Cursor, section: str, key: str, shape: Shape | None = None, further: int = 0) -> str:
-    """A key with its colon. A value that can only be a mapping or a list begins on a line of its own, indented from the key, which begins
-    some characters after the cursor's word."""
+    """A key with its colon, unless it has one. A value that can only be a mapping or a list, and isn't there yet, begins on a line of its
+    own, indented from the key, which begins some characters after the cursor's word."""
     place = cursor.place
     if place.has_colon:
         return key
+    if place.has_value:
+        return f"{key}:"
     column, first = place.span.start.column, FIRST_VALUES.get((section, key))
     if first and not column:
         return f"{key}:{first}"

@@ -41,7 +41,8 @@ class Place:
     value's whole text up to there without its opening `quote`. `siblings` are the other keys of the mapping with the texts of their values,
     and `around` has the same for each key of the path. `entries` are the texts of the other entries of the list that the cursor is in.
     Below a key with a value on its own line nothing can begin: the place is `taken`, though text may continue there. Where only an entry
-    of a list can begin that has no dash yet, the place `needs_dash`, and `path` is that of the list."""
+    of a list can begin that has no dash yet, the place `needs_dash`, and `path` is that of the list. A key without a colon `has_value` if
+    what is behind it or below it would be its value."""
 
     path: Path
     role: Role
@@ -57,6 +58,7 @@ class Place:
     entries: tuple[str, ...] = ()
     quote: str = ""
     needs_dash: bool = False
+    has_value: bool = False
 
 
 class Element(NamedTuple):

@@ -64,10 +64,16 @@ class Spot(NamedTuple):
         return tuple(item["text"] for one, own in holders[-1:] for number, item in enumerate(one.get("items", ()))
                      if number != own and item["kind"] == "scalar")
 
+    @property
+    def value(self) -> Json:
+        """The value of the key that it is."""
+        mapping, number = self.around[-1]
+        value: Json = mapping["entries"][number][1]
+        return value
+
     def is_above_items(self, places: BytePlaces) -> bool:
         """Whether it is the only key of a mapping, above a list that begins at its column: then it is typed inside of that list."""
-        mapping, number = self.around[-1]
-        value = mapping["entries"][number][1]
+        value = self.value
         column, column_of_items = (places.point(one["start"]).column for one in (self.scalar, value))
         return not self.siblings and value["kind"] == "sequence" and column == column_of_items
 
@@ -156,7 +162,7 @@ class _Cursor:
             tuple(_texts(one) for one, _ in spot.around[:len(path)]), has_colon,
             in_flow=any(marked.data[one["start"]:one["start"] + 1] in (b"[", b"{") for one, _ in spot.around),
             taken=is_value and any(line.strip() for line in above), entries=spot.other_items, quote=QUOTES.get(scalar["style"], ""),
-            needs_dash=marked.has_dash)
+            needs_dash=marked.has_dash, has_value=spot.is_key and not has_colon and spot.value["start"] < spot.value["end"])
 
     def _span(self, spot: Spot, start: Point, marked: Marked, has_colon: bool) -> Span:
         """What is replaced on the cursor's line: what is between quotes, a key with a colon, or a word. `start` is that of the scalar. A

@@ -2,7 +2,7 @@
 from __future__ import annotations
 
 import re
-from typing import TYPE_CHECKING, NamedTuple
+from typing import TYPE_CHECKING, Callable, NamedTuple
 
 from .entries import Entry, entries_by_code, link_of
 from .report import Fault
@@ -44,15 +44,15 @@ class Problem(NamedTuple):
         """The source line, or nothing if it isn't known."""
         return self.source or ""
 
-    def snippet(self) -> tuple[str, ...]:
-        """The lines that the linter prints below a fault: a bar, the source line, and marks behind the same tabs. Nothing without a source
-        line."""
+    def snippet(self, shown: Callable[[str], str] = str) -> tuple[str, ...]:
+        """The lines that the linter prints below a fault: a bar, the source line as it is shown, and marks behind the same tabs. Nothing
+        without a source line."""
         if self.source is None:
             return ()
-        fault = self.fault
-        margin, before = " " * len(str(fault.line)), re.sub(r"[^\t]", " ", self.source[:fault.column - 1])
-        marks = f"{margin} | {before}^{'~' * ((fault.width or 1) - 1)}"
-        return f"{margin} |", f"{fault.line} | {self.source}", marks
+        start, head = self.fault.column - 1, f"{self.fault.line} | "
+        before, marked = (shown(head + self.source[:end]) for end in (start, start + (self.fault.width or 1)))
+        margin, blanks = " " * (len(head) - 2), re.sub(r"[^\t]", " ", before[len(head):])
+        return f"{margin}|", shown(head + self.source), f"{margin}| {blanks}^{'~' * (len(marked) - len(before) - 1)}"
 
 
 def problem_of(fault: Fault, source: str | None = None) -> Problem:

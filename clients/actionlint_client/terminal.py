@@ -47,9 +47,8 @@ class Text(Form):
 
     def _snippet(self, problem: Problem) -> None:
         """The source line and its marks, unless it is too long to read."""
-        snippet = problem.snippet()
-        if snippet and max(map(len, snippet)) <= LONGEST_LINE:
-            _, line, marks = map(terminal_text, snippet)
+        if len(problem.line()) <= LONGEST_LINE and (snippet := problem.snippet(terminal_text)):
+            _, line, marks = snippet
             self.write(f"  {line}\n  {self._in('marks', marks)}\n")
 
     def _in(self, part: str, text: str) -> str:

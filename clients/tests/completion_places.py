@@ -200,5 +200,10 @@ TAKEN = (
     (JOB + "    steps: [{na|, run: x}]\n", "name", JOB + "    steps: [{name: , run: x}]\n"),
     (JOB + "    sta|\n    steps: []\n", "strategy", JOB + "    strategy:\n      \n    steps: []\n"),
     (JOB + "    na|m : x\n", "name", JOB + "    name : x\n"),
-    (JOB + "    n|me foo\n", "name", JOB + "    name:  foo\n"),
+    (JOB + "    n|me foo\n", "name", JOB + "    name: foo\n"),
+    ("|\n  push:\n    branches: x\njobs: {}\n", "on", "on:\n  push:\n    branches: x\njobs: {}\n"),
+    ("on: push\n|\n  a:\n    uses: ./x\n", "jobs", "on: push\njobs:\n  a:\n    uses: ./x\n"),
+    ("on: push\njobs: {}\npermissions:\n  |\n    read\n", "issues", "on: push\njobs: {}\npermissions:\n  issues:\n    read\n"),
+    (JOB + "    steps:\n      - uses: ./greet\n        with:\n          |\n            true\n", "loud",
+     JOB + "    steps:\n      - uses: ./greet\n        with:\n          loud:\n            true\n"),
 )

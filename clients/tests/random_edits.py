@@ -288,7 +288,7 @@ def _write(top: bytes, path: str, text: str | None) -> None:
 
 
 def main(words: list[str]) -> int:
-    program, (edits, seed, burst) = words[0], [int(word) for word in words[1:] + ["2000", "1", "1"][len(words) - 1:]]
+    program, (edits, seed, burst) = os.path.abspath(words[0]), [int(word) for word in words[1:] + ["2000", "1", "1"][len(words) - 1:]]
     world, kinds, begun = World(program, seed), Counter(), time.monotonic()
     faults = compared = 0
     world.editor.settle()

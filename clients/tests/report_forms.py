@@ -176,16 +176,43 @@ def lines_of_files(program: str) -> None:
     assert count > 100, count
 
 
+def in_the_terminal(program: str, files: dict[str, bytes]) -> list[list[str]]:
+    """The lines of files in the form `text`, each with the marks below it."""
+    with tempfile.TemporaryDirectory(prefix="actionlint-test-") as folder:
+        write_files(folder, files)
+        return [paragraph.split("\n")[1:3] for paragraph in run(program, folder, "--form", "text")[1].split("\n\n")[:-1]]
+
+
 @CASES.case
 def lines_in_the_terminal(program: str) -> None:
-    """The form `text` has these two lines, with controls as code points."""
+    """The form `text` has these lines, with controls as code points."""
+    files = {f"{WORKFLOWS}{number}.yml": data for number, data in enumerate(ODD_LINES)}
     with tempfile.TemporaryDirectory(prefix="actionlint-test-") as folder:
-        write_files(folder, {f"{WORKFLOWS}{number}.yml": data for number, data in enumerate(ODD_LINES)})
-        _, said, _ = run(program, folder, "--form", "text")
-        shown = [paragraph.split("\n")[1:3] for paragraph in said.split("\n\n")[:-1]]
-        lines = printed(program, folder, []).split("\n")[:-1]
-        wanted = [[f"  {terminal_text(line)}" for line in lines[at + 2:at + 4]] for at in range(0, len(lines), 4)]
-        assert shown == wanted and len(shown) > len(ODD_LINES), (shown, wanted)
+        write_files(folder, files)
+        lines = printed(program, folder, []).split("\n")[2::4]
+    shown = [line for line, _ in in_the_terminal(program, files)]
+    assert shown == [f"  {terminal_text(line)}" for line in lines] and len(shown) > len(ODD_LINES), (shown, lines)
+
+
+@CASES.case
+def marks_in_the_terminal(program: str) -> None:
+    """The marks are below the fault as it is shown: behind all signs of a code point before it, and below all of one in it."""
+    text = "on: push\njobs: {}\n\"\u202ea\": 1\n'\t\u200bb': ${{ 'c\u2028d' }}\n"
+    assert in_the_terminal(program, {FILE: text.encode()}) == [
+        ['  3 | "<U+202E>a": 1', "    | ^~~~~~~~~~~"], ["  4 | '\t<U+200B>b': ${{ 'c<U+2028>d' }}", "    | ^~~~~~~~~~~~"]]
+    file = "on: push\njobs: {a: {name: '\u202e', runs-on: x, b: []}}\n"
+    assert in_the_terminal(program, {FILE: file.encode()}) == [
+        ["  2 | jobs: {a: {name: '<U+202E>', runs-on: x, b: []}}", "    |                                          ^"]]
+
+
+@CASES.case
+def long_lines_in_the_terminal(program: str) -> None:
+    """A line of 300 characters is shown, and none of more, however many bytes it has."""
+    for size in (300, 301):
+        line = "\xe9" * size
+        with tempfile.TemporaryDirectory(prefix="actionlint-test-") as folder:
+            write(folder, {FILE: f"on: push\njobs: {{}}\n{line}\n"})
+            assert (line in run(program, folder, "--form", "text")[1]) == (size == 300), size
 
 
 @CASES.case
