@@ -308,6 +308,9 @@ def of_wrong_words(lint):
     for name, words in {"unknown": ["--bogus"], "no-value": ["--root"], "twice": ["--root", "a", "--root", "b"], "short": ["-h"],
                         "beside-help": ["--help", "--bogus"], "flag-with-a-value": ["--oneline=x"]}.items():
         lint.case(f"wrong-words-{name}", words)
+    ran = lint.place.run(["lint", "--help"], program=lint.program)
+    is_own = b"\nUsage: actionlint-facts lint [" in ran.stdout and b"--session" not in ran.stdout
+    report("lint---help", ran.returncode, [] if is_own and (ran.returncode, ran.stderr) == (0, b"") else [f"{ran}"])
     for words in (["--session"], ["--session", "--oneline"], ["--session", "a.yml"]):
         ran = lint.place.run(["lint", *words], b"report\n", program=lint.program)
         report(f"lint-{'-'.join(words)}", ran.returncode, [] if (ran.returncode, ran.stdout) == (2, b"") and ran.stderr else [f"{ran}"])

@@ -4,7 +4,6 @@ use al_check::Actions;
 use al_cli::{Disk, Ending, Gathered, Usage, Words, load, parse_words, say_skipped};
 use al_json::{Detail, ReportedFile, write_fault_lines, write_status};
 use al_session::Session;
-use al_text::limits::MOST_FILES;
 use al_text::{Fault, Stop};
 use std::alloc::Global;
 use std::convert::AsStr;
@@ -13,6 +12,15 @@ use std::{io, mem};
 
 /// What is wrong with arguments that ask for a session.
 const NO_SESSION: &str = "actionlint-facts: lint takes no --session\n";
+
+const HELP: &str =
+    "Lints as actionlint does, and prints each fault as a line of JSON, and then the status.
+
+Usage: actionlint-facts lint [--oneline] [--root DIR] [FILE]...
+
+The arguments, the exit status and what standard error says are those of actionlint: see actionlint --help. With --oneline a line
+doesn't have the source line of its fault. docs/FACTS.md describes the lines.
+";
 
 /// Lints as the linter does with these arguments, the first of which is `lint`, and writes a line
 /// for each fault and then one with the status. It ends as the linter does, and says the same to
@@ -38,10 +46,10 @@ fn no_session(alloc: Global) -> Usage {
     }
 }
 
-// Prints help. Other usages are for standard error.
+// Prints help: not the linter's, which is of another program. Other usages are for standard error.
 fn end_usage<W: Write>(writer: &mut W, usage: Usage) -> Ending {
     let printed = match &usage {
-        Usage::Help(text) => write_text(writer, text.as_str()),
+        Usage::Help(_) => write_text(writer, HELP),
         _ => Ok(()),
     };
     match printed {
@@ -126,16 +134,26 @@ fn write_files<W: Write>(
     writer: &mut W,
     detail: Detail,
 ) -> io::Result<()> {
-    for number in 0..cycles.len().min(MOST_FILES) {
-        if let Some(path) = session.path_at(number) {
-            let file = ReportedFile {
-                path,
-                bytes: session.bytes(path).unwrap_or(&[]),
-                own: session.faults(path).unwrap_or(&[]),
-                cycles: cycles[number].as_slice(),
-            };
-            write_fault_lines(alloc, writer, file, detail)?;
+    for (number, found) in cycles.iter().enumerate() {
+        match reported_file(session, number, found.as_slice()) {
+            Some(file) => write_fault_lines(alloc, writer, file, detail)?,
+            None => return Err(io::Error::from(ErrorKind::NotFound)),
         }
     }
     Ok(())
+}
+
+// The file with this number, in order of path, and its faults on call cycles.
+fn reported_file<'a>(
+    session: &'a Session<Actions>,
+    number: usize,
+    cycles: &'a [Fault],
+) -> Option<ReportedFile<'a>> {
+    let path = session.path_at(number)?;
+    Some(ReportedFile {
+        path,
+        bytes: session.bytes(path)?,
+        own: session.faults(path)?,
+        cycles,
+    })
 }

@@ -44,7 +44,7 @@ enum Asked {
 fn main(rt: HostRuntime) -> ExitCode {
     match arguments_of(&rt) {
         Ok(arguments) => answer_arguments(&rt, &arguments),
-        Err(error) => said(&rt, &Ending::of_unreadable(error.kind())),
+        Err(error) => say_ending(&rt, &Ending::of_unreadable(error.kind())),
     }
 }
 
@@ -55,10 +55,10 @@ fn arguments_of(rt: &HostRuntime) -> io::Result<Vec<String>> {
 // Runs the program with these arguments, the first of which is its name.
 fn answer_arguments(rt: &HostRuntime, arguments: &[String]) -> ExitCode {
     match asked_by(arguments) {
-        Asked::Facts => ended(rt, answer_input(rt)),
-        Asked::Report => said(rt, &lint_here(rt, arguments)),
-        Asked::Reading(reader) => ended(rt, read_input(rt, reader)),
-        Asked::Help => ended(rt, print_help(rt)),
+        Asked::Facts => exit_code(rt, answer_input(rt)),
+        Asked::Report => say_ending(rt, &lint_here(rt, arguments)),
+        Asked::Reading(reader) => exit_code(rt, read_input(rt, reader)),
+        Asked::Help => exit_code(rt, print_help(rt)),
         Asked::Unknown => say_usage(rt),
     }
 }
@@ -117,14 +117,14 @@ fn lint_here(rt: &HostRuntime, arguments: &[String]) -> Ending {
 }
 
 // Says why a report ended, and gives its exit status.
-fn said(rt: &HostRuntime, ending: &Ending) -> ExitCode {
+fn say_ending(rt: &HostRuntime, ending: &Ending) -> ExitCode {
     // If standard error fails, nothing is left to do.
     let _ = say_why(&mut rt.stderr(), ending);
     ExitCode::from(ending.status())
 }
 
 // The exit status of a run.
-fn ended(rt: &HostRuntime, answered: io::Result<()>) -> ExitCode {
+fn exit_code(rt: &HostRuntime, answered: io::Result<()>) -> ExitCode {
     match answered {
         Ok(()) => ExitCode::SUCCESS,
         Err(error) => {

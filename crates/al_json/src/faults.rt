@@ -34,8 +34,8 @@ fn location_in(bytes: &[u8], offset: u32) -> Location {
     location_of(bytes, offset.min(bytes.len() as u32))
 }
 
-/// The place of an offset, counted on from an earlier one. An offset past the end counts as the
-/// end.
+/// The place of an offset, counted on from an earlier one of the same bytes. An offset past the end
+/// counts as the end.
 pub fn spot_after(bytes: &[u8], from: Spot, offset: u32) -> Spot {
     let start = from.at as usize;
     if start > bytes.len() {
@@ -79,7 +79,6 @@ fn push_arguments(json: &mut Json, args: &Args) -> Result<(), AllocError> {
     json.close(']')
 }
 
-// The keys of a spot, with what begins their names.
 fn push_start(json: &mut Json, spot: Spot) -> Result<(), AllocError> {
     json.number_at("line", spot.line)?;
     json.number_at("column", spot.column)
@@ -107,7 +106,7 @@ pub fn push_fault(json: &mut Json, fault: &Fault) -> Result<(), AllocError> {
 }
 
 /// Writes the keys of a fault whose start is at a spot.
-pub fn push_keys(
+pub fn push_fault_keys(
     json: &mut Json,
     bytes: &[u8],
     fault: &Fault,
@@ -121,11 +120,11 @@ pub fn push_keys(
 // Writes a fault whose start is at a spot.
 fn push_at(json: &mut Json, bytes: &[u8], fault: &Fault, spot: Spot) -> Result<(), AllocError> {
     json.open('{')?;
-    push_keys(json, bytes, fault, spot)?;
+    push_fault_keys(json, bytes, fault, spot)?;
     json.close('}')
 }
 
-/// Writes a list of faults of a file, in the order of reports.
+// Writes a list of faults of a file, in the order of reports.
 fn push_faults(json: &mut Json, bytes: &[u8], faults: &[&Fault]) -> Result<(), AllocError> {
     let mut spot = first_spot();
     json.open('[')?;
@@ -137,7 +136,7 @@ fn push_faults(json: &mut Json, bytes: &[u8], faults: &[&Fault]) -> Result<(), A
 }
 
 /// The faults of two lists in the order of reports, each once.
-pub fn join<'a>(
+pub fn join_faults<'a>(
     alloc: Global,
     own: &'a [Fault],
     more: &'a [Fault],
@@ -157,7 +156,7 @@ pub fn push_joined(
     own: &[Fault],
     more: &[Fault],
 ) -> Result<(), AllocError> {
-    let joined = join(json.alloc(), own, more)?;
+    let joined = join_faults(json.alloc(), own, more)?;
     json.key("faults")?;
     push_faults(json, bytes, joined.as_slice())
 }
@@ -171,7 +170,7 @@ pub fn push_first(
     more: &[Fault],
     most: usize,
 ) -> Result<(), AllocError> {
-    let joined = join(json.alloc(), own, more)?;
+    let joined = join_faults(json.alloc(), own, more)?;
     let (first, others) = joined.as_slice().split_at(most.min(joined.len()));
     json.key("faults")?;
     push_faults(json, bytes, first)?;

@@ -1,6 +1,6 @@
 //! A report in which each fault is a line of its own.
 
-use crate::faults::{Spot, first_spot, join, line_at, push_keys, spot_after};
+use crate::faults::{Spot, first_spot, join_faults, line_at, push_fault_keys, spot_after};
 use crate::json::Json;
 use crate::lines::write_line;
 use al_text::Fault;
@@ -40,7 +40,7 @@ fn fault_object(
     let mut json = Json::new(alloc);
     json.open('{')?;
     json.text_at("path", file.path)?;
-    push_keys(&mut json, file.bytes, fault, spot)?;
+    push_fault_keys(&mut json, file.bytes, fault, spot)?;
     if detail == Detail::Source {
         json.key("source")?;
         json.bytes(line_at(file.bytes, spot))?;
@@ -61,7 +61,7 @@ pub fn write_fault_lines<W: Write>(
     detail: Detail,
 ) -> io::Result<()> {
     let mut spot = first_spot();
-    for fault in join(alloc, file.own, file.cycles)? {
+    for fault in join_faults(alloc, file.own, file.cycles)? {
         spot = spot_after(file.bytes, spot, fault.span.start);
         let json = fault_object(alloc, file, fault, spot, detail)?;
         write_line(writer, json.as_str())?;
