@@ -27,7 +27,6 @@ class Outcome:
     files: set[str] = field(default_factory=set)
 
     def count(self, problem: Problem) -> None:
-        """Counts a reported problem."""
         self.files.add(problem.fault.path)
         if problem.fault.kind == NOTE_KIND:
             self.notes += 1
@@ -46,7 +45,6 @@ class Outcome:
         self.errors += f"actionlint-report: {line}\n"
 
     def count_line(self) -> str:
-        """The counts, in words."""
         if not self.is_known():
             return "the faults are unknown: the linter could not go on"
         found = [_counted(self.faults, "fault")]

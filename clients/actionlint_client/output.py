@@ -1,4 +1,5 @@
-"""The output of a report: standard output, or a file that is replaced once the report is complete."""
+"""The output of a report: standard output, or a file that is replaced once the report is complete; and fixed files, each of which is
+replaced whole or not at all, and only if it is still the one that was read."""
 from __future__ import annotations
 
 import errno
@@ -15,6 +16,7 @@ from .streams import waiting_output
 STANDARD_OUTPUT = 1
 FOLDER = os.O_RDONLY | os.O_DIRECTORY | os.O_CLOEXEC
 NEW_FILE = os.O_WRONLY | os.O_CREAT | os.O_EXCL | os.O_NOFOLLOW | os.O_CLOEXEC
+READ = os.O_RDONLY | os.O_NONBLOCK | os.O_NOCTTY | os.O_NOFOLLOW | os.O_CLOEXEC
 
 
 @contextmanager
@@ -41,8 +43,7 @@ def report_output(file: str | None) -> Iterator[BinaryIO]:
 
 @contextmanager
 def replaced_file(folder: int, name: str, like: os.stat_result | None = None) -> Iterator[BinaryIO]:
-    """A new file in a directory that gets the name at the end, if the block ends without an exception. It has the mode of another file, and
-    its owner if possible."""
+    """A new file that gets the name if the block ends without an exception. It has the mode of another file, and its owner if possible."""
     beside = f".actionlint-report.{secrets.token_hex(8)}"
     handle = os.open(beside, NEW_FILE, 0o666, dir_fd=folder)
     try:
@@ -82,3 +83,46 @@ def folder_below(folder: int, path: str) -> int:
             finally:
                 os.close(above)
     return folder
+
+
+class NotWritten(Exception):
+    """The file isn't the one that was read, or can't be replaced."""
+
+
+def rewrite(root: str, path: str, before: bytes, after: bytes) -> None:
+    """Replaces a regular file below a directory; its mode stays. No link is followed on the way to it."""
+    try:
+        top = os.open(root, FOLDER)
+        folder = folder_below(top, os.path.dirname(path))
+    except OSError as error:
+        raise NotWritten(_reason(error)) from error
+    try:
+        found = _look(folder, os.path.basename(path), before)
+        with replaced_file(folder, os.path.basename(path), found) as opened:
+            opened.write(after)
+            opened.flush()
+            os.fsync(opened.fileno())
+            if _stamp(found) != _stamp(_look(folder, os.path.basename(path), before)):
+                raise NotWritten("it changed meanwhile")
+    except OSError as error:
+        raise NotWritten(_reason(error)) from error
+    finally:
+        os.close(folder)
+
+
+def _look(folder: int, name: str, before: bytes) -> os.stat_result:
+    """What the system says of the file, which has to have these bytes."""
+    opened = os.open(name, READ, dir_fd=folder)
+    with open(opened, "rb") as file:
+        found = os.fstat(opened)
+        if not stat.S_ISREG(found.st_mode) or file.read(len(before) + 1) != before:
+            raise NotWritten("it changed meanwhile")
+    return found
+
+
+def _stamp(found: os.stat_result) -> tuple[int, ...]:
+    return found.st_dev, found.st_ino, found.st_mode, found.st_mtime_ns, found.st_size
+
+
+def _reason(error: OSError) -> str:
+    return error.strerror or str(error)

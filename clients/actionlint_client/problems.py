@@ -5,7 +5,7 @@ import re
 from typing import TYPE_CHECKING, NamedTuple
 
 from .entries import Entry, entries_by_code, link_of
-from .report import Fault
+from .faults import Fault
 
 if TYPE_CHECKING:
     from .repair import Repair
@@ -45,8 +45,7 @@ class Problem(NamedTuple):
         return self.source or ""
 
     def snippet(self) -> tuple[str, ...]:
-        """The lines that the linter prints below a fault: a bar, the source line, and marks behind the same tabs. Nothing without a source
-        line."""
+        """The lines that the linter prints below a fault: a bar, the source line, if it is known, and marks behind the same tabs."""
         if self.source is None:
             return ()
         fault = self.fault

@@ -11,12 +11,11 @@ from .names import likely, misspelled
 from .operators import operators
 from .other_keys import other_keys
 from .paths import ACTION_NAMES, WORKFLOW_ENDINGS, WORKFLOWS, is_workflow
-from .repair import (Case, Edit, Found, Repair, as_scalar, entries_of, is_within_flow, next_entry, quoted, tight, without_entry,
-                     without_key)
+from .repair import Case, Edit, Found, Repair, as_scalar, entries_of, is_within_flow, moved_out, next_entry, quoted, tight, without_entry
 from .repairs_keys import deleted, moved_below
+from .repairs_kinds import as_flag, as_number
 from .repairs_names import as_secret
 from .repairs_needs import is_in_other_words
-from .repairs_kinds import as_flag, as_number
 from .syntax import table
 from .text import Point, Span
 from .tree import Node, last_line
@@ -238,8 +237,7 @@ def key_of_call(case: Case) -> Iterable[Repair]:
     name, column = here.key.value, here.key.span.start.column
     if name in case.known_keys(here.path[:-2], node.names()):
         entry = case.slice(Span(here.key.span.start, tight(case, here.value).end)).replace("\n" + " " * column, "\n")
-        removed = without_entry(case, here.parent, here.key) if len(here.parent.entries) > 1 else without_key(case, node, "with")
-        yield case.of(f'move "{name}" beside "with"', removed, next_entry(case, node, "uses", entry))
+        yield case.of(f'move "{name}" beside "with"', moved_out(case, here, node), next_entry(case, node, "uses", entry))
 
 
 def script_for_call(case: Case) -> Iterable[Repair]:
@@ -269,7 +267,7 @@ def other_type(case: Case) -> Iterable[Repair]:
         shown = as_scalar(changed, here.value.style, is_within_flow(case, here.path))
         yield case.replace("read it with fromJSON" if kind != "string" else "write it as a text", shown, here.value.span)
     if kind == "string" and not expression and here.value.kind == "scalar":
-        yield case.replace("put it in quotes", "'" + text.replace("'", "''") + "'", here.value.span, is_safe=True)
+        yield case.replace("put it in quotes", quoted(text), here.value.span, is_safe=True)
 
 
 def right_uses(case: Case) -> Iterable[Repair]:

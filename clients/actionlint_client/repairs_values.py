@@ -6,8 +6,8 @@ import re
 from typing import Callable, Iterable, Sequence
 
 from .expressions import NAME, STRING
-from .repair import Case, Repair
-from .repairs_expressions import TWO_QUOTES, arguments_at, expression_of, in_yaml, is_compared, is_in_condition, is_operand
+from .repair import Case, Repair, in_quotes
+from .repairs_expressions import arguments_at, expression_of, is_compared, is_in_condition, is_operand
 from .syntax import table
 from .text import Point, Span
 from .tree import Node
@@ -95,7 +95,7 @@ def _joined(case: Case, chain: Sequence[str], span: Span) -> Iterable[Repair]:
     """The entries of a list as a text, with commas between them; with spaces only in a script, if the matrix has the list."""
     expression, here = expression_of(case), case.scalar
     between = "' '" if here and here.path[-1:] == ("run",) and chain[0].lower() == "matrix" else "', '"
-    literal = in_yaml(between, expression) if expression else between
+    literal = in_quotes(between, expression.style) if expression else between
     yield case.replace("join its entries", f"join({case.slice(span)}, {literal})", span)
 
 
@@ -141,7 +141,7 @@ def fewer_arguments(case: Case) -> Iterable[Repair]:
     expression = expression_of(case)
     if expression and name.lower() == "contains" and len(literals) == len(arguments) - 1 > 1 and not STRING.fullmatch(arguments[-1]):
         texts = ", ".join(f'"{text}"' for text in literals)
-        listed = in_yaml(f"fromJSON('[{texts}]')", expression) + f", {arguments[-1]}"
+        listed = in_quotes(f"fromJSON('[{texts}]')", expression.style) + f", {arguments[-1]}"
         yield case.replace("make a list of the texts", listed, Span.on_line(case.span.start.line, start, end))
         return
     if name.lower() in ("contains", "startswith", "endswith") and len(arguments) > 2:
@@ -173,7 +173,7 @@ def right_format(case: Case) -> Iterable[Repair]:
         return
     (text, *arguments), span = call
     numbers = {int(number) for number in PLACEHOLDER.findall(text)}
-    quote = TWO_QUOTES if text.startswith(TWO_QUOTES) else "'"
+    quote = "''" if text.startswith("''") else "'"
     unused = [number for number in range(len(arguments)) if number not in numbers]
     places = "".join(f" {{{number}}}" for number in unused)
     tries = [("number the placeholders", [_numbered(text, len(arguments)), *arguments]),
@@ -189,8 +189,7 @@ def right_format(case: Case) -> Iterable[Repair]:
 
 
 def _numbered(text: str, count: int) -> str:
-    """A text with its placeholders numbered: those without a number one after another, or as many different ones as arguments by their
-    order."""
+    """A text with its placeholders numbered: those without one in turn, or as many different ones as arguments by their order."""
     used = sorted({int(number) for number in PLACEHOLDER.findall(text)})
     if used:
         order = {number: place for place, number in enumerate(used)}

@@ -1,21 +1,23 @@
-"""Which keys can stand in a section beside others: what the linter accepts, and what GitHub accepts besides (github.json)."""
+"""Which keys can stand in a section, below an event and beside others, and which access levels a permission scope has: what the linter
+accepts, and where GitHub accepts less (github.json and the tables of the notes). Completion and quick fixes offer what both accept."""
 from __future__ import annotations
 
-import json
 from functools import lru_cache
-from pathlib import Path
 from typing import Any, Collection
 
+from .notes import file as notes
 from .syntax import table
 
-TABLE = Path(__file__).parent / "github.json"
-
-
-@lru_cache(maxsize=None)
-def github() -> dict[str, dict[str, Any]]:
-    """What GitHub's documents list and the linter doesn't check; `sources` names the documents."""
-    found: dict[str, dict[str, Any]] = json.loads(TABLE.read_text(encoding="utf-8"))
-    return found
+# What GitHub's documents list and the linter doesn't check; `sources` names the documents.
+GITHUB: dict[str, dict[str, Any]] = notes.table("../github")
+EVENTS, LEVELS = notes.table("events"), notes.table("values")["levels"]
+FILTERS = {event: set(filters) for event, filters in EVENTS["filters"].items()}
+# For keys of a job and of a step, the keys beside which GitHub refuses them.
+REFUSED_BESIDE = {
+    "job": {"with": {"runs-on", "steps"}, "secrets": {"runs-on", "steps"}},
+    "step": {"with": {"run"}, "shell": {"uses", "with"}, "working-directory": {"uses", "with"}, "run": {"with"}},
+}
+ALL_ACCESSES = {"read", "write", "none"}
 
 
 def can_stand(section: str, key: str, siblings: Collection[str]) -> bool:
@@ -36,11 +38,26 @@ def _excluded(section: str) -> dict[str, frozenset[str]]:
 def _pairs(section: str) -> list[tuple[str, str]]:
     shapes = [shape for shape in table()["shapes"].values() if shape.get("section") == section]
     pairs = [(key, row["clash"]) for shape in shapes for key, row in shape["keys"].items() if row["clash"]]
-    left, right = github()["excluded keys"].get(section, ([], []))
+    left, right = GITHUB["excluded keys"].get(section, ([], []))
     return pairs + [(one, other) for one in left for other in right]
 
 
 def activity_types(event: str) -> list[str]:
     """The activity types of an event, by the linter's list or else by GitHub's."""
-    found: list[str] = table()["activity types"].get(event) or github()["activity types"].get(event) or []
+    found: list[str] = table()["activity types"].get(event) or GITHUB["activity types"].get(event) or []
     return list(found)
+
+
+def takes_filter(event: str, key: str) -> bool:
+    """Whether GitHub knows a key below an event, unless the event has keys of its own, as `schedule` has."""
+    return key.removesuffix("-ignore") in FILTERS.get(event, {"types"})
+
+
+def takes_access(scope: str, access: str) -> bool:
+    """Whether a scope of `permissions` can have an access level."""
+    return access in LEVELS.get(scope, ALL_ACCESSES)
+
+
+def is_refused_beside(section: str, key: str, beside: Collection[str]) -> bool:
+    """Whether GitHub refuses a key of a section beside others that are there."""
+    return not REFUSED_BESIDE.get(section, {}).get(key, set()).isdisjoint(beside)

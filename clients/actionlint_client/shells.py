@@ -26,7 +26,6 @@ def name_of(command: str) -> str:
 
 
 def shell_of(step: Node, default: str) -> str:
-    """The name of a step's shell."""
     return name_of(command_of(step, default))
 
 

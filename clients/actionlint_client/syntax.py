@@ -19,6 +19,7 @@ VALUE_WORDS = {"AnyScalar": "text", "NotNull": "text", "Bools": "true or false",
 
 # A row of the table: what a value may be, as make_tables.py writes it.
 Shape = dict[str, Any]
+KINDS_OF_SCALARS = {"Numbers": "number", "Bools": "flag"}
 
 
 @lru_cache(maxsize=None)
@@ -123,3 +124,30 @@ def value_words(shape: Shape | None) -> str:
     elif shape["free"]:
         words.append("mapping")
     return " or ".join(words)
+
+
+def wanted_under(key: str) -> str | None:
+    """`list`, `mapping`, `number` or `flag`. None if a key takes several of them or is in no section."""
+    return _kinds().get(key)
+
+
+@lru_cache(maxsize=None)
+def _kinds() -> dict[str, str | None]:
+    """The kind of value of each key, None if sections differ."""
+    shapes = table()["shapes"]
+    found: dict[str, str | None] = {}
+    for section in shapes.values():
+        if section.get("others") not in (None, "unchecked"):
+            for key, row in section["keys"].items():
+                kind = _kind(shapes[row["shape"]])
+                found[key] = kind if found.setdefault(key, kind) == kind else None
+    return found
+
+
+def _kind(shape: Shape) -> str | None:
+    """The only kind that a shape takes. An expression in place of a whole mapping makes no difference."""
+    has_keys = shape["free"] is not None or "keys" in shape
+    if shape["items"] or has_keys:
+        is_one = shape["scalars"] == "NoScalar" or has_keys and shape["scalars"] == "Chunks"
+        return None if not is_one or shape["items"] and has_keys else "mapping" if has_keys else "list"
+    return KINDS_OF_SCALARS.get(shape["scalars"])

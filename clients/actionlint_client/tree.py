@@ -75,7 +75,6 @@ class Node:
         return node
 
     def key(self, key: str) -> Node | None:
-        """The node of a key."""
         found = self._by_key.get(key)
         return found[0] if found else None
 
@@ -115,7 +114,6 @@ def walk(node: Node, path: Path = ()) -> Iterator[tuple[Path, Node | None, Node]
 
 
 def last_line(node: Node, lines: list[str]) -> int:
-    """The last line of a node."""
     below = [value for _, value in node.entries] or node.items
     if node.alias is None and not node.is_flow and below:
         return last_line(below[-1], lines)

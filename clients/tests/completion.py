@@ -22,12 +22,12 @@ from actionlint_client import completion, place_in_tree, used
 from actionlint_client.completion import Offer, offers
 from actionlint_client.place import Outline, Role
 from actionlint_client.project import Project
-from actionlint_client.report import Fault
+from actionlint_client.faults import Fault
 from actionlint_client.sections import can_stand
 from actionlint_client.syntax import available
 from actionlint_client.text import Point, Span
 from actionlint_client.tree import walk
-from actionlint_client.used import used_in
+from actionlint_client.completion import used_in
 
 CASES = Cases("completion")
 CALLED, ACTION = WORKFLOWS + "called.yml", "greet/action.yml"

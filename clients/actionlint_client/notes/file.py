@@ -122,8 +122,7 @@ class File:
 
 
 def names_of(expression: Expression) -> list[str]:
-    """The names of a path in lower case, `*` for all properties, such as `github`, `event`, `inputs`. Empty if it is no path or an index is
-    computed."""
+    """The names of a path in lower case, such as `github`, `event`, and `*` for all properties. Empty for no path or a computed index."""
     expression = inner(expression)
     if isinstance(expression, Word) and expression.kind == "name":
         return [expression.text.lower()]

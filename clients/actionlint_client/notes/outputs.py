@@ -35,8 +35,7 @@ def _is_plain(line: str) -> bool:
 
 
 def unwritten_outputs(file: File) -> Iterator[Finding]:
-    """N23: an output that the script of its step doesn't write, though it writes others, and nothing else in it could; or one that a known
-    action doesn't have."""
+    """N23: an output that its step's script surely doesn't write, though it writes others; or one that a known action doesn't have."""
     written: dict[tuple[int, str], set[str] | None] = {}
     called: dict[tuple[int, str], str] = {}
     for job, step in file.steps:
