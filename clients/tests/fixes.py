@@ -19,10 +19,10 @@ from repositories import FILE
 from slips import Folder, counted, every_text
 
 from actionlint_client.entries import ARGUMENT, entries
+from actionlint_client.faults import Fault
 from actionlint_client.fixes import REPAIRS, UNREADABLE, Trial, fixes, repairs
 from actionlint_client.project import Project
 from actionlint_client.repair import Repair, replaced
-from actionlint_client.faults import Fault
 
 CASES = Cases("fixes")
 SECONDS = 20.0

@@ -23,10 +23,10 @@ from repositories import ACTION, CALLED, FILE, FILES, RIGHT, UNDEFINED, WORKFLOW
 
 from actionlint_client import disk, facts, folder as following, positions
 from actionlint_client.diagnostics import Diagnostics
+from actionlint_client.faults import Fault
 from actionlint_client.files import may_call
 from actionlint_client.folder import REASONS, REPORTS_TOO_MUCH, Folder, Program
 from actionlint_client.program import find_facts
-from actionlint_client.faults import Fault
 from actionlint_client.repository import Repository
 from actionlint_client.workspace import Workspace
 
