@@ -14,9 +14,9 @@ from .paths import is_workflow
 from .place import Place, Role
 from .place_in_tree import place_at
 from .project import Project, is_callable, steps_of
-from .sections import GITHUB, activity_types, can_stand, takes_access, takes_filter
+from .syntax import (GITHUB, Shape, activity_types, available, can_stand, is_condition, key_of, meaning, section_at, shape_at, table,
+                     takes_access, takes_filter, value_words)
 from .structure import address_of
-from .syntax import Shape, available, is_condition, key_of, meaning, section_at, shape_at, table, value_words
 from .text import Point, Span, end_of
 from .tree import Node, Path
 

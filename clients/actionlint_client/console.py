@@ -1,20 +1,21 @@
-"""What a client prints beside a report: lines on standard error, and its help and its version."""
+"""What a client prints beside a report: lines on standard error, and its help and its version, which others show too."""
 from __future__ import annotations
 
 import argparse
 import io
 import os
 import sys
+from pathlib import Path
 from typing import TYPE_CHECKING, Callable
 
 from .output import report_output
-from .version import version
 
 if TYPE_CHECKING:
     from _typeshed import ReadableBuffer
 
 STANDARD_ERROR = 2
 CANNOT_PRINT = 3
+FILE = Path(__file__).resolve().parents[2] / "VERSION"
 
 
 class _Errors(io.FileIO):
@@ -62,3 +63,11 @@ def add_help_and_version(parser: argparse.ArgumentParser) -> None:
     parser.add_argument("-h", "--help", action=_Print, text=parser.format_help, help="show this help message and exit")
     parser.add_argument("--version", action=_Print, text=lambda: f"{parser.prog} {version() or 'without a version'}\n",
                         help="show program's version number and exit")
+
+
+def version() -> str | None:
+    """The contents of the file VERSION of the repository or the release, or None if there is none."""
+    try:
+        return FILE.read_text(encoding="utf-8").strip()
+    except OSError:
+        return None

@@ -20,7 +20,7 @@ from .entries import entries, explained
 from .forms import Annotations, CodeQuality, Form, JsonLines, OneLine, Outcome
 from .ignoring import Ignored, Rule, WrongRule, is_note, is_of_shellcheck, rules_in
 from .lint_run import CANNOT_GO_ON, LintFailed, LintRun, ReportTooLong
-from .notes.entries import NoNotes, entries_of_notes
+from .notes.file import NoNotes, entries_of_notes
 from .output import STANDARD_OUTPUT, report_output
 from .paths import path_of_word
 from .problems import Problem

@@ -11,8 +11,7 @@ from .markdown import Markdown, escaped_or_none
 from .names import names as known_names
 from .paths import is_workflow
 from .project import Declaration, Project
-from .sections import GITHUB
-from .syntax import available, meaning, table
+from .syntax import GITHUB, available, meaning, table
 from .tree import Node, Path
 
 NAME = r"[A-Za-z_][\w-]*"

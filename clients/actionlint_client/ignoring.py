@@ -9,7 +9,7 @@ from typing import Callable, Collection, Iterable, NamedTuple
 from .disk import OPENED
 from .entries import entries_by_code
 from .faults import NO_FAULTS, Fault, FileFaults
-from .notes.entries import entries_of_notes
+from .notes.file import entries_of_notes
 from .problems import Problem, problem_of
 
 NOTE = re.compile(r"SC\d{4}")

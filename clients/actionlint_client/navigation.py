@@ -11,8 +11,7 @@ from .paths import path_of
 from .protocol import (Capabilities, DocumentHighlight, FileRename, Handler, Location, Position, PrepareRenameResult, ReferenceContext,
                        TextDocumentIdentifier, WorkspaceEdit)
 from .references import Occurrence, all_of, occurrence_at, occurrences
-from .renaming import changed_calls, moved_files
-from .renaming import Refusal, renamable_at, rename
+from .renaming import Refusal, changed_calls, moved_files, renamable_at, rename
 from .workspace import Workspace
 
 WRITE, READ = 3, 2

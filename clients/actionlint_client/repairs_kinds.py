@@ -15,8 +15,7 @@ from .repair import Case, Edit, Found, Repair, indented, is_within_flow, quoted,
 from .repairs_keys import JOB, UNIT_OF_LIMIT, without_dash
 from .repairs_levels import moved
 from .repairs_lines import DASH_WITHOUT_SPACE
-from .sections import activity_types, takes_filter
-from .syntax import table
+from .syntax import activity_types, table, takes_filter
 from .text import Point, Span
 from .tree import Node, Path, last_line, walk
 

@@ -13,8 +13,7 @@ from .repairs_expressions import BRACES
 from .repairs_keys import deleted, fits, in_its_quotes
 from .repairs_kinds import as_list, as_mapping, list_of_lines
 from .repairs_levels import indent_of, moves
-from .sections import takes_access
-from .syntax import table
+from .syntax import table, takes_access
 from .text import Point, Span
 from .tree import Node, last_line
 

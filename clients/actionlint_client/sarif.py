@@ -9,7 +9,7 @@ from .characters import json_text, shown
 from .entries import explained, markdown_of, plain_text, title_of
 from .forms import Form, Outcome
 from .problems import ERROR, Problem
-from .version import version
+from .console import version
 
 if TYPE_CHECKING:
     from .repair import Edit, Repair

@@ -35,7 +35,7 @@ from .repository import Repository
 from .script_checks import ScriptChecks
 from .streams import waiting_input, waiting_output
 from .symbols import Symbols
-from .version import version
+from .console import version
 from .workspace import Workspace
 
 FULL_TEXT = 1

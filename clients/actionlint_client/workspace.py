@@ -6,8 +6,7 @@ from typing import Callable
 
 from .diagnostics import Diagnostics
 from .editor import Editor
-from .paths import is_below, is_linted
-from .paths import path_of, root_of_file, root_of_folder
+from .paths import is_below, is_linted, path_of, root_of_file, root_of_folder
 from .repository import Document, Repository
 from .script_checks import ScriptChecks
 

@@ -23,8 +23,7 @@ from actionlint_client.completion import Offer, offers, used_in
 from actionlint_client.faults import Fault
 from actionlint_client.place import Outline, Role
 from actionlint_client.project import Project
-from actionlint_client.sections import can_stand
-from actionlint_client.syntax import available
+from actionlint_client.syntax import available, can_stand
 from actionlint_client.text import Point, Span
 from actionlint_client.tree import walk
 

@@ -11,7 +11,7 @@ from ..faults import Fault
 from ..problems import NOTE, NOTE_KIND, Problem
 from ..program import find_facts
 from ..script_checks import Key, ScriptChecks, WrittenNote, check, written
-from .entries import NoNotes, entry_of_note
+from .file import NoNotes, entry_of_note
 
 
 class NoteChecks(ScriptChecks):

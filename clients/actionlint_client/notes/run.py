@@ -19,8 +19,7 @@ from ..problems import ERROR, NOTE, NOTE_KIND, Problem
 from ..program import FACTS, find_facts
 from ..text import BytePlaces
 from ..tree import Node, tree_of
-from .entries import NoNotes, entry_of_note
-from .file import File, Finding
+from .file import File, Finding, NoNotes, entry_of_note
 from .rules import findings
 
 SECONDS = 60.0
