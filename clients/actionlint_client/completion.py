@@ -14,9 +14,9 @@ from .paths import is_workflow
 from .place import Place, Role
 from .place_in_tree import place_at
 from .project import Project, is_callable, steps_of
+from .structure import address_of
 from .syntax import (GITHUB, Shape, activity_types, available, can_stand, is_condition, key_of, meaning, section_at, shape_at, table,
                      takes_access, takes_filter, value_words)
-from .structure import address_of
 from .text import Point, Span, end_of
 from .tree import Node, Path
 
@@ -251,16 +251,12 @@ def _fixed_values(cursor: Cursor, section: str, key: str | None, around: Path) -
     if key == "using":
         lists[section, key] = names()["using"], "kinds of actions", "kind"
     if around and around[-1] == "permissions" and cursor.section(around[:-1]) in ("workflow", "job"):
-        lists[section, key] = _accesses(cursor, key or ""), "permissions", "access"
+        accesses = [one for one in permissions["scope_values"] if takes_access(key or "", one) or not cursor.is_strict]
+        lists[section, key] = accesses, "permissions", "access"
     if isinstance(cursor.place.path[-1] if cursor.place.path else None, int) and key == "permissions":
         return []
     known, heading, detail = lists.get((section, key), ((), "", ""))
     return [Offer(name, "value", name, detail, meaning(heading, name)) for name in known]
-
-
-def _accesses(cursor: Cursor, scope: str) -> list[str]:
-    """The access levels that a scope of `permissions` can have."""
-    return [one for one in table()["permission values"]["scope_values"] if takes_access(scope, one) or not cursor.is_strict]
 
 
 def _names_of_file(cursor: Cursor, section: str, key: str | None) -> list[Offer]:

@@ -15,19 +15,17 @@ from . import shellcheck
 from .advice import SECONDS_OF_AN_ANSWER, FirstFixes
 from .characters import terminal_text
 from .child import LinterEnded
-from .console import add_help_and_version
 from .entries import entries, explained
-from .forms import Annotations, CodeQuality, Form, JsonLines, OneLine, Outcome
+from .forms import WIDTH, Annotations, CodeQuality, Form, JsonLines, OneLine, Outcome, Text, has_color
 from .ignoring import Ignored, Rule, WrongRule, is_note, is_of_shellcheck, rules_in
 from .lint_run import CANNOT_GO_ON, LintFailed, LintRun, ReportTooLong
 from .notes.file import NoNotes, entries_of_notes
-from .output import STANDARD_OUTPUT, report_output
+from .output import STANDARD_OUTPUT, add_help_and_version, report_output
 from .paths import path_of_word
 from .problems import Problem
 from .program import WHICH, find_program, missing_facts, missing_linter
 from .reader import Reader, Started
 from .sarif import Sarif, left_out_line
-from .terminal import WIDTH, Text, has_color
 
 if TYPE_CHECKING:
     from .fixing import Request

@@ -181,7 +181,9 @@ class Scope:
             return [Property(name, "row of the matrix", escaped_or_none(", ".join(item.value for item in row.items[:8] if item.value)))
                     for name, row in rows.items()]
         name = _same(list(rows), names[0])
-        return [Property(key, "value of the matrix", None) for key in _keys_of_values(rows[name])] if name and len(names) == 1 else []
+        # the keys that entries of the row have, those of all entries
+        keys = [key for item in rows[name].items or [rows[name]] for key in item.names()] if name and len(names) == 1 else []
+        return [Property(key, "value of the matrix", None) for key in dict.fromkeys(keys)]
 
     def _inputs(self, names: tuple[str, ...]) -> list[Property]:
         return [property_of(one, "input") for one in files.declarations(self.file, self.tree, "inputs")] if not names else []
@@ -212,11 +214,6 @@ def property_of(declaration: Declaration, what: str) -> Property:
 def _same(names: list[str], wanted: str) -> str | None:
     """The name that is equal to another one except for case."""
     return next((name for name in names if name.lower() == wanted.lower()), None)
-
-
-def _keys_of_values(row: Node) -> list[str]:
-    """The keys that entries of a row have, those of all entries."""
-    return list(dict.fromkeys(key for item in (row.items or [row]) for key in item.names()))
 
 
 @dataclass

@@ -158,10 +158,9 @@ def declared_as_secret(case: Case) -> Iterable[Repair]:
 
 
 def action_of_job(case: Case) -> Iterable[Repair]:
-    """An action that a job with steps calls, called from a step."""
-    here = case.key
-    uses = here.parent.get("uses") if here else None
-    key = here.parent.key("uses") if here else None
+    """An action that a job calls, called from a step. The fault is in its name, or in a key of a job with steps."""
+    here = case.value if case.code == "C8" else case.key
+    uses, key = (here.parent.get("uses"), here.parent.key("uses")) if here else (None, None)
     if here and uses and key and len(here.path) == 3 and here.path[0] == "jobs" and ".github/workflows/" not in uses.value:
         yield from _called_from_step(case, Found((*here.path[:-1], "uses"), key, uses, here.parent))
 
@@ -358,13 +357,6 @@ def _with_owner(case: Case, name: str) -> str:
     return owners[0] if len(owners) == 1 else ""
 
 
-def local_action_of_job(case: Case) -> Iterable[Repair]:
-    """An action of this repository that a job calls, called from a step."""
-    here = case.value
-    if here and here.key and len(here.path) == 3 and here.path[0] == "jobs" and ".github/workflows/" not in here.value.value:
-        yield from _called_from_step(case, here)
-
-
 def made_callable(case: Case) -> Iterable[Repair]:
     """`workflow_call` as an event of the called workflow, or the call on a job or a step of its own."""
     node, callee, of_job = call_of(case)
@@ -424,6 +416,6 @@ REPAIRS: dict[str, tuple[Callable[[Case], Iterable[Repair]], ...]] = {
     "C5": (near_declared("secrets"),),
     "C6": (required("secrets"),),
     "C7": (script_for_call, right_uses),
-    "C8": (local_action_of_job, made_callable),
+    "C8": (action_of_job, made_callable),
     "C9": (without_step,),
 }

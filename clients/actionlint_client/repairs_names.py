@@ -395,9 +395,8 @@ def moved_variable(case: Case) -> Iterable[Repair]:
     if here is None or here.key is None or job is None or here.path[2:3] != ("env",) or len(here.path) != 4:
         return
     entry = f"{here.key.value}: {case.slice(here.value.span)}"
-    steps = job.get("steps")
     edits = []
-    for step in steps.items if steps else []:
+    for step in job.items_at("steps"):
         env = step.get("env")
         flow_entry = f"{here.key.value}: {case.slice(here.value.span) if here.value.style else quoted(here.value.value)}"
         if env and env.entries:

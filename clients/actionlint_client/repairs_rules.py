@@ -224,8 +224,7 @@ def _outputs_of(case: Case, name: str) -> list[str]:
 
 
 def _needs(case: Case) -> Iterable[Node]:
-    jobs = case.at("jobs")
-    for _, job in jobs.entries if jobs else ():
+    for _, job in case.tree.entries_at("jobs") if case.tree else ():
         node = job.get("needs")
         if node:
             yield from node.items or [node]
@@ -373,13 +372,8 @@ def right_variable(case: Case) -> Iterable[Repair]:
         return
     name = re.sub(r"\W+", "_", here.key.value.strip(), flags=re.A).strip("_") or "NAME"
     if here.parent.get(name) is None:
-        yield case.of(f'change to "{name}"', Edit(here.key.span, name), *_uses_of_variable(case, here.key.value, name))
-
-
-def _uses_of_variable(case: Case, wrong: str, name: str) -> Iterable[Edit]:
-    for chain in case.chains_between(case.tree.start, case.tree.end) if case.tree else ():
-        if chain.names == ("env", wrong):
-            yield Edit(chain.span, f"env.{name}")
+        uses = (chain for chain in case.chains_between(case.tree.start, case.tree.end) if chain.names == ("env", here.key.value))
+        yield case.of(f'change to "{name}"', Edit(here.key.span, name), *(Edit(chain.span, f"env.{name}") for chain in uses))
 
 
 def secret_password(case: Case) -> Iterable[Repair]:

@@ -117,8 +117,7 @@ def _values_of_row(case: Case, chain: Sequence[str]) -> list[Node]:
     matrix = case.at("jobs", case.job, "strategy", "matrix") if case.job else None
     if matrix is None or len(chain) != 2 or chain[0].lower() != "matrix":
         return []
-    row, include = matrix.get(chain[1]), matrix.get("include")
-    return [*(row.items if row else ()), *(value for item in (include.items if include else ()) if (value := item.get(chain[1])))]
+    return [*matrix.items_at(chain[1]), *(value for item in matrix.items_at("include") if (value := item.get(chain[1])))]
 
 
 def of_a_ref(case: Case) -> Iterable[Repair]:

@@ -40,11 +40,11 @@ class Script:
 
 def scripts_of(root: Node, data: bytes) -> list[Script]:
     """The scripts of a file, each once."""
-    jobs = [job for _, job in at.entries] if (at := root.get("jobs")) else []
-    steps = [(command_of(step, ""), step) for step in _items(root.get("runs", "steps"))]
+    jobs = [job for _, job in root.entries_at("jobs")]
+    steps = [(command_of(step, ""), step) for step in root.items_at("runs", "steps")]
     for job in jobs:
         default = default_shell(root, job)
-        steps += [(command_of(step, default), step) for step in _items(job.get("steps"))]
+        steps += [(command_of(step, default), step) for step in job.items_at("steps")]
     scripts: dict[int, tuple[str, Node]] = {}
     for command, step in steps:
         run = step.get("run")
@@ -54,10 +54,6 @@ def scripts_of(root: Node, data: bytes) -> list[Script]:
     # Where the characters of the file begin.
     characters = range(len(data)) if data.isascii() else [at for at, byte in enumerate(data) if byte & 0xC0 != 0x80]
     return [_script(command, node, characters) for command, node in scripts.values()]
-
-
-def _items(node: Node | None) -> list[Node]:
-    return node.items if node else []
 
 
 def _script(command: str, node: Node, characters: Sequence[int]) -> Script:

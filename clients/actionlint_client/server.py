@@ -27,6 +27,7 @@ from .limit import LIMIT, TooSlow
 from .messages import Messages, Wake
 from .navigation import MOVES, Navigation
 from .notes.checks import NoteChecks
+from .output import version
 from .paths import path_of
 from .program import find_program
 from .protocol import (Capabilities, Feature, Handler, InitializeResult, Message, TextDocumentContentChangeEvent, TextDocumentIdentifier,
@@ -35,7 +36,6 @@ from .repository import Repository
 from .script_checks import ScriptChecks
 from .streams import waiting_input, waiting_output
 from .symbols import Symbols
-from .console import version
 from .workspace import Workspace
 
 FULL_TEXT = 1

@@ -90,10 +90,19 @@ class Node:
             return []
         return [node.value] if node.kind == "scalar" else [item.value for item in node.items if item.kind == "scalar"]
 
+    def entries_at(self, *path: str | int) -> list[tuple[Node, Node]]:
+        """The entries of the mapping at the end of a path."""
+        node = self.get(*path)
+        return node.entries if node else NOTHING
+
+    def items_at(self, *path: str | int) -> list[Node]:
+        """The items of the list at the end of a path."""
+        node = self.get(*path)
+        return node.items if node else NOTHING
+
     def names(self, *path: str | int) -> list[str]:
         """The keys of the mapping at the end of a path."""
-        node = self.get(*path)
-        return [key.value for key, _ in node.entries] if node else []
+        return [key.value for key, _ in self.entries_at(*path)]
 
 
 def tree_of(root: Json, data: bytes) -> Node:

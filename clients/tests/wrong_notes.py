@@ -40,7 +40,7 @@ WRONG_NOTES = (
     ("functions_of_constants_vary", "notes/conditions.py", "notes.py each_case", "part.name.text.lower() in OF_ARGUMENTS", "False"),
     ("all_functions_are_constant", "notes/conditions.py", "notes.py each_case", "part.name.text.lower() in OF_ARGUMENTS", "True"),
     ("rows_are_listed_once", "notes/matrices.py", "notes.py each_case",
-     "for key, _ in matrix.entries] if matrix else []", "for key, _ in matrix.entries] if False else []"),
+     'named = [key for key, _ in job.entries_at("strategy", "matrix")]', "named = []"),
     ("all_mappings_are_equal", "notes/matrices.py", "notes.py each_case", "return node.kind, node.schema_class, node.value, *below",
      "return node.kind, node.schema_class, node.value"),
     ("containers_have_any_property", "notes/properties.py", "notes.py each_case", 'if above in TABLE["all"]:', "if False:"),

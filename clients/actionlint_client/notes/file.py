@@ -61,8 +61,7 @@ class File:
     @cached_property
     def jobs(self) -> list[tuple[Node, Node]]:
         """The ids of jobs and the jobs, as far as these are mappings."""
-        found = self.root.get("jobs") if self.is_workflow else None
-        return [(key, job) for key, job in found.entries if job.kind == "mapping"] if found else []
+        return [(key, job) for key, job in self.root.entries_at("jobs") if job.kind == "mapping"] if self.is_workflow else []
 
     @cached_property
     def events(self) -> list[tuple[Node, Node | None]]:

@@ -5,8 +5,8 @@ import re
 from typing import Iterator
 
 from ..facts_tree import walk as parts_of
-from .file import File, Finding, names_of, note, table
 from .actions import lacks
+from .file import File, Finding, names_of, note, table
 
 NAME = re.compile(r"""\s*(?:echo|printf)\s+["']?([A-Za-z_][\w-]*)(?:=|<<)[^|;&]*>>\s*"?\$\{?GITHUB_OUTPUT\}?"?\s*""")
 COMMAND = re.compile(r"(?:^|\||&&|;|\$\(|`|\bif\b|\bthen\b|\bdo\b|\belse\b)\s*(?=((?:\w+=(?:[^\s$`]|\$(?!\())*\s+)*[^\s;|&()`]+))")
