@@ -15,7 +15,7 @@ from .paths import is_workflow
 from .place import Outline
 from .positions import span_of
 from .project import Project
-from .shells import default_shell, shell_of
+from .scripts import default_shell, shell_of
 from .syntax import is_refused_beside, shape_at, takes_filter
 from .text import BYTE_ORDER_MARK, BytePlaces, Places, Point, Span
 from .tree import Node, Path, last_line, walk

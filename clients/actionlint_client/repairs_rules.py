@@ -218,11 +218,6 @@ def _ids_without_step(case: Case) -> list[str]:
                               if len(names) > 2 and names[0].lower() == "steps" and names[1] not in ids))
 
 
-def _outputs_of(case: Case, name: str) -> list[str]:
-    """The outputs that the expressions of the fault's job ask of a step."""
-    return [names[3] for names in _names_used(case) if len(names) > 3 and (names[0].lower(), names[1]) == ("steps", name)]
-
-
 def _needs(case: Case) -> Iterable[Node]:
     for _, job in case.tree.entries_at("jobs") if case.tree else ():
         node = job.get("needs")
@@ -236,7 +231,9 @@ def another_id(case: Case) -> Iterable[Repair]:
     here = case.key or case.value
     node = here.key if here and case.key and here.key else here.value if here else None
     used = _ids_without_step(case)
-    asked = set(_outputs_of(case, used[0])) if len(used) == 1 and not case.key else set()
+    # the outputs that expressions ask of the id
+    of_id = [one for one in _names_used(case) if len(one) > 3 and (one[0].lower(), one[1]) == ("steps", used[0])] if len(used) == 1 else []
+    asked = {one[3] for one in of_id} if not case.key else set()
     same = [step for step in files.steps_of(case.tree, case.job) if node and step.text("id") == node.value]
     wrong = next((one for one in same if asked & set(files.written_outputs(one))), None)
     if wrong is None and here and len(used) == 1 and not case.key and not files.written_outputs(here.parent):

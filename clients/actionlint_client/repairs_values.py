@@ -77,14 +77,17 @@ def all_results(case: Case) -> Iterable[Repair]:
 
 
 def as_json(case: Case) -> Iterable[Repair]:
-    """The value as a text, except in a condition, where a text is always true."""
+    """The value as a text, or its name if each has one, except in a condition, where a text is always true."""
     chain, span = case.chain
     if is_in_condition(case) and case.code == "X18" or chain[:2] == ("needs", "*") and chain[2:3] not in (("result",), ("outputs",)):
         return
     if chain:
         joined = list(_joined(case, chain, span)) if span.end.column > span.start.column else []
-        yield from joined if _is_list_of_texts(case, chain) else ()
-        yield from _by_its_name(case, chain, span)
+        values = _values_of_row(case, chain)
+        has_lists = all(value.items and all(item.kind == "scalar" for item in value.items) for value in values)
+        yield from joined if values and has_lists else ()
+        if values and all(value.text("name") for value in values):
+            yield case.replace(f"change to {case.slice(span)}.name", f"{case.slice(span)}.name", span)
         yield case.replace("convert it to JSON", f"toJSON({case.slice(span)})", span)
         yield from joined if "*" in chain else ()
     elif (expression := expression_of(case)) and expression.text.strip():
@@ -97,19 +100,6 @@ def _joined(case: Case, chain: Sequence[str], span: Span) -> Iterable[Repair]:
     between = "' '" if here and here.path[-1:] == ("run",) and chain[0].lower() == "matrix" else "', '"
     literal = in_quotes(between, expression.style) if expression else between
     yield case.replace("join its entries", f"join({case.slice(span)}, {literal})", span)
-
-
-def _is_list_of_texts(case: Case, chain: Sequence[str]) -> bool:
-    """Whether each value of a matrix's row is a list of texts."""
-    values = _values_of_row(case, chain)
-    return bool(values) and all(value.items and all(item.kind == "scalar" for item in value.items) for value in values)
-
-
-def _by_its_name(case: Case, chain: Sequence[str], span: Span) -> Iterable[Repair]:
-    """The name of a row's value, if each is a mapping that has one."""
-    values = _values_of_row(case, chain)
-    if values and all(value.text("name") for value in values):
-        yield case.replace(f"change to {case.slice(span)}.name", f"{case.slice(span)}.name", span)
 
 
 def _values_of_row(case: Case, chain: Sequence[str]) -> list[Node]:

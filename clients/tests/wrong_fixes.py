@@ -258,7 +258,7 @@ WRONG_FIXES = (
     ("outputs_are_nowhere_else", "repairs_needs.py", LAST, 'if outputs is None and is_written_elsewhere(case, chain[1], "outputs"):',
      "if False:"),
     ("a_list_has_commas_in_a_script", "repairs_values.py", LAST, "between = \"' '\" if here and", "between = \"' '\" if not here and"),
-    ("no_row_has_lists", "repairs_values.py", LAST, "yield from joined if _is_list_of_texts(case, chain) else ()", "yield from ()"),
+    ("no_row_has_lists", "repairs_values.py", LAST, "yield from joined if values and has_lists else ()", "yield from ()"),
     ("all_below_with_are_inputs", "repairs_calls.py", LAST, "(declared_as_secret, key_of_call, near", "(declared_as_secret, near"),
     ("no_inputs_are_left", "repair.py", LAST,
      "if len(here.parent.entries) > 1:\n        return without_entry", "if True:\n        return without_entry"),

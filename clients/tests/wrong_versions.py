@@ -363,7 +363,7 @@ WRONG_VERSIONS = {name: WrongVersion(*row) for name, *row in (
     # shellcheck.
     ("scripts_go_on_after_failures", "shellcheck_run.py", "shellcheck_notes.py as_the_runner_runs_them",
      "    if not script.ends_at_failure:\n        return text\n", "    if True:\n        return text\n"),
-    ("options_of_a_shell_mean_nothing", "shells.py", "shellcheck_notes.py as_the_runner_runs_them",
+    ("options_of_a_shell_mean_nothing", "scripts.py", "shellcheck_notes.py as_the_runner_runs_them",
      "    if not options:\n        return True\n", "    return True\n"),
     ("the_added_line_moves_notes", "shellcheck_run.py", "shellcheck_notes.py as_the_runner_runs_them", "added = 1 if", "added = 0 if"),
     ("a_first_line_of_its_own_moves_notes", "shellcheck_run.py", "shellcheck_notes.py as_the_runner_runs_them",
@@ -378,7 +378,7 @@ WRONG_VERSIONS = {name: WrongVersion(*row) for name, *row in (
      "note.code == ABOUT_PREFIXES and _touches(note, computed)", "False"),
     ("where_a_variable_can_not_be_nothing_is_noted", "shellcheck_run.py", "shellcheck_notes.py what_stands_in_place_of_an_expression",
      "if _is_unread(variables) and not _is_unread(words):", "if False:"),
-    ("a_container_has_bash", "shells.py", "shellcheck_notes.py shells", 'return "sh"', 'return "bash"'),
+    ("a_container_has_bash", "scripts.py", "shellcheck_notes.py shells", 'return "sh"', 'return "bash"'),
     ("one_script_takes_the_report", "shellcheck_run.py", "shellcheck_notes.py a_script_without_end",
      'raise NotChecked(f"{PROGRAM} took more', 'raise ShellcheckFailed(f"{PROGRAM} took more'),
     ("what_it_started_goes_on", "shellcheck_run.py", "shellcheck_notes.py a_script_at_which_it_dies",
