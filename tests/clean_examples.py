@@ -11,7 +11,7 @@ import re
 import sys
 
 sys.path.append(str(pathlib.Path(__file__).resolve().parent.parent / "clients"))
-from actionlint_client.stricter import takes_access, takes_filter
+from actionlint_client.syntax import takes_access, takes_filter
 from fault_entries import cases_of_entries, files_of, report_of
 from running import exit_status, report, skip
 

@@ -2,9 +2,9 @@
 from __future__ import annotations
 
 from . import fixes
+from .asked import workspace_edit
 from .characters import shown
 from .diagnostics import Diagnostics
-from .edits import workspace_edit
 from .editor import Editor
 from .folder import Program
 from .protocol import Capabilities, CodeAction, CodeActionContext, Handler, Range, TextDocumentIdentifier
@@ -17,9 +17,7 @@ class CodeActions:
 
     def __init__(self, workspace: Workspace, diagnostics: Diagnostics, editor: Editor, program: Program):
         self._workspace, self._diagnostics, self._editor, self._program = workspace, diagnostics, editor, program
-
-    def handlers(self) -> dict[str, Handler]:
-        return {"textDocument/codeAction": self.code_actions}
+        self.handlers: dict[str, Handler] = {"textDocument/codeAction": self.code_actions}
 
     def code_actions(self, textDocument: TextDocumentIdentifier, range: Range, context: CodeActionContext | None = None,
                      **_: object) -> list[CodeAction]:

@@ -12,11 +12,11 @@ from .child import LinterMissing
 from .entries import plain_text
 from .names import names
 from .problems import Problem
-from .wanted import wanted_under
+from .syntax import wanted_under
 
 if TYPE_CHECKING:
+    from .faults import Fault
     from .repair import Repair
-    from .report import Fault
 
 # Fixes are tried for so many faults of a report and in so much time, and for the first ones of a file that `fixes` takes, fewer if it has
 # more bytes than a twentieth of these.
@@ -38,7 +38,7 @@ class FirstFixes:
 
     def __init__(self, program: str, root: str | None, files: Iterable[str]):
         """`files` are those that were named, which the server would have open."""
-        from .actions_on_disk import actions_below
+        from .disk import actions_below
         from .files import Files
         from .project import Project
         from .reader import Reader, Started

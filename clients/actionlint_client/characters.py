@@ -30,8 +30,7 @@ def shown(text: str) -> str:
 
 
 def terminal_text(text: str) -> str:
-    """A line for a terminal or a log: each of these characters except tabs is replaced by its code point, and no runner finds a command
-    in it."""
+    """A line for a terminal or a log: code points for these characters except tabs, and nothing that a runner takes for a command."""
     return COMMAND.sub(_code_point, IN_A_LINE.sub(_code_point, text))
 
 

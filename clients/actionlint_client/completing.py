@@ -22,9 +22,7 @@ class Completion:
 
     def __init__(self, workspace: Workspace, editor: Editor):
         self._workspace, self._editor = workspace, editor
-
-    def handlers(self) -> dict[str, Handler]:
-        return {"textDocument/completion": self.complete}
+        self.handlers: dict[str, Handler] = {"textDocument/completion": self.complete}
 
     def complete(self, textDocument: TextDocumentIdentifier, position: Position, **_: object) -> CompletionList | None:
         place = asked(self._workspace, textDocument, position)

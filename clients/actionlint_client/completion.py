@@ -1,9 +1,10 @@
-"""What is allowed at a cursor: keys of the section, values of the key, and names in expressions."""
+"""What is allowed at a cursor: keys of the section, values of the key, names in expressions, and what other files use and are called."""
 from __future__ import annotations
 
 import re
+import time
 from dataclasses import dataclass, replace
-from typing import Callable, Iterable
+from typing import Callable, Iterable, Iterator, NamedTuple
 
 from . import project as files
 from .expressions import Before, Property, Scope, chain_before, expression_before
@@ -12,14 +13,12 @@ from .names import names
 from .paths import is_workflow
 from .place import Place, Role
 from .place_in_tree import place_at
-from .project import Project
-from .sections import activity_types, can_stand, github
-from .stricter import takes_access, takes_filter
+from .project import Project, is_callable, steps_of
 from .structure import address_of
-from .syntax import Shape, available, is_condition, key_of, meaning, section_at, shape_at, table, value_words
-from .text import Point, Span
+from .syntax import (GITHUB, Shape, activity_types, available, can_stand, is_condition, key_of, meaning, section_at, shape_at, table,
+                     takes_access, takes_filter, value_words)
+from .text import Point, Span, end_of
 from .tree import Node, Path
-from .used import Used, used_in
 
 IDENTIFIER = re.compile(r"[\w-]*")
 REST = re.compile(r"[^#,}\]\n]*")
@@ -30,6 +29,9 @@ NO_SCALARS = ("NoScalar", "Chunks")
 NOT_IN_ACTIONS = ("vars", "needs", "jobs")
 # What is inserted after a key that must have a value.
 FIRST_VALUES = {("workflow", "on"): " push", ("workflow", "jobs"): "\n  build:\n    runs-on: ubuntu-latest\n    steps:\n      - run: make"}
+SECRET = re.compile(r"\bsecrets\.([A-Za-z_]\w*)")
+# No more files are read after that; those that were are known the next time.
+READING_SECONDS = 0.5
 
 
 @dataclass(frozen=True)
@@ -48,8 +50,7 @@ class Offer:
 
 @dataclass(frozen=True)
 class Cursor:
-    """A place in a file, the tree around it, and the keys on the way to it. A strict one accepts what GitHub accepts, another one what the
-    linter does."""
+    """A place in a file, the tree around it, and the keys on the way to it. A strict one accepts what GitHub does."""
 
     project: Project
     file: str
@@ -86,7 +87,7 @@ def offers(project: Project, file: str, point: Point, is_strict: bool = True) ->
         before = chain_before(expression)
         line = project.lines(file)[point.line]
         closing = line.find("'", point.column) if before and before.is_compared else -1
-        end = closing if closing >= 0 else _end_of_name(line, point.column)
+        end = closing if closing >= 0 else end_of(IDENTIFIER, line, point.column)
         typed = len(before.typed) if before else 0
         span = Span.on_line(point.line, point.column - typed, end)
         return span, names_in_expression(cursor, before) if before else []
@@ -99,15 +100,8 @@ def offers(project: Project, file: str, point: Point, is_strict: bool = True) ->
     if is_after_sign(project.lines(file)[point.line], place):
         found = [replace(offer, text=" " + offer.text) for offer in found]
     if key_of(place.path)[1] == "cron" and not place.quote:
-        line = project.lines(file)[point.line]
-        rest = REST.match(line, point.column)
-        return Span(place.span.start, Point(point.line, rest.end() if rest else point.column)), found
+        return Span(place.span.start, Point(point.line, end_of(REST, project.lines(file)[point.line], point.column))), found
     return place.span, found
-
-
-def _end_of_name(line: str, start: int) -> int:
-    found = IDENTIFIER.match(line, start)
-    return found.end() if found else start
 
 
 def is_after_sign(line: str, place: Place) -> bool:
@@ -243,7 +237,7 @@ def _fixed_values(cursor: Cursor, section: str, key: str | None, around: Path) -
     if key == "types" and section == "event":
         return [Offer(name, "value", name, "activity type") for name in activity_types(str(around[-1]))]
     if section == "branding" or around == ("branding",) or cursor.place.path[:1] == ("branding",):
-        return [Offer(name, "value", name, str(key)) for name in github()["branding"].get(key or "", [])]
+        return [Offer(name, "value", name, str(key)) for name in GITHUB["branding"].get(key or "", [])]
     permissions = table()["permission values"]
     lists: dict[tuple[str, str | None], tuple[Iterable[str], str, str]] = {
         ("workflow", "on"): (names()["events"], "events", "event"),
@@ -260,16 +254,12 @@ def _fixed_values(cursor: Cursor, section: str, key: str | None, around: Path) -
     if key == "using":
         lists[section, key] = names()["using"], "kinds of actions", "kind"
     if around and around[-1] == "permissions" and cursor.section(around[:-1]) in ("workflow", "job"):
-        lists[section, key] = _accesses(cursor, key or ""), "permissions", "access"
+        accesses = [one for one in permissions["scope_values"] if takes_access(key or "", one) or not cursor.is_strict]
+        lists[section, key] = accesses, "permissions", "access"
     if isinstance(cursor.place.path[-1] if cursor.place.path else None, int) and key == "permissions":
         return []
     known, heading, detail = lists.get((section, key), ((), "", ""))
     return [Offer(name, "value", name, detail, meaning(heading, name)) for name in known]
-
-
-def _accesses(cursor: Cursor, scope: str) -> list[str]:
-    """The access levels that a scope of `permissions` can have."""
-    return [one for one in table()["permission values"]["scope_values"] if takes_access(scope, one) or not cursor.is_strict]
 
 
 def _names_of_file(cursor: Cursor, section: str, key: str | None) -> list[Offer]:
@@ -368,3 +358,45 @@ def _quoted(place: Place, text: str) -> str:
     if place.quote or PLAIN.fullmatch(text):
         return text.replace("'", "''") if place.quote == "'" else text
     return "'" + text.replace("'", "''") + "'"
+
+
+class Used(NamedTuple):
+    """A file's name and description, whether it can be called, and what its values of `uses`, its labels and its secrets are."""
+
+    data: bytes
+    name: str | None = None
+    description: str | None = None
+    is_callable: bool = False
+    calls: tuple[str, ...] = ()
+    labels: tuple[str, ...] = ()
+    secrets: tuple[str, ...] = ()
+
+
+def used_in(project: Project, files: list[str]) -> Iterator[tuple[str, Used]]:
+    """The files with what each uses, as many as can be read in half a second of processor time."""
+    end = time.thread_time() + READING_SECONDS
+    for file in sorted(files):
+        data = project.read(file) or b""
+        known = project.memory.get(("used", file))
+        if not isinstance(known, Used) or known.data != data:
+            if time.thread_time() > end:
+                continue
+            known = project.memory["used", file] = _read_used(project, file, data)
+        yield file, known
+
+
+def _read_used(project: Project, file: str, data: bytes) -> Used:
+    tree = project.good_tree(file)
+    if tree is None:
+        return Used(data)
+    jobs = [tree.get("jobs", name) for name in tree.names("jobs")] if is_workflow(file) else []
+    steps = [step for name in tree.names("jobs") for step in steps_of(tree, name)] if is_workflow(file) else steps_of(tree, None)
+    calls = [call for node in (*jobs, *steps) if node and (call := node.text("uses"))]
+    labels = [label for job in jobs if job for label in (*job.texts("runs-on"), *job.texts("runs-on", "labels"))]
+    return Used(data, tree.text("name"), tree.text("description"), is_callable(tree), _once(calls), _once(labels),
+                _once(SECRET.findall(data.decode("utf-8", "replace"))))
+
+
+def _once(texts: list[str]) -> tuple[str, ...]:
+    """The texts without expressions, each once."""
+    return tuple(dict.fromkeys(text for text in texts if "${{" not in text and "\n" not in text))

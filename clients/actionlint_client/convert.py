@@ -15,22 +15,20 @@ from . import shellcheck
 from .advice import SECONDS_OF_AN_ANSWER, FirstFixes
 from .characters import terminal_text
 from .child import LinterEnded
-from .console import add_help_and_version
 from .entries import entries, explained
-from .forms import Annotations, CodeQuality, Form, JsonLines, OneLine, Outcome
+from .forms import WIDTH, Annotations, CodeQuality, Form, JsonLines, OneLine, Outcome, Text, has_color
 from .ignoring import Ignored, Rule, WrongRule, is_note, is_of_shellcheck, rules_in
 from .lint_run import CANNOT_GO_ON, LintFailed, LintRun, ReportTooLong
-from .notes.entries import NoNotes, entries_of_notes
-from .output import STANDARD_OUTPUT, report_output
+from .notes.file import NoNotes, entries_of_notes
+from .output import STANDARD_OUTPUT, add_help_and_version, report_output
 from .paths import path_of_word
 from .problems import Problem
 from .program import WHICH, find_program, missing_facts, missing_linter
 from .reader import Reader, Started
 from .sarif import Sarif, left_out_line
-from .terminal import WIDTH, Text, has_color
 
 if TYPE_CHECKING:
-    from .applying import Request
+    from .fixing import Request
 
 WRONG_WORDS = 2
 # The option that shows notes, and the value with which they count as faults do.
@@ -73,14 +71,14 @@ def main(words: list[str] | None = None) -> int:
 
 
 def _request(options: argparse.Namespace, ignored: Ignored) -> Request:
-    from .applying import Request
+    from .fixing import Request
 
     return Request(options.program, options.root, options.files, ignored, options.guesses)
 
 
 def _diff(options: argparse.Namespace, ignored: Ignored) -> int:
     """Writes what the fixes would change. The status is that of the files as they are."""
-    from .applying import find_changes, write_diff
+    from .fixing import find_changes, write_diff
 
     found = find_changes(_request(options, ignored), _print)
     sys.stderr.write("".join(terminal_text(line) + "\n" for line in found.errors.splitlines()))
@@ -93,7 +91,7 @@ def _diff(options: argparse.Namespace, ignored: Ignored) -> int:
 
 def _fix(options: argparse.Namespace, ignored: Ignored) -> bool:
     """Writes what the fixes change. Whether all of it could be written. (The report says if the linter can't go on.)"""
-    from .applying import find_changes, write_files
+    from .fixing import find_changes, write_files
 
     found = find_changes(_request(options, ignored), _print)
     write_files(found, options.root, _print)

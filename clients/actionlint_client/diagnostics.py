@@ -4,12 +4,11 @@ from __future__ import annotations
 from typing import Iterable
 
 from .characters import shown
-from .faults import FileFaults
+from .faults import Fault, FileFaults
 from .ignoring import IgnoreFiles
 from .positions import Lines
 from .problems import NOTE, Problem, problem_of
 from .protocol import Diagnostic, Position
-from .report import Fault
 
 SOURCE = "actionlint"
 WARNING, INFORMATION = 2, 3

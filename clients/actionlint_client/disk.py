@@ -1,4 +1,4 @@
-"""The workflows and actions of a repository as they are on disk."""
+"""The workflows and actions of a repository as they are on disk, and the actions there, including those that no file calls yet."""
 from __future__ import annotations
 
 import errno
@@ -8,7 +8,7 @@ from dataclasses import dataclass
 from typing import Callable, Iterable
 
 from .linter_limits import MAX_FILE_BYTES
-from .paths import WORKFLOWS, is_below, is_workflow
+from .paths import ACTION_NAMES, WORKFLOWS, is_below, is_path, is_workflow
 
 READ_BYTES = 65_536
 MAX_TOLD = 10
@@ -17,6 +17,8 @@ OPENED = os.O_RDONLY | os.O_NONBLOCK | os.O_NOCTTY | os.O_CLOEXEC
 NOT_REGULAR = "cannot read this file: it is not a regular one"
 # The errors of a path at which there is no file.
 ABSENT = (errno.ENOENT, errno.ENOTDIR, errno.ELOOP, errno.ENAMETOOLONG)
+MAX_FOLDERS = 2_000
+PASSED_OVER = (b"node_modules", b"target", b"vendor")
 
 
 @dataclass
@@ -161,3 +163,26 @@ def _bytes_of(opened: int) -> bytes:
         blocks.append(block)
         left -= len(block)
     return b"".join(blocks)
+
+
+def actions_below(root: bytes) -> list[str]:
+    """The paths of the actions in the first 2,000 directories, except those of dependencies and of git. No link to one is followed."""
+    found: list[str] = []
+    for number, (folder, folders, names) in enumerate(os.walk(root)):
+        if number == MAX_FOLDERS:
+            break
+        folders[:] = sorted(name for name in folders if name not in PASSED_OVER and (not name.startswith(b".") or name == b".github"))
+        for action in ACTION_NAMES:
+            file = os.path.join(folder, action.encode())
+            if action.encode() in names and _can_be_called(file, root):
+                found.append(os.path.relpath(file, root).decode("utf-8"))
+    return found
+
+
+def _can_be_called(file: bytes, root: bytes) -> bool:
+    """Whether the linter reads an action, and a `uses` can name it."""
+    try:
+        path = os.path.relpath(file, root).decode("utf-8")
+    except UnicodeDecodeError:
+        return False
+    return is_path(path) and "${{" not in path and os.path.isfile(file) and is_below(os.path.realpath(file), os.path.realpath(root))

@@ -2,7 +2,7 @@
 from __future__ import annotations
 
 from .characters import terminal_text
-from .protocol import Ask, Capabilities, Diagnostic, Notify, PublishDiagnosticsParams
+from .protocol import Capabilities, Diagnostic, PublishDiagnosticsParams, Send
 
 WARNING = 2
 # InsertTextMode of the protocol: further lines are indented as in the text, and not by the line's indentation besides.
@@ -11,7 +11,7 @@ WATCHED = ("**/.github/workflows/*.{yml,yaml}", "**/action.{yml,yaml}")
 
 
 class Editor:
-    def __init__(self, notify: Notify, request: Ask):
+    def __init__(self, notify: Send, request: Send):
         self._notify, self._request = notify, request
         self._capabilities: Capabilities = {}
 
@@ -31,7 +31,6 @@ class Editor:
         return _format(self._capability("textDocument", "hover").get("contentFormat"))
 
     def documentation_format(self) -> str:
-        """The format of the documentation of completions."""
         return _format(self._completion_item().get("documentationFormat"))
 
     def takes_snippets(self) -> bool:

@@ -1,8 +1,11 @@
-"""The text of an expression with the quotes, operators and calls that expressions have, in place of those of other languages."""
+"""The text of an expression with the quotes, operators and calls that expressions have, in place of those of other languages, and with what
+is missing in it: quotes at the end of a text, a second apostrophe, brackets of a call."""
 from __future__ import annotations
 
 import re
-from typing import Callable
+from functools import partial
+from itertools import islice
+from typing import Callable, Iterator
 
 from .expressions import NAME, STRING
 from .operators import grouped, operators, parts, tokens
@@ -10,7 +13,7 @@ from .operators import grouped, operators, parts, tokens
 DOUBLE_QUOTED = re.compile(r'\\?"([^"\\]*)\\?"')
 CURLY = "\u2018\u2019\u201a\u201c\u201d\u201e\u00b4`"
 CURLY_QUOTED = re.compile(rf"[{CURLY}]([^'\"{CURLY}]*)[{CURLY}]")
-ODD_SPACES = re.compile("[\u00a0\u2000-\u200a\u202f\u3000]")
+ODD_SPACE = re.compile("[\u00a0\u2000-\u200a\u202f\u3000]")
 OPTIONAL_DOT = re.compile(r"(?<=[\w\])])\?\.(?=[A-Za-z_])")
 OTHER_NULL = re.compile(r"([=!]=\s*)(?:undefined|None|nil)\b")
 FLAG = re.compile(r"(?<=[=!]=)\s*(?:true|false)(?![\w.(\[-])", re.I)
@@ -29,6 +32,12 @@ LIST_ARGUMENT = re.compile(r"\(\s*\[([^\[\]]*)\]\s*,")
 CHAIN = re.compile(rf"(?<![\w.'-]){NAME}(?:\s*\.\s*(?:{NAME}|\*)|\[\s*'[^']*'\s*\]|\[[^\[\]']*\])*")
 SUM = re.compile(rf"({CHAIN.pattern}|'[^']*')((?:\s*\+\s*(?:{CHAIN.pattern}|'[^']*'))+)")
 COMPARISONS = ("==", "!=", "<", ">", "<=", ">=")
+# Where a text that isn't closed may end.
+END_OF_TEXT = re.compile(r"(?<!\s)\s*(?:&&|\|\||[=!]=|[,)\]]|$)")
+APOSTROPHE = re.compile(r"(?<=[A-Za-z])'(?=[a-z])")
+ONE_ARGUMENT = re.compile(r"\b((?:from|to)JSON\(\s*(?:'(?:[^']|'')*'|[\w.*-]+))\s*,", re.I)
+MAX_TEXTS = 4
+MAX_ENDS = 2
 
 
 def outside_texts(text: str, change: Callable[[str], str]) -> str:
@@ -58,16 +67,15 @@ def without_curly_quotes(text: str) -> str | None:
     return whole[1] if whole and re.search(r"[(.=&|]", whole[1]) else None
 
 
-def with_plain_spaces(text: str) -> str:
-    return outside_texts(text, lambda part: ODD_SPACES.sub(" ", part))
-
-
-def with_equals(text: str) -> str:
-    return outside_texts(text, lambda part: re.sub(r"===+", "==", part).replace("!==", "!=").replace("<>", "!="))
-
-
-def with_turned_operators(text: str) -> str:
-    return outside_texts(text, lambda part: TURNED_OPERATOR.sub("!=", part))
+with_plain_spaces = outside(partial(ODD_SPACE.sub, " "))
+with_plain_dots = outside(partial(OPTIONAL_DOT.sub, "."))
+with_equals = outside(lambda part: re.sub(r"===+", "==", part).replace("!==", "!=").replace("<>", "!="))
+with_turned_operators = outside(partial(TURNED_OPERATOR.sub, "!="))
+coalesced = outside(lambda part: part.replace("??", "||"))
+# `true` and `false` as expressions have them, where they are compared in other letters.
+_plain_flags = outside(partial(FLAG.sub, lambda match: match[0].lower()))
+# Calls of `fromJSON` and `toJSON`, which take one argument, end before a comma.
+with_closed_json = partial(ONE_ARGUMENT.sub, r"\1),")
 
 
 def with_operators(text: str, with_lone_texts: bool = False) -> str:
@@ -103,27 +111,14 @@ def _is_in_text(text: str, offset: int) -> bool:
     return any(match.start() < offset < match.end() for match in STRING.finditer(text))
 
 
-def with_plain_dots(text: str) -> str:
-    return outside_texts(text, lambda part: OPTIONAL_DOT.sub(".", part))
-
-
 def with_null(text: str) -> str:
     return outside_texts(with_equals(text), lambda part: OTHER_NULL.sub(r"\1null", part))
-
-
-def coalesced(text: str) -> str:
-    return outside_texts(text, lambda part: part.replace("??", "||"))
 
 
 def doubled(text: str) -> str:
     changed = outside_texts(text, lambda part: SINGLE_EQUALS.sub("==", part))
     changed = outside_texts(changed, lambda part: re.sub(r"&+", "&&", re.sub(r"\|+", "||", part)))
     return _plain_flags(changed)
-
-
-def _plain_flags(text: str) -> str:
-    """A text with `true` and `false` as expressions have them, where they are compared in other letters."""
-    return outside_texts(text, lambda part: FLAG.sub(lambda match: match[0].lower(), part))
 
 
 def doubled_with_quotes(text: str) -> str:
@@ -163,3 +158,19 @@ def with_format(text: str) -> str | None:
             return str(match[0])
         return f"format('{''.join('{%d}' % number for number in range(len(parts)))}', {', '.join(parts)})"
     return SUM.sub(call, text)
+
+
+def closed_at_ends(text: str) -> Iterator[str]:
+    """A text with a quote where a string of it may end: before an operator, a comma or a bracket."""
+    begins = [match.start() for match in re.finditer("'", text)][::2]
+    for begin in islice(begins, MAX_TEXTS):
+        rest = text[begin + 1:].partition("'")[0]
+        for match in islice(END_OF_TEXT.finditer(rest), MAX_ENDS):
+            end = begin + 1 + match.start()
+            if match.start() and text[end:end + 1] != "'":
+                yield text[:end] + "'" + text[end:]
+
+
+def with_apostrophes(text: str) -> str:
+    r"""A text whose apostrophes in words, and those after `\`, are written twice."""
+    return APOSTROPHE.sub("''", text.replace("\\'", "''"))

@@ -1,12 +1,11 @@
-"""A run of actionlint-facts, which answers questions about a folder that it is given. Each command is sent once the one before is answered.
-"""
+"""A run of actionlint-facts, which answers questions about the folder that it is given, one after another."""
 from __future__ import annotations
 
 import json
 from typing import Any, Iterable
 
 from .child import Child
-from .facts_tree import CodedFault, Json, read_fault
+from .facts_tree import Json
 from .limit import LIMIT
 
 MAX_ANSWER_BYTES = 64 * 1_048_576
@@ -40,20 +39,20 @@ class Facts(Child):
     def delete(self, path: str) -> list[str]:
         return self._edited(b"delete %s\n" % path.encode("utf-8"))
 
-    def faults(self, path: str) -> list[CodedFault]:
+    def faults(self, path: str) -> list[Json]:
         """The faults of a file, in order, with those of call cycles."""
-        return [read_fault(one) for one in self._asked(f"faults {path}", "faults")]
+        return list(self._asked(f"faults {path}", "faults"))
 
-    def first_faults(self, path: str, most: int) -> tuple[list[CodedFault], int]:
+    def first_faults(self, path: str, most: int) -> tuple[list[Json], int]:
         """The first faults of a file, at most so many, and how many more it has. Raises `NoAnswer` if they take too many bytes."""
         answer = self._answer_to(f"first {path} {most}\n".encode(), max_bytes=MAX_FIRST_FAULTS_BYTES)
-        return [read_fault(one) for one in self._member(answer, "faults")], self._member(answer, "more")
+        return self._member(answer, "faults"), self._member(answer, "more")
 
-    def report(self, max_bytes: int = MAX_ANSWER_BYTES) -> dict[str, list[CodedFault]]:
+    def report(self, max_bytes: int = MAX_ANSWER_BYTES) -> dict[str, list[Json]]:
         """The faults of the files that have some. Raises `NoAnswer` if the answer has more bytes."""
         return _by_file(self._asked("report", "files", max_bytes=max_bytes))
 
-    def cycles(self) -> dict[str, list[CodedFault]]:
+    def cycles(self) -> dict[str, list[Json]]:
         """The faults of calls on a call cycle alone, of the files that have some."""
         return _by_file(self._asked("cycles", "files"))
 
@@ -67,10 +66,6 @@ class Facts(Child):
         if "faults" in answer:
             raise NoTree(answer["faults"][0]["message"])
         return self._member(answer, question)
-
-    def tables(self) -> dict[str, Any]:
-        """What the linter accepts, its codes and its limits."""
-        return self._answer_to(b"tables\n")
 
     def _edited(self, *parts: bytes) -> list[str]:
         answer = self._answer_to(*parts)
@@ -108,5 +103,5 @@ class Facts(Child):
         return answer[key]
 
 
-def _by_file(files: Iterable[Json]) -> dict[str, list[CodedFault]]:
-    return {file["path"]: [read_fault(one) for one in file["faults"]] for file in files}
+def _by_file(files: Iterable[Json]) -> dict[str, list[Json]]:
+    return {file["path"]: file["faults"] for file in files}

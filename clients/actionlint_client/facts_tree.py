@@ -1,108 +1,83 @@
-"""What actionlint-facts says of a file: its faults and its expressions, with their places as offsets of bytes."""
+"""The expressions of a file as actionlint-facts answers them, with their places as offsets of bytes."""
 from __future__ import annotations
 
 from dataclasses import dataclass
-from typing import Any, Iterator, NamedTuple, Union
+from typing import Any, Iterator, Union
 
 Json = dict[str, Any]
 
 
-class CodedFault(NamedTuple):
-    """A fault of a file. Lines and columns count from 1, columns in characters."""
+@dataclass(frozen=True)
+class Part:
+    """What is written from one byte up to another."""
 
-    code: str
-    kind: str
-    message: str
-    arguments: tuple[str, ...]
     start: int
     end: int
-    line: int
-    column: int
-    end_line: int
-    end_column: int
 
 
 @dataclass(frozen=True)
-class Word:
+class Word(Part):
     """A name, keyword, number or string, as written."""
 
     kind: str
     text: str
-    start: int
-    end: int
 
 
 @dataclass(frozen=True)
-class Group:
+class Group(Part):
     """An expression in brackets."""
 
     inner: Expression
-    start: int
-    end: int
 
 
 @dataclass(frozen=True)
-class Not:
+class Not(Part):
     operand: Expression
-    start: int
-    end: int
 
 
 @dataclass(frozen=True)
-class Call:
+class Call(Part):
     name: Word
     arguments: tuple[Expression, ...]
-    start: int
-    end: int
 
 
 @dataclass(frozen=True)
-class Step:
+class Step(Part):
     """A step of a path: a `property` with its text, an `index`, or `all` (`.*`, `[*]`)."""
 
     kind: str
     text: str
     index: Expression | None
-    start: int
-    end: int
 
 
 @dataclass(frozen=True)
-class Path:
+class Path(Part):
     base: Expression
     steps: tuple[Step, ...]
-    start: int
-    end: int
 
 
 @dataclass(frozen=True)
-class Chain:
+class Chain(Part):
     """Operands with the operators of one level between them, from the left."""
 
     first: Expression
     rest: tuple[tuple[str, Expression], ...]
-    start: int
-    end: int
 
 
 Expression = Union[Word, Group, Not, Call, Path, Chain]
 
 
 @dataclass(frozen=True)
-class Chunk:
+class Chunk(Part):
     """An expression of a text, without a tree if it has a fault."""
 
     tree: Expression | None
-    start: int
-    end: int
 
 
 @dataclass(frozen=True)
-class Place:
+class Place(Part):
     """A scalar that has expressions."""
 
-    start: int
-    end: int
     chunks: tuple[Chunk, ...]
 
 
@@ -148,9 +123,9 @@ def _names_of(expression: Expression) -> list[Word]:
     for step in path.steps if found and isinstance(path, Path) else ():
         index = step.index
         if isinstance(index, Word) and index.kind == "string":
-            found.append(Word("name", index.text[1:-1].replace("''", "'"), index.start, index.end))
+            found.append(Word(index.start, index.end, "name", index.text[1:-1].replace("''", "'")))
         else:
-            found.append(Word("name", step.text or "*", step.start, step.end))
+            found.append(Word(step.start, step.end, "name", step.text or "*"))
     return found
 
 
@@ -159,39 +134,31 @@ def inner(expression: Expression) -> Expression:
     return inner(expression.inner) if isinstance(expression, Group) else expression
 
 
-def read_fault(said: Json) -> CodedFault:
-    return CodedFault(said["code"], said["kind"], said["message"], tuple(said["arguments"]), said["start"], said["end"], said["line"],
-                      said["column"], said["end_line"], said["end_column"])
-
-
 def _expression(said: Json) -> Expression:
     kind, start, end = said["kind"], said["start"], said["end"]
     if kind == "group":
-        return Group(_expression(said["inner"]), start, end)
+        return Group(start, end, _expression(said["inner"]))
     if kind == "not":
-        return Not(_expression(said["operand"]), start, end)
+        return Not(start, end, _expression(said["operand"]))
     if kind == "call":
-        return Call(_word(said["name"]), tuple(map(_expression, said["arguments"])), start, end)
+        return Call(start, end, _word(said["name"]), tuple(map(_expression, said["arguments"])))
     if kind == "path":
-        return Path(_expression(said["base"]), tuple(map(_step, said["steps"])), start, end)
+        return Path(start, end, _expression(said["base"]), tuple(map(_step, said["steps"])))
     if kind == "chain":
         rest = tuple((one["operator"], _expression(one["operand"])) for one in said["rest"])
-        return Chain(_expression(said["first"]), rest, start, end)
+        return Chain(start, end, _expression(said["first"]), rest)
     return _word(said)
 
 
-def read_place(said: Json) -> Place:
-    return Place(said["start"], said["end"], tuple(map(_chunk, said["chunks"])))
-
-
 def _word(said: Json) -> Word:
-    return Word(said["kind"], said["text"], said["start"], said["end"])
+    return Word(said["start"], said["end"], said["kind"], said["text"])
 
 
 def _step(said: Json) -> Step:
     index = _expression(said["index"]) if "index" in said else None
-    return Step(said["kind"], said.get("text", ""), index, said["start"], said["end"])
+    return Step(said["start"], said["end"], said["kind"], said.get("text", ""), index)
 
 
-def _chunk(said: Json) -> Chunk:
-    return Chunk(_expression(said["tree"]) if "tree" in said else None, said["start"], said["end"])
+def read_place(said: Json) -> Place:
+    chunks = (Chunk(one["start"], one["end"], _expression(one["tree"]) if "tree" in one else None) for one in said["chunks"])
+    return Place(said["start"], said["end"], tuple(chunks))

@@ -47,14 +47,14 @@ class Files:
 
     def read(self, path: str) -> bytes | None:
         """The current bytes of a file, from its buffer or from disk, even if it isn't linted. None if there is no such file."""
-        return self._data(path)
+        data = self._buffers.get(path)
+        return self._disk.file(path).data if data is None else data
 
     def is_stale(self) -> bool:
         return self._disk_may_differ or bool(self._edited) or not self._is_found
 
     def update(self) -> set[str]:
-        """Updates `wanted` and `unreadable`, and returns the paths at which they may have changed. Raises `LinterMissing`; then the next
-        update begins anew."""
+        """Updates `wanted` and `unreadable`, and returns where they may have changed. After `LinterMissing` the next update begins anew."""
         edited, self._edited = self._edited, set()
         try:
             return self._update(edited)
@@ -66,7 +66,7 @@ class Files:
         disk_differs = self._disk_may_differ and self._disk.rescan()
         self._disk_may_differ = False
         if self._is_found and not disk_differs and all(map(self._stays_where_it_is, edited)):
-            self.wanted.update((path, data) for path in edited if (data := self._data(path)) is not None)
+            self.wanted.update((path, data) for path in edited if (data := self.read(path)) is not None)
             return edited
         wanted, unreadable = self.wanted, self.unreadable
         self._find()
@@ -75,15 +75,11 @@ class Files:
 
     def _stays_where_it_is(self, path: str) -> bool:
         """Whether a file that was edited, here or on disk, is still wanted, and calls what it called before."""
-        data = self._data(path)
+        data = self.read(path)
         if path not in self.wanted or data is None or path not in self._buffers and path not in self._disk.workflows:
             return False
         before = self._calls[path][1]
         return self._calls_of(path, data) == before
-
-    def _data(self, path: str) -> bytes | None:
-        data = self._buffers.get(path)
-        return self._disk.file(path).data if data is None else data
 
     def _find(self) -> None:
         """The workflows, the open files, and the actions that these call, one after another."""
@@ -96,7 +92,7 @@ class Files:
             if path in seen:
                 continue
             seen.add(path)
-            data = self._data(path)
+            data = self.read(path)
             if data is not None:
                 wanted[path] = data
                 waiting.extend(self._calls_of(path, data))

@@ -14,13 +14,13 @@ from . import (repairs_blocks, repairs_calls, repairs_expressions, repairs_keys,
 from .child import LinterEnded
 from .entries import entries_by_code
 from .facts import EditRefused, Facts, NoAnswer
-from .faults import faults_of
+from .faults import Fault, faults_of
 from .linter_limits import MAX_FILE_BYTES
 from .paths import is_workflow
 from .program import find_facts
 from .project import Project
 from .repair import Case, Edit, Repair, replaced
-from .report import Fault
+from .text import end_of
 
 MAX_FAULTS = 20
 MAX_LINE_CHARACTERS = 5_000
@@ -85,7 +85,7 @@ def fixes(words: list[str], timeout: float, project: Project, faults: Iterable[F
             for repair in sorted(repairs(project, fault), key=lambda repair: not repair.is_safe):
                 if trial is None:
                     trial = Trial(words, timeout, project, fault.path)
-                    trial.earlier = _counted(earlier)
+                    trial.earlier = counted(earlier)
                 elif time.monotonic() > deadline:
                     break
                 result = trial.result(repair, fault)
@@ -123,8 +123,7 @@ class Result(Enum):
 
 
 class Trial:
-    """A run of the linter of its own, with a file, what it calls and what calls it, so that the folder's never has a text that isn't the
-    file's."""
+    """A run of the linter of its own, with a file, what it calls and what calls it, so that the folder's has no text but files'."""
 
     def __init__(self, words: list[str], timeout: float, project: Project, file: str, max_files: int = MAX_FILES):
         self._facts = Facts([find_facts(words[0])], timeout)
@@ -142,23 +141,19 @@ class Trial:
         """What the report after a repair says."""
         changed = {path: replaced(self.project.text(path), edits) for path, edits in repair.edits.items()}
         after = self.report_after(changed | repair.new_files)
-        counted = _counted(after)
+        count = counted(after)
         key = fault.path, fault.message
-        shown = [one for one in after if (one.path, one.message) in counted - self.before - self.earlier]
-        if counted[key] >= self.before[key]:
+        shown = [one for one in after if (one.path, one.message) in count - self.before - self.earlier]
+        if count[key] >= self.before[key]:
             # There is one fault of YAML at a time; the next one may have the same message.
             shown += [one for one in after if (one.path, one.message) == key and one.code[:1] == "Y" and one.line > fault.line]
-            if counted[key] > self.before[key] or not shown or shown[-1].message != fault.message:
+            if count[key] > self.before[key] or not shown or shown[-1].message != fault.message:
                 return Result.WRONG
         if not shown:
             return Result.CLEAN
         before, lines = (text.split("\n") for text in (self.project.text(fault.path), changed.get(fault.path, "")))
         is_uncovered = all(_was_hidden(one, fault, repair, before, lines) for one in shown)
         return (Result.STOPS if any(one.code[:1] == "Y" for one in shown) else Result.UNCOVERS) if is_uncovered else Result.WRONG
-
-    def faults_after(self, texts: dict[str, str]) -> Counted:
-        """The faults if some files had other texts. The folder is unchanged afterwards."""
-        return _counted(self.report_after(texts))
 
     def report_after(self, texts: dict[str, str]) -> list[Fault]:
         """The report if some files had other texts. The folder is unchanged afterwards."""
@@ -170,9 +165,6 @@ class Trial:
         for path in texts:
             self._put(path, self.texts.get(path))
         return after
-
-    def faults(self) -> Counted:
-        return _counted(self.report())
 
     def report(self) -> list[Fault]:
         found = self._facts.report(MAX_REPORT_BYTES)
@@ -189,7 +181,7 @@ class Trial:
                 self.texts[path] = self.project.text(path)
                 self._put(path, self.texts[path])
                 waiting += self._called(self.texts[path])
-        self.before = self.faults()
+        self.before = counted(self.report())
 
     def _called(self, text: str) -> list[str]:
         """The files of the folder that a text seems to call."""
@@ -248,8 +240,7 @@ def _is_below_key(lines: list[str], key: Fault, one: Fault) -> bool:
 def _keeps_key(edit: Edit, lines: list[str]) -> bool:
     """Whether an edit leaves the indentation, the dashes and the key of its first line as they are."""
     line = lines[edit.span.start.line] if edit.span.start.line < len(lines) else ""
-    found = INDENT.match(line)
-    start = found.end() if found else 0
+    start = end_of(INDENT, line, 0)
     return edit.span.start.column > start or "-" in line[:start] and edit.span.start.column == start and not KEY.match(edit.text)
 
 
@@ -269,7 +260,7 @@ def _is_past(lines: list[str], above: int, fault: Fault) -> bool:
     return past is not None and not is_misfit
 
 
-def _counted(faults: Iterable[Fault]) -> Counted:
+def counted(faults: Iterable[Fault]) -> Counted:
     """How often each file has each message. Places aren't compared, since they may move."""
     return Counter((fault.path, fault.message) for fault in faults)
 

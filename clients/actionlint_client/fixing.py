@@ -1,21 +1,25 @@
-"""Fixes of the faults of a folder, applied in rounds: each round takes fixes that don't touch each other, and lints the folder again."""
+"""`--diff` and `--fix` of actionlint-report: fixes of the faults of a folder, applied in rounds. Each round takes fixes that don't touch
+each other, and lints the folder again."""
 from __future__ import annotations
 
+import difflib
 import os
 import time
 from collections import Counter
 from dataclasses import dataclass
-from typing import Callable, Iterable, Iterator
+from typing import BinaryIO, Callable, Iterable, Iterator
 
-from .actions_on_disk import actions_below
-from .faults import FileFaults
+from .characters import terminal_text
+from .disk import actions_below
+from .faults import Fault, FileFaults
 from .fixes import MAX_FAULTS, UNREADABLE, fixes
 from .folder import Folder, Program
-from .positions import BYTE_ORDER_MARK
+from .ignoring import Ignored
+from .lint_run import LintRun
+from .output import NotWritten, rewrite
 from .project import Project
 from .repair import Edit, Repair
-from .report import Fault
-from .text import LINE_BREAK, Places
+from .text import BYTE_ORDER_MARK, LINE_BREAK, Places
 
 MAX_ROUNDS = 100
 # Fixes are tried for so many faults, for so many bytes of the files that have them, and in so much time, in all rounds.
@@ -24,6 +28,13 @@ MAX_TRIED_BYTES = 30_000_000
 SECONDS_OF_A_FILE = 60.0
 SECONDS_OF_ALL = 300.0
 BEHIND_A_LINK = "a symbolic link points to it"
+SECONDS_OF_AN_ANSWER = 20.0
+CONTEXT = 3
+# More lines than these are compared in no way that takes time linear in them: one block replaces the other.
+MAX_COMPARED_LINES = 2_000
+NO_LINE_END = b"\\ No newline at end of file\n"
+# The lines from one to another in the old text, and the same in the new one, which replace them.
+Block = tuple[int, int, int, int]
 
 
 @dataclass(frozen=True)
@@ -163,8 +174,7 @@ class Fixing:
 
 
 def edited(data: bytes, edits: Iterable[Edit]) -> bytes:
-    """The bytes of a file after edits of its text that don't overlap. New lines end as the file's first line does. Bytes that aren't UTF-8
-    stay as they are."""
+    """A file after edits of its text that don't overlap. New lines end as its first one does, and bytes that aren't UTF-8 stay."""
     text = data.decode("utf-8", "surrogateescape")
     places = Places(text, int(data.startswith(BYTE_ORDER_MARK)))
     first = LINE_BREAK.search(text)
@@ -222,3 +232,129 @@ def _count(faults: dict[str, FileFaults]) -> int:
 def _messages(faults: dict[str, FileFaults]) -> Counter[tuple[str, str]]:
     """How often each file has each message. Of a file with too many faults only the first ones are known, so it has none here."""
     return Counter((path, fault.message) for path, of_file in faults.items() if not of_file.more for fault in of_file.faults)
+
+
+@dataclass(frozen=True)
+class Request:
+    """Which files are fixed, by which linter, which faults are left as they are, and whether guesses are taken."""
+
+    program: str
+    root: str | None
+    files: list[str]
+    ignored: Ignored
+    with_guesses: bool
+
+
+@dataclass
+class Applied:
+    """The status of the linter before anything was fixed, what it printed on standard error, how many faults counted, what the fixes
+    change, and whether something could not be written."""
+
+    status: int
+    errors: str
+    faults: int
+    changes: dict[str, Change]
+    not_written: bool = False
+
+
+def find_changes(request: Request, say: Callable[[str], None]) -> Applied:
+    """Lints, and finds out what the fixes change."""
+    paths, count = set(), 0
+    with LintRun(request.program, request.root, request.files, False) as run:
+        for problem in run:
+            paths.add(problem.fault.path)
+            count += not request.ignored.has(problem)
+    found = Applied(run.status, run.errors, count, {})
+    if found.faults and run.status == 1:
+        takes: Callable[[Fault], bool] = lambda fault: fault.path in paths and not request.ignored.has_fault(fault)
+        fixing = Fixing(Program([request.program], SECONDS_OF_AN_ANSWER), os.fsencode(request.root or "."),
+                        Choice(takes, request.with_guesses), say)
+        found.changes = fixing.changes(sorted(paths))
+        if fixing.is_cut:
+            say("not all faults were tried: another run goes on")
+        for path, why in fixing.left.items():
+            say(f"{path}: not fixed, since {why}")
+    return found
+
+
+def write_diff(found: Applied, out: BinaryIO, to_terminal: bool) -> None:
+    """Writes the differences, for a terminal without the characters that control one."""
+    for path, change in found.changes.items():
+        for line in unified_diff(path, change.before, change.after).splitlines(keepends=True):
+            out.write(terminal_text(line.decode("utf-8", "replace").rstrip("\r\n")).encode() + b"\n" if to_terminal else line)
+
+
+def write_files(found: Applied, root: str | None, say: Callable[[str], None]) -> None:
+    """Writes the changed files, and says which ones could not be."""
+    for path, change in found.changes.items():
+        try:
+            rewrite(root or ".", path, change.before, change.after)
+            say(f"{path}: fixed")
+        except NotWritten as error:
+            found.not_written = True
+            say(f"{path}: not fixed, since {error}")
+
+
+def unified_diff(path: str, before: bytes, after: bytes) -> bytes:
+    """The differences, empty if there are none. Lines end with line feeds, whatever else they have at their ends."""
+    old, new = _lines(before), _lines(after)
+    hunks = _hunks(_blocks(old, new))
+    if not hunks:
+        return b""
+    # A tab ends a name, which may have blanks.
+    name = path.encode("utf-8", "surrogatepass")
+    return b"--- a/%s\t\n+++ b/%s\t\n" % (name, name) + b"".join(_hunk(hunk, old, new) for hunk in hunks)
+
+
+def _lines(data: bytes) -> list[bytes]:
+    """The lines with their ends."""
+    lines = [line + b"\n" for line in data.split(b"\n")]
+    lines[-1] = lines[-1][:-1]
+    return lines if lines[-1] else lines[:-1]
+
+
+def _blocks(old: list[bytes], new: list[bytes]) -> list[Block]:
+    """The lines that differ."""
+    most = min(len(old), len(new))
+    first = next((at for at in range(most) if old[at] != new[at]), most)
+    last = next((at for at in range(most - first) if old[-1 - at] != new[-1 - at]), most - first)
+    end, new_end = len(old) - last, len(new) - last
+    if max(end, new_end) - first > MAX_COMPARED_LINES:
+        return [(first, end, first, new_end)]
+    matcher = difflib.SequenceMatcher(None, old[first:end], new[first:new_end], autojunk=False)
+    return [(first + block[1], first + block[2], first + block[3], first + block[4])
+            for block in matcher.get_opcodes() if block[0] != "equal"]
+
+
+def _hunks(blocks: list[Block]) -> list[list[Block]]:
+    """The blocks, those together between which there is no more than what is shown around them."""
+    hunks: list[list[Block]] = []
+    for block in blocks:
+        if hunks and block[0] - hunks[-1][-1][1] <= 2 * CONTEXT:
+            hunks[-1].append(block)
+        else:
+            hunks.append([block])
+    return hunks
+
+
+def _hunk(blocks: list[Block], old: list[bytes], new: list[bytes]) -> bytes:
+    before = min(blocks[0][0], CONTEXT)
+    start, new_start = blocks[0][0] - before, blocks[0][2] - before
+    end = min(blocks[-1][1] + CONTEXT, len(old))
+    new_end = blocks[-1][3] + end - blocks[-1][1]
+    parts, at = [f"@@ -{_range(start, end)} +{_range(new_start, new_end)} @@\n".encode()], start
+    for first, last, new_first, new_last in blocks:
+        parts += [_line(b" ", line) for line in old[at:first]]
+        parts += [_line(b"-", line) for line in old[first:last]]
+        parts += [_line(b"+", line) for line in new[new_first:new_last]]
+        at = last
+    return b"".join(parts + [_line(b" ", line) for line in old[at:end]])
+
+
+def _range(start: int, end: int) -> str:
+    """The number of the first line and how many there are. Of no lines, it is the number of the line before them."""
+    return f"{start + 1 if end > start else start},{end - start}"
+
+
+def _line(sign: bytes, line: bytes) -> bytes:
+    return sign + line if line.endswith(b"\n") else sign + line + b"\n" + NO_LINE_END

@@ -7,11 +7,11 @@ from __future__ import annotations
 
 import time
 from dataclasses import dataclass
-from typing import Callable, Iterable
+from typing import Callable
 
 from .child import LinterEnded, LinterMissing, LinterSilent
 from .facts import EditRefused, Facts, NoAnswer
-from .facts_tree import CodedFault
+from .facts_tree import Json
 from .faults import MAX_FAULTS, FileFaults, faults_of
 from .files import Files
 from .limit import LIMIT
@@ -83,7 +83,7 @@ class Restarts:
         self._ends += [time.monotonic()] * (self.MAX_ENDS if is_hopeless else 1)
 
     def delay(self) -> float:
-        """The seconds until the linter may be started."""
+        """The seconds until the linter may be started, 0 if it may be now."""
         now = time.monotonic()
         self._ends = [then for then in self._ends if now - then < self.WITHIN_SECONDS]
         return max(self._ends[-1] + self.PAUSE_SECONDS - now, 0.0) if len(self._ends) >= self.MAX_ENDS else 0.0
@@ -95,6 +95,7 @@ class Folder:
         self._program, self._say = program, say
         self.reader = Reader(self._started_for_reading)
         self._files = Files(root, say, self.reader, keeps_calls)
+        self.edit, self.read, self.rescan = self._files.edit, self._files.read, self._files.rescan
         self._facts: Facts | None = None
         self._put_files: dict[str, PutFile] = {}
         # The put files that the linter has, and the reasons for those that it refused.
@@ -102,10 +103,11 @@ class Folder:
         self._refused: dict[str, str] = {}
         self._left_out: dict[str, LeftOut] = {}
         self._restarts = Restarts()
+        self.delay = self._restarts.delay
         # The last message about a linter that can't be started.
         self._missing = ""
         self._faults: dict[str, FileFaults] = {}
-        self._cycles: dict[str, list[CodedFault]] = {}
+        self._cycles: dict[str, list[Json]] = {}
         # The files that may differ from the last put, whether there was an edit since `_cycles` was read, the files whose faults may differ
         # from those that were read, and the files that may differ from the last result.
         self._unsent: set[str] = set()
@@ -113,21 +115,9 @@ class Folder:
         self._rechecked: set[str] = set()
         self._untold: set[str] = set()
 
-    def edit(self, path: str, data: bytes | None) -> None:
-        """Sets the bytes of a file's buffer, or None if it is no longer open."""
-        self._files.edit(path, data)
-
-    def read(self, path: str) -> bytes | None:
-        """The current bytes of a file, from its buffer or from disk, or None if there is no such file."""
-        return self._files.read(path)
-
     def paths(self) -> list[str]:
         """The workflows, the actions that are called, and what is open, as of the last `refresh`."""
         return list(self._files.wanted)
-
-    def rescan(self, changed: Iterable[str] = ()) -> None:
-        """Looks at the disk again, and reads the files of `changed` even if they look the same."""
-        self._files.rescan(changed)
 
     def refresh(self) -> Result | None:
         """The current faults of the folder, or None if no linter can be run; then `delay` seconds should pass before the next try."""
@@ -147,19 +137,13 @@ class Folder:
                 self._say(f"the linter stopped and is started again{later}: {error}")
         return None
 
-    def delay(self) -> float:
-        """The seconds until the linter may be started again, 0 if it may be now."""
-        return self._restarts.delay()
-
     def data_of(self, path: str) -> bytes:
         """The bytes that the faults of a file are about."""
         put = self._put_files.get(path)
         return put.data if put else b""
 
     def close(self) -> None:
-        self._end_linter()
-
-    def _end_linter(self) -> None:
+        """Stops the linter."""
         if self._facts:
             self._facts.stop()
             self._facts = None
@@ -204,7 +188,7 @@ class Folder:
             self._say("the linter stopped and is started again: it ended while it read a text")
 
     def _forget_linter(self) -> None:
-        self._end_linter()
+        self.close()
         self._untold |= {*self._put_files, *self._faults}
         self._unsent = set(self._files.wanted)
         self._put_files, self._refused, self._faults, self._cycles = {}, {}, {}, {}
@@ -300,8 +284,7 @@ class Folder:
         self._refused[path] = REASONS.get(reply, f"refused {reply}")
 
     def _reply_to_put(self, path: str, data: bytes) -> str:
-        """Why the linter refuses a file, if it does. A path that doesn't fit into a command's line is refused here, and so are bytes that
-        are left out."""
+        """Why the linter refuses a file, if it does. A path that fits into no command and bytes that are left out are refused here."""
         if "\n" in path or len(path.encode("utf-8")) > MAX_PATH_BYTES:
             return BAD_PATH
         left_out = self._left_out.get(path)

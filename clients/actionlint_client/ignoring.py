@@ -7,11 +7,10 @@ import stat
 from typing import Callable, Collection, Iterable, NamedTuple
 
 from .disk import OPENED
-from .entries import entries
-from .faults import NO_FAULTS, FileFaults
-from .notes.entries import entries_of_notes
+from .entries import entries_by_code
+from .faults import NO_FAULTS, Fault, FileFaults
+from .notes.file import entries_of_notes
 from .problems import Problem, problem_of
-from .report import Fault
 
 NOTE = re.compile(r"SC\d{4}")
 MAX_FILE_BYTES = 1_048_576
@@ -63,7 +62,7 @@ class Ignored:
 def _rule(text: str) -> Rule:
     named, colon, path = text.partition(":")
     code = named.upper()
-    if not is_code(code):
+    if not is_note(code) and code not in entries_by_code():
         raise WrongRule(f"{named!r} is not a fault code")
     if colon and not path:
         raise WrongRule(f"{text!r} names no file")
@@ -127,11 +126,6 @@ def _stamp(file: str) -> tuple[int, ...]:
     except (OSError, ValueError):
         return ()
     return found.st_mtime_ns, found.st_ctime_ns, found.st_size, found.st_dev, found.st_ino
-
-
-def is_code(text: str) -> bool:
-    """Whether a text is the code of an entry or of a note."""
-    return is_note(text) or any(entry.code == text for entry in entries())
 
 
 def rules_in(file: str) -> list[str]:

@@ -21,8 +21,7 @@ class TooSlow(BaseException):
 
 
 class TimeLimit:
-    """Counts the processor time of the main thread, which alone can be limited, and by one call at a time: signals are handled there,
-    whichever thread used the time."""
+    """Counts the processor time of the main thread, where signals are handled: it alone can be limited, by one call at a time."""
 
     def __init__(self) -> None:
         self._is_running = False

@@ -6,10 +6,10 @@ import subprocess
 import tempfile
 from typing import Iterator, NoReturn
 
-from .facts_tree import Json, read_fault
+from .facts_tree import Json
+from .faults import fault_of
 from .problems import Problem, problem_of
 from .program import FACTS, cannot_start, find_facts
-from .report import fault_of
 
 # How many characters the source lines of a report may have.
 MAX_SOURCE = 64 * 1_048_576
@@ -87,9 +87,8 @@ class LintRun:
         source: str | None = row.get("source")
         try:
             self._size += len(source or "")
-            found = read_fault(row)
-            left_on_line = lambda: None if source is None else len(source) - found.column + 1
-            problem = problem_of(fault_of(row["path"], found, left_on_line), source)
+            left_on_line = lambda: None if source is None else len(source) - row["column"] + 1
+            problem = problem_of(fault_of(row["path"], row, left_on_line), source)
         except (KeyError, TypeError):
             self._refuse(line)
         if self._size > MAX_SOURCE:

@@ -3,21 +3,17 @@ from __future__ import annotations
 
 from pylsp_jsonrpc.exceptions import JsonRpcException
 
-from .asked import Asked, asked
+from .asked import START, Asked, add_edit, asked, workspace_edit
 from .characters import shown
 from .editor import Editor
-from .edits import add_edit, workspace_edit
 from .folder import Program
-from .moving import changed_calls, moved_files
+from .paths import path_of
 from .protocol import (Capabilities, DocumentHighlight, FileRename, Handler, Location, Position, PrepareRenameResult, ReferenceContext,
                        TextDocumentIdentifier, WorkspaceEdit)
 from .references import Occurrence, all_of, occurrence_at, occurrences
-from .renaming import Refusal, renamable_at, rename
-from .text import Point, Span
-from .uris import path_of
+from .renaming import Refusal, changed_calls, moved_files, renamable_at, rename
 from .workspace import Workspace
 
-START = Span.at(Point(0, 0))
 WRITE, READ = 3, 2
 REQUEST_FAILED = -32803
 # The moves that the server wants to know before they are done: those of workflows and actions, and of the folders around them.
@@ -32,9 +28,7 @@ class Navigation:
 
     def __init__(self, workspace: Workspace, editor: Editor, program: Program):
         self._workspace, self._editor, self._program = workspace, editor, program
-
-    def handlers(self) -> dict[str, Handler]:
-        return {
+        self.handlers: dict[str, Handler] = {
             "textDocument/definition": self.definition,
             "textDocument/references": self.references,
             "textDocument/documentHighlight": self.highlights,

@@ -122,7 +122,10 @@ def _around(text: str, mark: Token) -> tuple[int, int]:
 
 def _read(text: str) -> Choice | None:
     """A conditional operator, whose last part may be another one."""
-    condition, question, rest = _split(text, "?")
+    mark = next((token.start for token in tokens(text) if token.depth == 0 and token.text == "?"), None)
+    if mark is None:
+        return None
+    condition, rest = text[:mark].strip(), text[mark + 1:]
     colon, is_open = None, 0
     for token in tokens(rest):
         is_open += token.depth == 0 and token.text == "?"
@@ -131,17 +134,11 @@ def _read(text: str) -> Choice | None:
                 colon = token.start
                 break
             is_open -= 1
-    if not question or colon is None:
+    if colon is None:
         return None
     yes, no = rest[:colon].strip(), rest[colon + 1:].strip()
     inner, last = (_read(part) if "?" in operators(part) else Choice(part) for part in (yes, no))
-    if not (condition.strip() and yes and no and inner and last):
+    if not (condition and yes and no and inner and last):
         return None
-    made = choice(condition.strip(), f"({inner.text})" if inner.text != yes else yes, last.text)
+    made = choice(condition, f"({inner.text})" if inner.text != yes else yes, last.text)
     return made and Choice(made.text, made.doubtful or inner.doubtful or last.doubtful)
-
-
-def _split(text: str, sign: str) -> tuple[str, str, str]:
-    """A text before and after the first sign outside of strings and brackets."""
-    found = next((token.start for token in tokens(text) if token.depth == 0 and token.text == sign), None)
-    return (text, "", "") if found is None else (text[:found], sign, text[found + len(sign):])

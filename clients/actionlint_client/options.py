@@ -3,7 +3,7 @@ from __future__ import annotations
 
 import argparse
 
-from .console import add_help_and_version
+from .output import add_help_and_version
 from .program import WHICH, find_program
 
 MAX_SECONDS = 3_600

@@ -2,6 +2,7 @@
 from __future__ import annotations
 
 import re
+from functools import partial
 
 from .names import names
 from .operators import Choice, choice, tokens
@@ -34,9 +35,20 @@ FILTER = re.compile(r"(\s*)([\w.*-]+)\s*\|\s*(to|from)_?json(\s*)", re.I)
 STATES = {"fail": "failure", "succe": "success", "pass": "success", "cancel": "cancelled", "skip": "skipped"}
 IF_AND_THEN = re.compile(r"(?<!.)(\s*)if\b\s*|(?<!\s)\s+then(?=\s*$)", re.S)
 
+# Changes of the text of an expression: dots between a context and its property, `||` for a filter that gives a default, `.*` for a star in
+# brackets, operators without spaces, quotes around last arguments that are words in brackets, comparisons for calls that ask whether a text
+# is empty, properties of contexts for calls of them, and a condition without `if` and `then` around it.
+with_dots = partial(BETWEEN_NAMES.sub, r"\1.")
+with_default = partial(DEFAULT.sub, lambda match: "|| " + match[1].strip())
+with_stars = partial(STAR_IN_BRACKETS.sub, ".*")
+without_spaces_in_operators = partial(SPACE_IN_OPERATOR.sub, lambda match: match[0].replace(" ", ""))
+with_text_in_brackets = partial(BRACKETED_WORDS.sub, r"\1'\2'")
+with_empty_text = partial(EMPTY.sub, lambda match: f"{match[3]} {'!=' if bool(match[1]) != bool(match[2]) else '=='} ''")
+with_properties = partial(CALLED_CONTEXT.sub, r"\1.\2")
+without_if = partial(IF_AND_THEN.sub, lambda match: match[1] or "")
+
 
 def template_as_format(text: str) -> str:
-    """A template literal as a call of `format`."""
     def call(match: re.Match[str]) -> str:
         names = IN_TEMPLATE.findall(match[1])
         numbers = iter(range(len(names)))
@@ -44,13 +56,7 @@ def template_as_format(text: str) -> str:
     return TEMPLATE.sub(call, text)
 
 
-def with_dots(text: str) -> str:
-    """A text with dots between a context and its property."""
-    return BETWEEN_NAMES.sub(r"\1.", text)
-
-
 def with_round_brackets(text: str) -> str:
-    """A text whose calls have round brackets."""
     changed = OTHER_BRACKETS.sub(lambda match: f"{match[1]}({match[2] or match[3] or ''})", text)
     changed = NO_BRACKETS_OF_ONE.sub(r"\1(\2)", NO_BRACKETS.sub(r"\1(\2)", changed))
     return BETWEEN_OPERANDS.sub(r"\2(\1, \3)", changed)
@@ -73,14 +79,8 @@ def with_matching_brackets(text: str) -> str:
 
 
 def without_stray_brackets(text: str) -> str:
-    """A text without brackets that close nothing."""
     stray = next((token.start for token in tokens(text) if token.depth < 0), None)
     return text if stray is None else text[:stray] + text[stray + 1:]
-
-
-def with_default(text: str) -> str:
-    """A text with `||` in place of a filter that gives a default."""
-    return DEFAULT.sub(lambda match: "|| " + match[1].strip(), text)
 
 
 def with_alternatives(text: str) -> str:
@@ -88,23 +88,9 @@ def with_alternatives(text: str) -> str:
     return "".join(" ||" if token.text == "," and token.depth == 0 else token.text for token in tokens(text))
 
 
-def with_stars(text: str) -> str:
-    """A text with `.*` in place of a star in brackets."""
-    return STAR_IN_BRACKETS.sub(".*", text)
-
-
 def with_comparison(text: str) -> str:
     """A text with operators in place of words and options of a shell that compare."""
     return OPTION_OF_TEST.sub(lambda match: OPERATOR_OF_OPTION[match[1]], IS.sub("==", IS_NOT.sub("!=", text)))
-
-
-def without_spaces_in_operators(text: str) -> str:
-    return SPACE_IN_OPERATOR.sub(lambda match: match[0].replace(" ", ""), text)
-
-
-def with_text_in_brackets(text: str) -> str:
-    """A text whose last arguments are quoted if they are words in brackets."""
-    return BRACKETED_WORDS.sub(r"\1'\2'", text)
 
 
 def with_equal_quotes(text: str) -> str:
@@ -115,8 +101,7 @@ def with_equal_quotes(text: str) -> str:
 
 
 def with_search(text: str) -> str:
-    """A text with `startsWith`, `endsWith`, `contains` or `==` in place of a regular expression without other signs than those of its
-    ends."""
+    """A text with `startsWith`, `contains` or `==` in place of a regular expression without other signs than those of its ends."""
     def call(match: re.Match[str]) -> str:
         pattern = (match[2] if match[2] is not None else match[3]).replace("\\/", "/").replace("\\.", ".")
         begins, ends = pattern.startswith("^"), pattern.endswith("$")
@@ -127,11 +112,6 @@ def with_search(text: str) -> str:
             return f"{match[1]} == '{wanted}'"
         return f"{'startsWith' if begins else 'contains'}({match[1]}, '{wanted}')"
     return SEARCH.sub(call, text)
-
-
-def with_empty_text(text: str) -> str:
-    """A text with comparisons in place of calls that ask whether a text is empty."""
-    return EMPTY.sub(lambda match: f"{match[3]} {'!=' if bool(match[1]) != bool(match[2]) else '=='} ''", text)
 
 
 def choice_in_words(text: str) -> Choice | None:
@@ -155,19 +135,9 @@ def with_filter(text: str) -> str:
     return FILTER.sub(lambda match: f"{match[1]}{match[3].lower()}JSON({match[2]}){match[4]}", text) if FILTER.fullmatch(text) else text
 
 
-def with_properties(text: str) -> str:
-    """A text with properties of contexts in place of calls of them."""
-    return CALLED_CONTEXT.sub(r"\1.\2", text)
-
-
 def with_state(text: str) -> str:
     """A text with comparisons in place of calls that ask for the state of a step or a job."""
     def compared(match: re.Match[str]) -> str:
         what = "outcome" if match[2] == "steps" else "result"
         return f"{match[2]}.{match[3]}.{what} {'!=' if match[1] else '=='} '{STATES[match[4]]}'"
     return STATE.sub(compared, text)
-
-
-def without_if(text: str) -> str:
-    """A condition without `if` and `then` around it."""
-    return IF_AND_THEN.sub(lambda match: match[1] or "", text)

@@ -7,7 +7,7 @@ from enum import Enum
 from functools import lru_cache
 from typing import NamedTuple, Sequence
 
-from .text import Point, Span
+from .text import Point, Span, end_of
 from .tree import Path
 
 DASH = re.compile(r"-(?= |$)")
@@ -77,10 +77,6 @@ class Line:
     elements: list[Element] = field(default_factory=list)
     rest: str = ""
     owner: int | None = None
-
-    @property
-    def is_structure(self) -> bool:
-        return bool(self.elements)
 
 
 class Outline:
@@ -180,14 +176,14 @@ class Outline:
             closing = text.find(text[start - 1], point.column)
             end = closing if closing >= 0 else len(text)
         else:
-            end = end_of_word(text, point.column)
+            end = end_of(WORD, text, point.column)
         return Span.on_line(point.line, start, end), text[start:end], text[start:point.column]
 
     def _place_in_flow(self, point: Point) -> Place | None:
         """The place in a flow sequence or mapping, or None if the point isn't in one."""
         for number in range(point.line, max(point.line - MAX_FLOW_LINES, -1), -1):
             line = self.lines[number]
-            if line.owner is not None or not line.is_structure:
+            if line.owner is not None or not line.elements:
                 continue
             if line.rest[:1] in ("[", "{"):
                 start = len(self.texts[number].rstrip()) - len(line.rest)
@@ -212,7 +208,7 @@ class Outline:
         full = (*path, *below) if role is Role.VALUE else (*path, *below[:-1])
         last = frames[-1]
         closing = self.texts[point.line].find(flow.value_before[:1], point.column) if flow.value_before[:1] in ("'", '"') else -1
-        end = closing if closing >= 0 else end_of_word(self.texts[point.line], point.column)
+        end = closing if closing >= 0 else end_of(WORD, self.texts[point.line], point.column)
         word = self.texts[point.line][column:end]
         has_colon = role is Role.KEY and COLON.match(self.texts[point.line], end) is not None
         siblings = {name: value for name, value in (last.keys or {}).items() if role is Role.KEY and name != word}
@@ -248,8 +244,7 @@ class Outline:
         return (), ()
 
     def _value_above(self, number: int, column: int) -> str | None:
-        """The text, up to this line, of a value that begins on the line of the parent key of a line that begins at a column. None if no
-        value begins there."""
+        """The text, up to this line, of a value on the line of the parent key of a line that begins at a column, if there is one."""
         for above in range(number - 1, -1, -1):
             line = self.lines[above]
             if line.elements and line.elements[0].column < column:
@@ -274,8 +269,7 @@ class Outline:
         return count
 
     def _keys_beside(self, number: int, column: int, with_own: bool = True) -> dict[str, str]:
-        """The keys that begin at a column around a line, with the texts after them, up to lines that begin before that column. The line's
-        own key can be left out."""
+        """The keys at a column around a line, perhaps without its own, with the texts after them, up to lines that begin before it."""
         found: dict[str, str] = {}
         own = self.lines[number]
         is_first = any(element.name is None and element.column < column for element in own.elements)
@@ -385,12 +379,6 @@ class FlowReader:
 @lru_cache(maxsize=8)
 def outline_of(text: str) -> Outline:
     return Outline(text.split("\n"))
-
-
-def end_of_word(text: str, start: int) -> int:
-    """Where the word at a column of a line ends."""
-    found = WORD.match(text, start)
-    return found.end() if found else start
 
 
 def _elements(text: str, indent: int) -> tuple[list[Element], str]:

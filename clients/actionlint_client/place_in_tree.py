@@ -5,9 +5,9 @@ import re
 from typing import Iterator, NamedTuple
 
 from .facts_tree import Json
-from .place import Place, Role, end_of_word, outline_of
+from .place import WORD as WORD_OF_LINE, Place, Role, outline_of
 from .project import Project
-from .text import BytePlaces, Point, Span
+from .text import BytePlaces, Point, Span, end_of
 from .tree import Path
 
 WORD, DASH = b"x", b"- "
@@ -110,7 +110,7 @@ class _Cursor:
         self._data = project.read(file) or b""
         self._places = BytePlaces(self._data)
         self._at = self._places.offset(point)
-        self._end_of_word = end_of_word(self._line, point.column)
+        self._end_of_word = end_of(WORD_OF_LINE, self._line, point.column)
         # Where nothing follows a sign yet, not even the blank that a word needs.
         before, after = self._line[:point.column], self._line[point.column:]
         self._is_after_sign = after[:1] in AFTER_SIGN and (before.endswith(":") or BARE_DASH.fullmatch(before) is not None)

@@ -3,68 +3,39 @@ from __future__ import annotations
 
 import re
 from bisect import bisect_left
-from dataclasses import dataclass
 from functools import lru_cache
 
+from .faults import Fault
 from .protocol import Position, Range
-from .report import Fault
-from .text import Point, Span
+from .text import BYTE_ORDER_MARK, LINE_BREAK, LINE_BREAK_OF_BYTES, Point, Span
 
-LINE_BREAK = re.compile(rb"\r\n|\n|\r")
-BYTE_ORDER_MARK = b"\xef\xbb\xbf"
 WORD = re.compile(r"[\w.-]+|.", re.S)
 TWO_UNITS = re.compile("[\U00010000-\U0010ffff]")
 
 
 def lines_of(data: bytes) -> list[bytes]:
-    return LINE_BREAK.split(data) if b"\r" in data else data.split(b"\n")
+    return LINE_BREAK_OF_BYTES.split(data) if b"\r" in data else data.split(b"\n")
 
 
-@dataclass
-class Line:
-    """The characters of a line, and which of them take two units."""
-
-    index: int
-    text: str
-    two_units: list[int]
-
-    def units_before(self, character: int) -> int:
-        """A character's column in an editor. It may be past the end of the line."""
-        character = min(character, len(self.text))
-        return character + bisect_left(self.two_units, character)
+def span_of(fault: Fault, lines: list[str], has_mark: bool) -> Span:
+    """A fault's span, which ends with its first line. If its width is unknown, it ends with the word. The linter counts a byte order mark,
+    which these lines don't have, as a character of the first one."""
+    number = fault.line - 1
+    start = max(fault.column - 1 - (has_mark and number == 0), 0)
+    word = WORD.match(lines[number], start) if fault.width is None and number < len(lines) else None
+    return Span.on_line(number, start, start + (fault.width or (len(word[0]) if word else 0)))
 
 
 class Lines:
     """The lines of a file, for its faults' ranges."""
 
     def __init__(self, data: bytes, is_buffer: bool):
-        self._lines = lines_of(data)
-        # An editor removes the byte order mark of a file that it opens; the linter counts it as a character of the first line.
+        # An editor removes the byte order mark of a file that it opens.
         self._has_mark = not is_buffer and data.startswith(BYTE_ORDER_MARK)
-        # Many faults may be on one long line.
-        self._last: Line | None = None
+        self._lines = LINE_BREAK.split(data.decode("utf-8", "replace")[self._has_mark:])
 
     def range_of(self, fault: Fault) -> Range:
-        """A fault's range, which ends with its first line. If its width is unknown, it ends with the word."""
-        line, first, end = self._columns(fault)
-        return {"start": {"line": line.index, "character": line.units_before(first)},
-                "end": {"line": line.index, "character": line.units_before(end)}}
-
-    def _columns(self, fault: Fault) -> tuple[Line, int, int]:
-        """The fault's line, and the characters before its start and before its end."""
-        line = self._line(fault.line - 1)
-        first = fault.column - 1
-        if line.index == 0 and self._has_mark:
-            first = max(first - 1, 0)
-        return line, first, first + (_word_length(line.text, first) if fault.width is None else fault.width)
-
-    def _line(self, index: int) -> Line:
-        if self._last is None or self._last.index != index:
-            data = self._lines[index] if index < len(self._lines) else b""
-            text = (data[len(BYTE_ORDER_MARK):] if index == 0 and self._has_mark else data).decode("utf-8", "replace")
-            two_units = [] if text.isascii() else _two_units(text)
-            self._last = Line(index, text, two_units)
-        return self._last
+        return range_of_span(self._lines, span_of(fault, self._lines, self._has_mark))
 
 
 def point_of(lines: list[str], position: Position) -> Point:
@@ -92,8 +63,3 @@ def _position_of(lines: list[str], point: Point) -> Position:
 def _two_units(line: str) -> list[int]:
     """The characters of a line that take two units. Many places may be on one long line."""
     return [found.start() for found in TWO_UNITS.finditer(line)]
-
-
-def _word_length(text: str, first: int) -> int:
-    match = WORD.match(text, first)
-    return len(match[0]) if match else 0

@@ -5,7 +5,7 @@ import re
 from typing import TYPE_CHECKING, Callable, NamedTuple
 
 from .entries import Entry, entries_by_code, link_of
-from .report import Fault
+from .faults import Fault
 
 if TYPE_CHECKING:
     from .repair import Repair

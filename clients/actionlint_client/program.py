@@ -17,8 +17,7 @@ FACTS_NAMED = "the variable ACTIONLINT_FACTS names it"
 
 
 def find_program(named: str | None) -> str:
-    """The absolute path of the linter, of the named one if one is named. If `which-actionlint` finds none, the name that it searched for.
-    """
+    """The absolute path of the linter, or of the named one. If `which-actionlint` finds none, the name that it searched for."""
     words = ["/bin/sh", str(FINDER), named or ""]
     found = subprocess.run(words, stdin=subprocess.DEVNULL, stdout=subprocess.PIPE, stderr=subprocess.DEVNULL, check=False)
     return os.fsdecode(found.stdout).removesuffix("\n") or named or os.environ.get("ACTIONLINT") or "actionlint"

@@ -171,8 +171,7 @@ def declarations(file: str, tree: Node | None, what: str, of_call: bool = False)
         ways.append(("on", "workflow_dispatch", what))
     found: dict[str, Declaration] = {}
     for way in ways:
-        node = tree.get(*way)
-        for key, value in node.entries if node else ():
+        for key, value in tree.entries_at(*way):
             found.setdefault(key.value.lower(), Declaration(key.value, key, value))
     return list(found.values())
 
@@ -185,8 +184,7 @@ def is_callable(tree: Node | None) -> bool:
 
 def steps_of(tree: Node | None, job: str | None) -> list[Node]:
     """The steps of a job, or of a composite action."""
-    node = tree and (tree.get("runs", "steps") if job is None else tree.get("jobs", job, "steps"))
-    return node.items if node else []
+    return tree.items_at(*(("runs",) if job is None else ("jobs", job)), "steps") if tree else []
 
 
 def needed(tree: Node, job: str) -> list[str]:

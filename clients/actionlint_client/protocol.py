@@ -27,6 +27,8 @@ class Location(TypedDict):
 
 
 class TextDocumentIdentifier(TypedDict):
+    """Also what is read of a `WorkspaceFolder` and a `FileEvent`."""
+
     uri: str
 
 
@@ -48,10 +50,6 @@ class TextDocumentContentChangeEvent(TypedDict):
     text: str
 
 
-class CodeDescription(TypedDict):
-    href: str
-
-
 class DiagnosticData(TypedDict):
     kind: str
     earlier: NotRequired[bool]
@@ -63,7 +61,7 @@ class Diagnostic(TypedDict):
     source: str
     message: str
     code: NotRequired[str]
-    codeDescription: NotRequired[CodeDescription]
+    codeDescription: NotRequired[dict[str, str]]
     data: NotRequired[DiagnosticData]
 
 
@@ -78,14 +76,10 @@ class TextEdit(TypedDict):
     newText: str
 
 
-class CreateFileOptions(TypedDict):
-    ignoreIfExists: bool
-
-
 class CreateFile(TypedDict):
     kind: str
     uri: str
-    options: CreateFileOptions
+    options: dict[str, bool]
 
 
 class TextDocumentEdit(TypedDict):
@@ -177,27 +171,14 @@ class FoldingRange(TypedDict):
     endLine: int
 
 
-class WorkspaceFolder(TypedDict):
-    uri: str
-
-
 class WorkspaceFoldersChangeEvent(TypedDict):
-    added: NotRequired[list[WorkspaceFolder] | None]
-    removed: NotRequired[list[WorkspaceFolder] | None]
-
-
-class FileEvent(TypedDict):
-    uri: str
+    added: NotRequired[list[TextDocumentIdentifier] | None]
+    removed: NotRequired[list[TextDocumentIdentifier] | None]
 
 
 class FileRename(TypedDict):
     oldUri: str
     newUri: str
-
-
-class ServerInfo(TypedDict):
-    name: str
-    version: str
 
 
 # What a side can do, by the protocol's names. The values are flags, or options of a shape of their own.
@@ -206,7 +187,7 @@ Capabilities = dict[str, Any]
 
 class InitializeResult(TypedDict):
     capabilities: Capabilities
-    serverInfo: ServerInfo
+    serverInfo: dict[str, str]
 
 
 class Message(TypedDict, total=False):
@@ -222,24 +203,12 @@ class Message(TypedDict, total=False):
 
 # A function that answers a request or takes a notification. It is called with the message's parameters by name.
 Handler = Callable[..., object]
+# Sends a notification or a request, whose answer isn't needed: a method and its parameters.
+Send = Callable[[str, object], object]
 
 
 class Feature(Protocol):
     """A part of the server that answers requests: its handlers by method, and its capabilities, which are sent to the editor."""
 
-    @property
-    def capabilities(self) -> Capabilities: ...
-
-    def handlers(self) -> dict[str, Handler]: ...
-
-
-class Notify(Protocol):
-    """Sends a notification."""
-
-    def __call__(self, method: str, params: object) -> None: ...
-
-
-class Ask(Protocol):
-    """Sends a request, whose answer isn't needed."""
-
-    def __call__(self, method: str, params: object) -> object: ...
+    capabilities: Capabilities
+    handlers: dict[str, Handler]

@@ -1,16 +1,18 @@
-"""Renaming a name in all files that use it. A new name that adds a fault is refused."""
+"""Renaming a name in all files that use it, unless that adds a fault, and the calls that change when workflows and actions are moved."""
 from __future__ import annotations
 
+import os
 import re
 from collections import Counter
 
 from .child import LinterEnded
 from .facts import NoAnswer
-from .fixes import Trial
+from .fixes import Trial, counted
 from .folder import Program
+from .paths import is_action, is_below, is_path, is_workflow
 from .project import Project
 from .references import Occurrence, Symbol, all_of, callers, occurrence_at, occurrences
-from .repair import Edit, replaced
+from .repair import Edit, in_quotes, quoted, replaced
 from .text import Point
 
 IDENTIFIER = re.compile(r"[A-Za-z_][\w-]*", re.A)
@@ -21,6 +23,8 @@ NO_TEXTS = {word for low in ("null", "true", "false") for word in (low, low.capi
 # Names that mean something else.
 RESERVED = {"row": re.compile("include|exclude", re.I), "secret": re.compile("github_.*", re.I)}
 NOUNS = {"row": "row of the matrix"}
+# What can be written as the value of `uses` without quotes.
+PLAIN = re.compile(r"[\w./@-]+")
 
 
 class Refusal(Exception):
@@ -50,8 +54,7 @@ def rename(program: Program, project: Project, file: str, point: Point, name: st
 
 
 def _refuse_names(project: Project, symbol: Symbol, name: str) -> None:
-    """Raises `Refusal` if a text is no name, means something else, or is the name of another thing of this kind, whether that is declared
-    or only used."""
+    """Raises `Refusal` if a text is no name, means something else, or is the name of another thing of this kind, declared or only used."""
     is_anchor = symbol.kind == "anchor"
     if not (ANCHOR_NAME if is_anchor else IDENTIFIER).fullmatch(name):
         raise Refusal(f'"{name}" is not a name: letters, digits, "_" and "-", the first no digit and no "-"')
@@ -72,7 +75,7 @@ def _refuse_faults(program: Program, project: Project, symbol: Symbol, edits: di
     try:
         trial = Trial(program.words, program.timeout, project, symbol.file, len(texts) + MAX_OTHER_FILES)
         try:
-            after = trial.faults_after(texts)
+            after = counted(trial.report_after(texts))
             before = trial.before
         finally:
             trial.close()
@@ -84,3 +87,41 @@ def _refuse_faults(program: Program, project: Project, symbol: Symbol, edits: di
     if gained:
         path, message = gained[0]
         raise Refusal(f"{path} would have a fault: {message}")
+
+
+def moved_files(project: Project, root: bytes, old: bytes, new: bytes) -> dict[str, str]:
+    """The linted files that move with a file or a folder, each with its new path from the root, which begins with dots outside of it."""
+    found = {}
+    for file in project.paths():
+        whole = os.path.join(root, file.encode("utf-8"))
+        if is_below(whole, old):
+            found[file] = os.path.relpath(new + whole[len(old):], root).decode("utf-8", "replace")
+    return found
+
+
+def changed_calls(project: Project, moves: dict[str, str]) -> dict[str, tuple[Edit, ...]]:
+    """The edits of the callers by file. What can't be called at its new path is left out."""
+    edits: dict[str, list[Edit]] = {}
+    for old, new in moves.items():
+        call = call_of(new) if is_workflow(old) == is_workflow(new) else None
+        for caller in callers(project, old) if call and call != call_of(old) else ():
+            for one in occurrences(project, caller):
+                if one.symbol == Symbol("file", old, "", ""):
+                    edits.setdefault(caller, []).append(Edit(one.span, _written(project, one, call or "")))
+    return {file: tuple(some) for file, some in edits.items()}
+
+
+def call_of(file: str) -> str | None:
+    """How `uses` calls a file, or None if nothing can call it."""
+    if not is_path(file) or "${{" in file or not (is_workflow(file) or is_action(file)):
+        return None
+    return "./" + (file if is_workflow(file) else file.rpartition("/")[0])
+
+
+def _written(project: Project, one: Occurrence, call: str) -> str:
+    """The call in the quotes that are there, or with some if it needs them."""
+    lines, start = project.lines(one.file), one.span.start
+    quote = lines[start.line][start.column - 1:start.column]
+    if quote in ("'", '"'):
+        return in_quotes(call, quote)
+    return call if PLAIN.fullmatch(call) else quoted(call)

@@ -9,16 +9,15 @@ from typing import Iterable, Iterator, NamedTuple
 
 from .entries import Entry
 from .facts_tree import Chunk, paths_in
+from .faults import Fault
 from .names import names
 from .paths import is_workflow
 from .place import Outline
-from .positions import BYTE_ORDER_MARK, WORD
+from .positions import span_of
 from .project import Project
-from .report import Fault
-from .shells import default_shell, shell_of
-from .stricter import is_refused_beside, takes_filter
-from .syntax import shape_at
-from .text import BytePlaces, Places, Point, Span
+from .scripts import default_shell, shell_of
+from .syntax import is_refused_beside, shape_at, takes_filter
+from .text import BYTE_ORDER_MARK, BytePlaces, Places, Point, Span
 from .tree import Node, Path, last_line, walk
 
 NEEDS_QUOTES = re.compile(r"^[!&*\[\]{}|>@`%'\"#,?-]|: | #|:$")
@@ -101,12 +100,7 @@ class Case:
         self.arguments = fault.arguments
         self.text = project.text(fault.path)
         self.lines = project.lines(fault.path)
-        # The linter counts a byte order mark as a character of the first line.
-        mark = fault.line == 1 and (project.read(fault.path) or b"").startswith(BYTE_ORDER_MARK)
-        start = Point(fault.line - 1, max(fault.column - 1 - mark, 0))
-        word = WORD.match(self.line_at(start.line), start.column)
-        width = fault.width if fault.width is not None else len(word[0]) if word else 0
-        self.span = Span(start, Point(start.line, start.column + width))
+        self.span = span_of(fault, self.lines, (project.read(fault.path) or b"").startswith(BYTE_ORDER_MARK))
 
     @property
     def written(self) -> str:
@@ -203,7 +197,6 @@ class Case:
         return shell_of(script.parent, default_shell(self.tree, self.at("jobs", self.job) if self.job else None))
 
     def slice(self, span: Span) -> str:
-        """The text of a span."""
         lines = self.lines[span.start.line:span.end.line + 1]
         if not lines:
             return ""
@@ -273,6 +266,16 @@ def quoted(text: str) -> str:
     return "'" + text.replace("'", "''") + "'"
 
 
+def in_quotes(text: str, style: str) -> str:
+    """A part of a scalar's text as the scalar's quotes in YAML ask for."""
+    return text.replace("'", "''") if style == "'" else text.replace('"', '\\"') if style == '"' else text
+
+
+def without_quotes(text: str, style: str) -> str:
+    """A part of a scalar without what the scalar's quotes in YAML ask for."""
+    return text.replace("''", "'") if style == "'" else text.replace('\\"', '"') if style == '"' else text
+
+
 def as_scalar(text: str, style: str, in_flow: bool) -> str:
     """A text as a value: in quotes if the old one had some, or if YAML would read it differently without."""
     needs_quotes = style in ("'", '"') or NEEDS_QUOTES.search(text) or in_flow and FLOW_SIGNS.search(text)
@@ -336,6 +339,14 @@ def without_key(case: Case, mapping: Node, name: str) -> Edit:
     key = mapping.key(name)
     assert key
     return without_entry(case, mapping, key)
+
+
+def moved_out(case: Case, here: Found, outer: Node) -> Edit:
+    """A mapping that is the value of a key of an outer one without an entry, or the outer one without it if that is the only entry."""
+    assert here.key
+    if len(here.parent.entries) > 1:
+        return without_entry(case, here.parent, here.key)
+    return without_key(case, outer, str(here.path[-2]))
 
 
 def indented(case: Case, entries: Iterable[tuple[Node, Node]], by: str) -> list[Edit]:

@@ -114,8 +114,7 @@ def _lines_with_key(case: Case) -> Iterator[int]:
 
 
 def entry_without_dash(case: Case) -> Iterable[Repair]:
-    """A key that stands where the entries of the list begin, with the dash that they have. It belongs to the entry above instead if that
-    has no such key."""
+    """A key where the entries of a list begin, with their dash. It belongs to the entry above instead if that has no such key."""
     topmost = {indent_of(case.lines[line]): line for line in _lines_with_key(case)}
     for column, first in topmost.items():
         if not _has_dash_beside(case, first, column):
@@ -138,8 +137,7 @@ def entry_without_dash(case: Case) -> Iterable[Repair]:
 
 
 def keys_below_short_form(case: Case) -> Iterable[Repair]:
-    """A section that is written as a text, on the line of its key or below it, with keys of the section below: the text as its first
-    key."""
+    """A section that is written as a text, on its key's line or below it, with keys of the section below: the text as its first key."""
     number, outline, own = case.span.start.line, case.outline.lines, indent_of(case.line)
     word = number - 1
     is_alone = word > 0 and not outline[word].elements and indent_of(case.lines[word]) == own

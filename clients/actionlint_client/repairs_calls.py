@@ -11,12 +11,11 @@ from .names import likely, misspelled
 from .operators import operators
 from .other_keys import other_keys
 from .paths import ACTION_NAMES, WORKFLOW_ENDINGS, WORKFLOWS, is_workflow
-from .repair import (Case, Edit, Found, Repair, as_scalar, entries_of, is_within_flow, next_entry, quoted, tight, without_entry,
-                     without_key)
+from .repair import Case, Edit, Found, Repair, as_scalar, entries_of, is_within_flow, moved_out, next_entry, quoted, tight, without_entry
 from .repairs_keys import deleted, moved_below
+from .repairs_kinds import as_flag, as_number
 from .repairs_names import as_secret
 from .repairs_needs import is_in_other_words
-from .repairs_kinds import as_flag, as_number
 from .syntax import table
 from .text import Point, Span
 from .tree import Node, last_line
@@ -159,10 +158,9 @@ def declared_as_secret(case: Case) -> Iterable[Repair]:
 
 
 def action_of_job(case: Case) -> Iterable[Repair]:
-    """An action that a job with steps calls, called from a step."""
-    here = case.key
-    uses = here.parent.get("uses") if here else None
-    key = here.parent.key("uses") if here else None
+    """An action that a job calls, called from a step. The fault is in its name, or in a key of a job with steps."""
+    here = case.value if case.code == "C8" else case.key
+    uses, key = (here.parent.get("uses"), here.parent.key("uses")) if here else (None, None)
     if here and uses and key and len(here.path) == 3 and here.path[0] == "jobs" and ".github/workflows/" not in uses.value:
         yield from _called_from_step(case, Found((*here.path[:-1], "uses"), key, uses, here.parent))
 
@@ -238,8 +236,7 @@ def key_of_call(case: Case) -> Iterable[Repair]:
     name, column = here.key.value, here.key.span.start.column
     if name in case.known_keys(here.path[:-2], node.names()):
         entry = case.slice(Span(here.key.span.start, tight(case, here.value).end)).replace("\n" + " " * column, "\n")
-        removed = without_entry(case, here.parent, here.key) if len(here.parent.entries) > 1 else without_key(case, node, "with")
-        yield case.of(f'move "{name}" beside "with"', removed, next_entry(case, node, "uses", entry))
+        yield case.of(f'move "{name}" beside "with"', moved_out(case, here, node), next_entry(case, node, "uses", entry))
 
 
 def script_for_call(case: Case) -> Iterable[Repair]:
@@ -269,7 +266,7 @@ def other_type(case: Case) -> Iterable[Repair]:
         shown = as_scalar(changed, here.value.style, is_within_flow(case, here.path))
         yield case.replace("read it with fromJSON" if kind != "string" else "write it as a text", shown, here.value.span)
     if kind == "string" and not expression and here.value.kind == "scalar":
-        yield case.replace("put it in quotes", "'" + text.replace("'", "''") + "'", here.value.span, is_safe=True)
+        yield case.replace("put it in quotes", quoted(text), here.value.span, is_safe=True)
 
 
 def right_uses(case: Case) -> Iterable[Repair]:
@@ -360,13 +357,6 @@ def _with_owner(case: Case, name: str) -> str:
     return owners[0] if len(owners) == 1 else ""
 
 
-def local_action_of_job(case: Case) -> Iterable[Repair]:
-    """An action of this repository that a job calls, called from a step."""
-    here = case.value
-    if here and here.key and len(here.path) == 3 and here.path[0] == "jobs" and ".github/workflows/" not in here.value.value:
-        yield from _called_from_step(case, here)
-
-
 def made_callable(case: Case) -> Iterable[Repair]:
     """`workflow_call` as an event of the called workflow, or the call on a job or a step of its own."""
     node, callee, of_job = call_of(case)
@@ -426,6 +416,6 @@ REPAIRS: dict[str, tuple[Callable[[Case], Iterable[Repair]], ...]] = {
     "C5": (near_declared("secrets"),),
     "C6": (required("secrets"),),
     "C7": (script_for_call, right_uses),
-    "C8": (local_action_of_job, made_callable),
+    "C8": (action_of_job, made_callable),
     "C9": (without_step,),
 }

@@ -4,19 +4,12 @@ from __future__ import annotations
 import re
 from typing import Callable, Iterable, NamedTuple
 
-from .expression_texts import (CHAIN, COMPARISONS, coalesced, doubled, doubled_with_quotes, outside, outside_texts, spread,
-                               with_all_operators, with_calls, with_double_braces, with_equals, with_format, with_null, with_operators,
-                               with_plain_dots, with_plain_spaces, with_single_quotes, with_turned_operators, without_curly_quotes)
+from . import expression_texts as texts, other_syntax as others
 from .expressions import STRING
-from .missing_signs import closed_at_ends, with_apostrophes, with_closed_json
 from .operators import Choice, Token, choice, choice_in, grouped, operators, tokens
-from .other_syntax import (FUNCTIONS, choice_in_words, template_as_format, with_alternatives, with_comparison, with_default, with_dots,
-                           with_equal_quotes, with_filter, with_matching_brackets, with_properties, with_round_brackets, with_search,
-                           with_single_commas, with_stars, with_state, with_text_in_brackets, without_if, without_spaces_in_operators,
-                           without_stray_brackets)
-from .repair import NEEDS_QUOTES, Case, Repair, as_scalar, is_within_flow
+from .repair import NEEDS_QUOTES, Case, Repair, as_scalar, in_quotes, is_within_flow, without_quotes
 from .syntax import is_condition
-from .text import Point, Span
+from .text import Point, Span, end_of
 
 BRACES = re.compile(r"\$\{\{((?:[^$}]|\$(?!\{\{)|\}(?!\}))*)\}\}")
 TEXT_WITH_BRACES = re.compile(r"'([^'{}]*(?:\$\{\{[^'{}]*\}\}[^'{}]*)+)'")
@@ -24,13 +17,12 @@ QUOTED_BRACES = re.compile(r"(?<!\w)'(\$\{\{[^{}]*\}\})'(?!\w)")
 MANY_BRACES = re.compile(r"\$\{{3,}([^{}]*)\}{2,}")
 NESTED_BRACES = re.compile(r"\$\{\{([^{}]*)\$\{\{([^{}]*)\}\}([^{}]*)\}\}")
 VERSION = re.compile(r"(?<![\w.-])v?\d[\w-]*(?:\.[\w-]+)+")
-WHOLE_CALL = re.compile(rf"(?:{FUNCTIONS})\((?:'[^']*'|[^'()])*\)")
+WHOLE_CALL = re.compile(rf"(?:{others.FUNCTIONS})\((?:'[^']*'|[^'()])*\)")
 VARIABLE = re.compile(r"\$\{?(GITHUB_|RUNNER_)?([A-Za-z_][A-Za-z0-9_]*)\}?")
 CALL_OF_CHOICE = re.compile(r"\b(case|iif|if|ternary|choose)\s*\(")
 ARGUMENTS = re.compile(r"(?:'(?:[^']|'')*'|[^()']|\((?:[^()']|'[^']*')*\))*")
 ARGUMENT = re.compile(r"(?:'(?:[^']|'')*'|\((?:[^()']|'[^']*')*\)|[^,()'])+")
 MAX_CONDITION_CHARACTERS = 5_000
-TWO_QUOTES = "''"
 NO_SIGNS = (";", "$", "\\")
 TWO_ARGUMENTS = re.compile(r"\b(?:contains|startsWith|endsWith)\([^()',]{1,200},\s*'[^']*'\s*$", re.I)
 WORD = re.compile(r"[^\s'\"()=!,]*")
@@ -84,21 +76,12 @@ def with_expression(case: Case, title: str, expression: Expression, text: str, i
     """The case's text with another one for an expression."""
     is_whole = case.scalar is not None and expression.span == case.scalar.value.span
     wrapped = "${{ " + text + " }}" if is_whole and NEEDS_QUOTES.search(text) else text
-    return case.replace(title, in_yaml(wrapped, expression), expression.span, is_safe, deletes)
+    return case.replace(title, in_quotes(wrapped, expression.style), expression.span, is_safe, deletes)
 
 
 def decoded(expression: Expression) -> str:
     """The text of an expression without what its quotes in YAML ask for."""
-    if expression.style == "'":
-        return expression.text.replace(TWO_QUOTES, "'")
-    return expression.text.replace('\\"', '"') if expression.style == '"' else expression.text
-
-
-def in_yaml(text: str, expression: Expression) -> str:
-    """A new text for an expression or a part of it, as its quotes in YAML ask for."""
-    if expression.style == "'":
-        return text.replace("'", TWO_QUOTES)
-    return text.replace('"', '\\"') if expression.style == '"' else text
+    return without_quotes(expression.text, expression.style)
 
 
 def from_context(case: Case) -> Iterable[Repair]:
@@ -115,7 +98,7 @@ def from_context(case: Case) -> Iterable[Repair]:
         if context == "env" and not re.search(sets, case.text):
             return str(match[0])
         return f"{context}.{name}"
-    text = outside_texts(decoded(expression), lambda part: VARIABLE.sub(property_of, part))
+    text = texts.outside_texts(decoded(expression), lambda part: VARIABLE.sub(property_of, part))
     if text != decoded(expression):
         yield with_expression(case, "take it from the context", expression, text)
 
@@ -123,7 +106,7 @@ def from_context(case: Case) -> Iterable[Repair]:
 def as_choice(case: Case) -> Iterable[Repair]:
     """`a ? b : c`, or the same in words, as `a && b || c`, since expressions have no conditional operator."""
     expression = expression_of(case)
-    made = choice_in(decoded(expression)) or choice_in_words(decoded(expression)) if expression else None
+    made = choice_in(decoded(expression)) or others.choice_in_words(decoded(expression)) if expression else None
     if expression and made:
         yield with_expression(case, title_of(made), expression, made.text, not made.doubtful)
 
@@ -162,8 +145,7 @@ def _choice_of(arguments: list[str]) -> Choice | None:
 
 def arguments_at(text: str, start: int) -> tuple[list[str], int]:
     """The arguments of a call that begin at an offset, and the offset after them."""
-    match = ARGUMENTS.match(text, start)
-    end = match.end() if match else start
+    end = end_of(ARGUMENTS, text, start)
     return [part.strip() for part in ARGUMENT.findall(text[start:end])], end
 
 
@@ -212,7 +194,7 @@ def with_and(case: Case) -> Iterable[Repair]:
 def with_or(case: Case) -> Iterable[Repair]:
     """`||` in place of commas between values of which the first is taken, outside of conditions."""
     if not is_in_condition(case):
-        yield from rewritten('write "||"', with_alternatives)(case)
+        yield from rewritten('write "||"', others.with_alternatives)(case)
 
 
 def without_rest(case: Case) -> Iterable[Repair]:
@@ -262,7 +244,7 @@ def closed_text(case: Case) -> Iterable[Repair]:
     yield from _closed_above(case)
     expression = expression_of(case)
     if expression:
-        for text in closed_at_ends(decoded(expression)):
+        for text in texts.closed_at_ends(decoded(expression)):
             yield with_expression(case, "close the text", expression, text)
         quote = "''" if expression.style == "'" else "'"
         stripped = expression.text.rstrip()
@@ -278,9 +260,9 @@ def _closed_above(case: Case) -> Iterable[Repair]:
     for line in range(here.value.span.start.line + (here.value.style in ("|", ">")), last):
         text = case.lines[line]
         if text.count("'") % 2 and here.value.style != "'":
-            if with_equal_quotes(text) != text:
-                yield case.replace("write single quotes", with_equal_quotes(text), Span.on_line(line, 0, len(text)))
-            yield from (case.replace("close the text", closed, Span.on_line(line, 0, len(text))) for closed in closed_at_ends(text))
+            if others.with_equal_quotes(text) != text:
+                yield case.replace("write single quotes", others.with_equal_quotes(text), Span.on_line(line, 0, len(text)))
+            yield from (case.replace("close the text", closed, Span.on_line(line, 0, len(text))) for closed in texts.closed_at_ends(text))
             return
 
 
@@ -296,7 +278,7 @@ def closed_braces(case: Case) -> Iterable[Repair]:
     """Two braces after the expression: before one that is there, after all of it if it has an operator, or after its first name."""
     rest, here = case.line[case.span.start.column:], case.scalar
     whole = re.match(r"\$\{\{[^}\n]*", rest)
-    chain = re.match(rf"\$\{{\{{\s*{CHAIN.pattern}", rest)
+    chain = re.match(rf"\$\{{\{{\s*{texts.CHAIN.pattern}", rest)
     if whole is None or here is None:
         return
     text = whole[0].rstrip()
@@ -329,7 +311,7 @@ def word_as_text(case: Case) -> Iterable[Repair]:
     end = column + len(WORD.findall(line[column:])[0].partition("}")[0])
     if expression and re.match(r"[\w./*-]", line[start:end]) and is_operand(line[:start], line[end:]):
         span = Span.on_line(case.span.start.line, start, end)
-        yield case.replace("put it in quotes", in_yaml(f"'{line[start:end]}'", expression), span)
+        yield case.replace("put it in quotes", in_quotes(f"'{line[start:end]}'", expression.style), span)
 
 
 def version_as_text(case: Case) -> Iterable[Repair]:
@@ -379,7 +361,7 @@ def one_pair(case: Case) -> Iterable[Repair]:
 
     def inner(match: re.Match[str]) -> str:
         is_operand = re.search(r"(?:[=!<>]=?)\s*$", joined[:match.start()]) or re.match(r"\s*(?:[=!]=|[<>])", joined[match.end():])
-        return grouped(match[1].strip(), (*COMPARISONS, "&&", "||") if is_operand else ("&&", "||"))
+        return grouped(match[1].strip(), (*texts.COMPARISONS, "&&", "||") if is_operand else ("&&", "||"))
     whole = BRACES.sub(inner, joined).strip()
     if outside:
         # a boolean isn't equal to the text `true`
@@ -393,42 +375,42 @@ def one_pair(case: Case) -> Iterable[Repair]:
             yield case.replace(f"delete the {rest} beside the braces", alone, here.value.span, deletes=True)
 
 
-SINGLE_QUOTES = rewritten("write single quotes", with_single_quotes, True)
-DOUBLED = rewritten('write "==", "&&", "||"', doubled, True)
-DOUBLED_WITH_QUOTES = rewritten('write "==" and quotes', doubled_with_quotes)
-SPREAD = rewritten("compare it with each", spread)
-EQUALS = rewritten('write "==" and "!="', with_equals, True)
-OPERATORS = rewritten('write "&&", "||", "!"', with_operators, True)
+SINGLE_QUOTES = rewritten("write single quotes", texts.with_single_quotes, True)
+DOUBLED = rewritten('write "==", "&&", "||"', texts.doubled, True)
+DOUBLED_WITH_QUOTES = rewritten('write "==" and quotes', texts.doubled_with_quotes)
+SPREAD = rewritten("compare it with each", texts.spread)
+EQUALS = rewritten('write "==" and "!="', texts.with_equals, True)
+OPERATORS = rewritten('write "&&", "||", "!"', texts.with_operators, True)
 
-DOTS = rewritten('write "." after the context', outside(with_dots))
+DOTS = rewritten('write "." after the context', texts.outside(others.with_dots))
+EQUAL_QUOTES = rewritten("write single quotes", others.with_equal_quotes)
+WITHOUT_IF = rewritten("delete what isn't the condition", others.without_if, deletes=True)
 OTHER_SYNTAX = (
-    rewritten("delete the space in the operator", outside(without_spaces_in_operators), True), DOTS,
-    rewritten("write a call with round brackets", with_round_brackets), rewritten("write one comma", outside(with_single_commas)),
-    rewritten("write the other bracket", with_matching_brackets),
-    rewritten("call a function", with_search), rewritten("write a call", with_filter), rewritten("compare its state", outside(with_state)),
-    rewritten("write the operator", outside(with_comparison)), rewritten('write ".*"', outside(with_stars), True),
-    rewritten('write "||"', with_default),
-    rewritten("write single quotes", with_equal_quotes),
-    rewritten("put it in quotes", with_text_in_brackets), rewritten("delete what isn't the condition", without_if, deletes=True))
+    rewritten("delete the space in the operator", texts.outside(others.without_spaces_in_operators), True), DOTS,
+    rewritten("write a call with round brackets", others.with_round_brackets),
+    rewritten("write one comma", texts.outside(others.with_single_commas)),
+    rewritten("write the other bracket", others.with_matching_brackets), rewritten("call a function", others.with_search),
+    rewritten("write a call", others.with_filter), rewritten("compare its state", texts.outside(others.with_state)),
+    rewritten("write the operator", texts.outside(others.with_comparison)), rewritten('write ".*"', texts.outside(others.with_stars), True),
+    rewritten('write "||"', others.with_default), EQUAL_QUOTES, rewritten("put it in quotes", others.with_text_in_brackets), WITHOUT_IF)
 
 REPAIRS: dict[str, tuple[Callable[[Case], Iterable[Repair]], ...]] = {
-    "X1": (rewritten("write a call of format", template_as_format), SINGLE_QUOTES,
-           rewritten("leave out the quotes", without_curly_quotes), rewritten("write plain spaces", with_plain_spaces, True),
-           DOUBLED, as_choice, EQUALS, rewritten('write "!="', with_turned_operators), OPERATORS, SPREAD, DOUBLED_WITH_QUOTES,
-           rewritten('write "||", which takes the second for an empty text too', coalesced), inner_braces,
-           rewritten('write "."', with_plain_dots, True), rewritten('write "null"', with_null),
-           rewritten("write a call of format", with_format),
-           rewritten("write the operators of expressions", with_all_operators, True),
-           rewritten('write "${{" and "}}"', with_double_braces, True), from_context, *OTHER_SYNTAX, _closed_above, second_brace,
+    "X1": (rewritten("write a call of format", others.template_as_format), SINGLE_QUOTES,
+           rewritten("leave out the quotes", texts.without_curly_quotes), rewritten("write plain spaces", texts.with_plain_spaces, True),
+           DOUBLED, as_choice, EQUALS, rewritten('write "!="', texts.with_turned_operators), OPERATORS, SPREAD, DOUBLED_WITH_QUOTES,
+           rewritten('write "||", which takes the second for an empty text too', texts.coalesced), inner_braces,
+           rewritten('write "."', texts.with_plain_dots, True), rewritten('write "null"', texts.with_null),
+           rewritten("write a call of format", texts.with_format),
+           rewritten("write the operators of expressions", texts.with_all_operators, True),
+           rewritten('write "${{" and "}}"', texts.with_double_braces, True), from_context, *OTHER_SYNTAX, _closed_above, second_brace,
            word_as_text, without_character),
-    "X2": (rewritten("write the apostrophe twice", with_apostrophes), rewritten("write single quotes", with_equal_quotes), closed_text),
-    "X3": (EQUALS, OPERATORS, SPREAD, DOUBLED, as_choice, *OTHER_SYNTAX, rewritten("call a function", with_calls), inner_braces,
+    "X2": (rewritten("write the apostrophe twice", texts.with_apostrophes), EQUAL_QUOTES, closed_text),
+    "X3": (EQUALS, OPERATORS, SPREAD, DOUBLED, as_choice, *OTHER_SYNTAX, rewritten("call a function", texts.with_calls), inner_braces,
            closed_brackets, with_comma, with_and, with_or, version_as_text, without_rest,
-           rewritten("delete the bracket", without_stray_brackets, deletes=True), without_character),
-    "X4": (rewritten("close the brackets", with_closed_json), closed_brackets, without_rest),
+           rewritten("delete the bracket", others.without_stray_brackets, deletes=True), without_character),
+    "X4": (rewritten("close the brackets", texts.with_closed_json), closed_brackets, without_rest),
     "X7": (DOTS,),
-    "X9": (rewritten('write "." after the context', with_properties),
-           rewritten("delete what isn't the condition", without_if, deletes=True)),
+    "X9": (rewritten('write "." after the context', others.with_properties), WITHOUT_IF),
     "X20": (closed_braces,),
     "G18": (inner_braces, one_pair),
 }

@@ -8,10 +8,10 @@ from typing import Callable, Iterable
 from .names import likely, misspelled, names, near
 from .other_keys import MEANINGLESS, other_keys
 from .paths import is_workflow
-from .repairs_levels import moves
-from .repairs_steps import STEP_STARTS, new_step
 from .repair import (FLOW_SIGNS, Case, Edit, Found, Repair, entries_of, first_entry, indented, next_entry, quoted, tight, without_entry,
                      without_key)
+from .repairs_levels import moves
+from .repairs_steps import STEP_STARTS, new_step
 from .syntax import shape_at, table
 from .text import Point, Span
 from .tree import Node, Path, last_line
@@ -292,8 +292,7 @@ def another_job(case: Case) -> Iterable[Repair]:
 
 
 def repeated(case: Case) -> Iterable[Repair]:
-    """One of two equal keys: taken away if it is empty, or says the same and no other key is there twice; else the second is merged with
-    the first, or deleted."""
+    """One of two equal keys, taken away if empty, or if it says the same and no other is there twice; else merged, or the second gone."""
     here = case.key
     if here is None or here.key is None:
         return
@@ -423,9 +422,9 @@ def _joined(case: Case, here: Found) -> Iterable[Repair]:
     after = steps.items[number + 1] if number + 1 < len(steps.items) else None
     before = steps.items[number - 1] if number else None
     if after and _fit(step, after) and set(step.names()) <= {*STEP_STARTS, "env"}:
-        yield case.of("join it with the step below", _without_dash(case, after))
+        yield case.of("join it with the step below", without_dash(case, after))
     if before and _fit(before, step) and not set(step.names()) & {"name", "id"}:
-        yield case.of("join it with the step above", _without_dash(case, step))
+        yield case.of("join it with the step above", without_dash(case, step))
 
 
 def _fit(first: Node, second: Node) -> bool:
@@ -435,7 +434,8 @@ def _fit(first: Node, second: Node) -> bool:
     return is_one and second.kind == "mapping" and not second.is_flow and not ("with" in names and "run" in names)
 
 
-def _without_dash(case: Case, item: Node) -> Edit:
+def without_dash(case: Case, item: Node) -> Edit:
+    """An item of a list with blanks in place of its dash."""
     line, column = item.span.start
     dash = case.lines[line].index("-")
     return Edit(Span.on_line(line, dash, column), " " * (column - dash))

@@ -6,17 +6,16 @@ import re
 from typing import Callable, Iterable
 
 from .action_versions import VERSIONS, versions
+from .expression_texts import ODD_SPACE
 from .names import likely, misspelled
 from .operators import negated
 from .other_keys import OTHER_TYPES
 from .paths import is_workflow
 from .repair import Case, Edit, Found, Repair, indented, is_within_flow, quoted, tight
-from .repairs_keys import JOB, UNIT_OF_LIMIT
+from .repairs_keys import JOB, UNIT_OF_LIMIT, without_dash
 from .repairs_levels import moved
-from .repairs_spaces import DASH_WITHOUT_SPACE
-from .sections import activity_types
-from .stricter import takes_filter
-from .syntax import table
+from .repairs_lines import DASH_WITHOUT_SPACE
+from .syntax import activity_types, table, takes_filter
 from .text import Point, Span
 from .tree import Node, Path, last_line, walk
 
@@ -39,7 +38,6 @@ LINE_OF_PAIR = re.compile(r"(\s*)([A-Za-z_]\w*)=(\S.*)")
 LINE_OF_LIST = re.compile(r" *-?[\w./@*][\w./@*-]*")
 KEY_LACKS_COLON = re.compile(r"([A-Za-z_][\w-]*)(?= +[^\s=])")
 SEPARATORS = re.compile(r"[-. ]")
-ODD_SPACE = re.compile("[\u00a0\u2000-\u200a\u202f\u3000]")
 
 
 def other_kind(case: Case) -> Iterable[Repair]:
@@ -291,12 +289,7 @@ def as_mapping(case: Case, sequence: Node) -> Iterable[Repair]:
     """A list of block mappings without its dashes."""
     if sequence.is_flow or not sequence.items or any(item.kind != "mapping" or item.is_flow for item in sequence.items):
         return
-    edits = []
-    for item in sequence.items:
-        line, column = item.span.start
-        dash = case.lines[line].index("-")
-        edits.append(Edit(Span.on_line(line, dash, column), " " * (column - dash)))
-    yield case.of("delete the dashes", *edits)
+    yield case.of("delete the dashes", *(without_dash(case, item) for item in sequence.items))
 
 
 def _spaced_dashes(case: Case) -> Iterable[Repair]:

@@ -76,7 +76,6 @@ def with_plain_quotes(case: Case) -> Iterable[Repair]:
 
 
 def without_backticks(case: Case) -> Iterable[Repair]:
-    """An expression without the backticks of Markdown."""
     span = case.rest_span(case.span.start.line)
     match = BACKTICKS.fullmatch(case.slice(span)) if span else None
     if span and match:

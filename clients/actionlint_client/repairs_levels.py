@@ -133,8 +133,7 @@ def moved(case: Case, title: str, lines: Iterable[int], by: int) -> Repair:
 
 
 def another_level(case: Case) -> Iterable[Repair]:
-    """A key that its section doesn't have, moved to a section that has it: one in the value before it, the innermost first, or one around
-    it."""
+    """A key that its section doesn't have, moved to one that has it: in the value before it, the innermost first, or around it."""
     if case.key:
         yield from (repair for _, repair in moves(case, case.key))
 

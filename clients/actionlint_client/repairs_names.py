@@ -8,10 +8,10 @@ from .expressions import chain_before
 from .names import likely, misspelled, short_forms
 from .operators import grouped, parts
 from .other_keys import other_keys
-from .paths import is_workflow
-from .repair import Case, Edit, Found, Repair, first_entry, next_entry, quoted, without_entry, without_key
 from .other_syntax import with_empty_text
-from .repairs_expressions import choice_by_call, expression_of, in_yaml, is_alternative, is_in_condition, is_operand, rewritten
+from .paths import is_workflow
+from .repair import Case, Edit, Found, Repair, first_entry, in_quotes, moved_out, next_entry, quoted, without_key
+from .repairs_expressions import choice_by_call, expression_of, is_alternative, is_in_condition, is_operand, rewritten
 from .repairs_needs import declared_output, is_in_other_words, is_written_elsewhere, needed_job, needs_for_jobs, output_of_job
 from .repairs_steps import (DECLARED, OF_CONTEXTS, PROPERTIES_OF_ALL, named_step, names_before, only_job, only_output, only_step,
                             output_of_any_job, properties_before, same_name_elsewhere, scope_of, shorter_chain, unused_name)
@@ -145,11 +145,11 @@ def declared_row(case: Case) -> Iterable[Repair]:
 
 
 def unknown_word(case: Case) -> Iterable[Repair]:
-    """A function with its missing brackets, a property with its missing context, or a text in quotes: that first, if it is compared with
-    what is before it."""
+    """A function with its brackets, a property with its context, or a text in quotes: that first, if it is compared to its left."""
     if VARIABLE_OF_RUNNER.match(case.arguments[0]) and list(of_github(case)):
         return
-    is_function = case.arguments[0].lower() in [name.lower() for name in _functions(case)]
+    scope = scope_of(case)
+    is_function = scope is not None and case.arguments[0].lower() in [name.lower() for name in scope.functions()]
     if is_function and not is_operand(case.line[:case.span.start.column], case.line[case.span.end.column:]):
         yield case.replace('add "()"', case.written + "()", is_safe=True)
         return
@@ -163,18 +163,13 @@ def unknown_word(case: Case) -> Iterable[Repair]:
     expression = expression_of(case)
     chain, _ = case.outer_chain
     if expression and before.endswith("[") and after.startswith("]") and chain[:1] and chain[0].lower() in _scope_names(case):
-        yield case.replace("put it in quotes", in_yaml(f"'{case.written}'", expression))
+        yield case.replace("put it in quotes", in_quotes(f"'{case.written}'", expression.style))
         return
     if before.endswith("->"):
         return
     is_right_side = re.search(r"[=!]=\s*$", case.line[:case.span.start.column]) is not None
     ways = (as_text, with_context) if is_right_side else (with_context, as_text)
     yield from (repair for way in ways for repair in way(case))
-
-
-def _functions(case: Case) -> list[str]:
-    scope = scope_of(case)
-    return scope.functions() if scope else []
 
 
 def with_context(case: Case) -> Iterable[Repair]:
@@ -191,8 +186,7 @@ def with_context(case: Case) -> Iterable[Repair]:
 
 
 def as_text(case: Case) -> Iterable[Repair]:
-    """A word that isn't a context, in quotes, if it is compared, an argument or a value to choose. What is compared on the right side can
-    be nothing else."""
+    """A word that isn't a context, in quotes, if it is compared, an argument or a value to choose. On the right side it is nothing else."""
     chain, span = case.outer_chain
     expression = expression_of(case)
     match = re.match(r"[\w./*-]+(?:\[\w+\])?", case.line[span.start.column:]) if chain else None
@@ -205,7 +199,7 @@ def as_text(case: Case) -> Iterable[Repair]:
     is_word = "." not in match[0] and not match[0].isupper() and not likely(chain[0], _scope_names(case)) and not list(with_context(case))
     is_compared_with_name = re.search(r"[\w\])]\s*[=!]=\s*$", before) is not None
     place = Span.on_line(span.start.line, span.start.column, end)
-    yield case.replace("put it in quotes", in_yaml(f"'{match[0]}'", expression), place, is_word and is_compared_with_name)
+    yield case.replace("put it in quotes", in_quotes(f"'{match[0]}'", expression.style), place, is_word and is_compared_with_name)
 
 
 def sibling_property(case: Case) -> Iterable[Repair]:
@@ -272,8 +266,7 @@ def in_known_section(case: Case) -> Iterable[Repair]:
 
 
 def other_context(case: Case) -> Iterable[Repair]:
-    """An available context in place of one that isn't, or what it stands for: the value of a variable, a needed job, an input of an
-    action."""
+    """An available context for one that isn't, or what it stands for: a variable's value, a needed job, an input of an action."""
     chain, span = case.chain
     if len(chain) < 2 or case.tree is None:
         return
@@ -296,7 +289,7 @@ def other_context(case: Case) -> Iterable[Repair]:
         yield from _input_for_secret(case, chain, span)
     if context == "secrets" and is_workflow(case.file):
         yield from _by_env(case, chain, span)
-        yield from _passed_as_secret(case)
+        yield from as_secret(case, case.scalar) if case.scalar and case.job else ()
     if _is_condition_of_job(case):
         yield from _moved_to_steps(case, chain, span)
     if context == "env" and len(chain) == 2 and (_is_condition_of_job(case) or "${{" not in (case.tree.text("env", chain[1]) or "")):
@@ -316,19 +309,13 @@ def _input_for_secret(case: Case, chain: tuple[str, ...], span: Span) -> Iterabl
         yield from _declaring(case, (), name, f'take it from a new input "{name}"', edit)
 
 
-def _passed_as_secret(case: Case) -> Iterable[Repair]:
-    """A secret under `with` of a called workflow, moved to `secrets`."""
-    if case.scalar and case.job:
-        yield from as_secret(case, case.scalar)
-
-
 def as_secret(case: Case, here: Found) -> Iterable[Repair]:
     """An entry of `with` of a called workflow, moved to `secrets`."""
     job = case.at(*here.path[:2])
     if here.key is None or job is None or here.path[2:3] != ("with",) or len(here.path) != 4:
         return
     secrets, text = job.get("secrets"), f"{here.key.value}: {case.slice(here.value.span)}"
-    removed = without_entry(case, here.parent, here.key) if len(here.parent.entries) > 1 else without_key(case, job, "with")
+    removed = moved_out(case, here, job)
     if secrets is None:
         added = next_entry(case, job, "uses", f"secrets: {{{text}}}" if job.is_flow or here.parent.is_flow else f"secrets:\n  {text}")
     elif secrets.entries:
@@ -343,12 +330,12 @@ def _value_of_variable(case: Case, name: str, span: Span) -> Iterable[Repair]:
     expression = expression_of(case)
     if value is None or expression is None or "${{" in value or "\n" in value:
         return
-    literal = "'" + value.replace("'", "''") + "'"
+    literal = quoted(value)
     if case.line[:expression.span.start.column].endswith("${{") and expression.text.strip() == case.slice(span):
         whole = Span(Point(span.start.line, expression.span.start.column - 3), Point(span.end.line, expression.span.end.column + 2))
         yield case.replace(f"replace it by its value {literal}", value, whole)
     else:
-        yield case.replace(f"replace it by its value {literal}", in_yaml(literal, expression), span)
+        yield case.replace(f"replace it by its value {literal}", in_quotes(literal, expression.style), span)
 
 
 def _by_env(case: Case, chain: tuple[str, ...], span: Span) -> Iterable[Repair]:
@@ -408,9 +395,8 @@ def moved_variable(case: Case) -> Iterable[Repair]:
     if here is None or here.key is None or job is None or here.path[2:3] != ("env",) or len(here.path) != 4:
         return
     entry = f"{here.key.value}: {case.slice(here.value.span)}"
-    steps = job.get("steps")
     edits = []
-    for step in steps.items if steps else []:
+    for step in job.items_at("steps"):
         env = step.get("env")
         flow_entry = f"{here.key.value}: {case.slice(here.value.span) if here.value.style else quoted(here.value.value)}"
         if env and env.entries:
@@ -419,8 +405,7 @@ def moved_variable(case: Case) -> Iterable[Repair]:
             edits.append(first_entry(step, f"env: {{{flow_entry}}}" if step.is_flow else f"env:\n  {entry}"))
     if not edits:
         return
-    removed = without_entry(case, here.parent, here.key) if len(here.parent.entries) > 1 else without_key(case, job, "env")
-    yield case.of("move it to the steps", removed, *edits)
+    yield case.of("move it to the steps", moved_out(case, here, job), *edits)
 
 
 REPAIRS: dict[str, tuple[Callable[[Case], Iterable[Repair]], ...]] = {

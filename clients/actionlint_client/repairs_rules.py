@@ -13,8 +13,7 @@ from .repairs_expressions import BRACES
 from .repairs_keys import deleted, fits, in_its_quotes
 from .repairs_kinds import as_list, as_mapping, list_of_lines
 from .repairs_levels import indent_of, moves
-from .stricter import takes_access
-from .syntax import table
+from .syntax import table, takes_access
 from .text import Point, Span
 from .tree import Node, last_line
 
@@ -49,9 +48,14 @@ RANGE_WITHOUT_END = re.compile(r"\[((?:\w-\w)+)(?=[^]\w-]|$)")
 
 def several_events(case: Case) -> Iterable[Repair]:
     """Several events in one text, as a list."""
-    here = case.value
-    words = re.split(r"[\s,|/]+", here.value.value.strip()) if here else []
-    if here and len(words) > 1 and all(word in names()["events"] for word in words):
+    if case.value:
+        yield from _list_of_words(case, case.value, r"[\s,|/]+", names()["events"])
+
+
+def _list_of_words(case: Case, here: Found, between: str, known: Iterable[str]) -> Iterable[Repair]:
+    """Several known words in one text, with signs that match a pattern between them, as a list or as entries of the one around it."""
+    words = re.split(between, here.value.value.strip())
+    if len(words) > 1 and all(word in known for word in words):
         text = ", ".join(words)
         yield case.replace("make it a list", text if isinstance(here.path[-1], int) else f"[{text}]", here.value.span, is_safe=True)
 
@@ -70,39 +74,25 @@ def other_event(case: Case) -> Iterable[Repair]:
 
 def near_listed(case: Case) -> Iterable[Repair]:
     """A similar name of the list, or the one that is meant by another word."""
-    known, wrong = _listed(case), case.arguments[0]
-    words = re.split(r"[\s,|]+", wrong.strip())
-    here = case.value
-    if case.code == "G2" and len(words) > 1 and here and all(word in known for word in words):
-        text = ", ".join(words)
-        yield case.replace("make it a list", text if isinstance(here.path[-1], int) else f"[{text}]", here.value.span, is_safe=True)
+    known, wrong, here = _listed(case), case.arguments[0], case.value
+    lists = list(_list_of_words(case, here, r"[\s,|]+", known)) if case.code == "G2" and here else []
+    yield from lists
+    if lists:
         return
     found = likely(wrong, known)
     others = OTHER_WORDS.get(case.code, {}).get(wrong.lower(), "")
     meant = next((name for name in others.split() if name in known), OTHER_VALUES.get(wrong.lower()))
     if case.code == "G12" and wrong in INTERPRETERS:
         return
-    there = _types_there(case, here) if case.code == "G2" and here else []
+    # the other activity types in a list
+    there = [item.value for item in here.parent.items if item.value != here.value.value] if case.code == "G2" and here else []
     if here and (meant if meant in known else found[0][0] if found else None) in there:
-        yield from _without_type(case, here)
+        yield case.of(f'delete "{here.value.value}"', _without_item(here.parent, here.value), deletes=True)
         return
     if meant in known and not any(is_slip for _, is_slip in found):
         yield in_its_quotes(case, str(meant))
         return
     yield from (in_its_quotes(case, name, is_slip) for name, is_slip in found if name not in there)
-
-
-def _types_there(case: Case, here: Found) -> list[str]:
-    """The other activity types in a list."""
-    types = case.at(*here.path[:-1]) if isinstance(here.path[-1], int) else None
-    return [item.value for item in types.items if item.value != here.value.value] if types else []
-
-
-def _without_type(case: Case, here: Found) -> Iterable[Repair]:
-    """The list without a type that stands for one that the list has too."""
-    types = case.at(*here.path[:-1])
-    if types:
-        yield case.of(f'delete "{here.value.value}"', _without_item(types, here.value), deletes=True)
 
 
 def _listed(case: Case) -> list[str]:
@@ -122,8 +112,7 @@ def _listed(case: Case) -> list[str]:
 
 
 def access_to_all(case: Case) -> Iterable[Repair]:
-    """One access level for all scopes, as a text in place of the scopes, or none of them; or a scope and its level, with a colon between
-    them."""
+    """One access level for all scopes, as a text in place of them, or none of them; or a scope and its level, with a colon between them."""
     here = case.value
     pair = re.fullmatch(r"([\w-]+)( +|:)([\w-]+)", case.arguments[0])
     if here and pair and pair[1] in names()["permission scopes"] and not here.value.style:
@@ -216,31 +205,21 @@ def _jobs_without_key(case: Case) -> list[str]:
     return list(dict.fromkeys(item.value for item in _needs(case) if item.value not in jobs))
 
 
-def _steps_of(case: Case) -> list[Node]:
-    """The steps of the fault's job, or of the action."""
-    steps = case.at("jobs", case.job, "steps") if case.job else case.at("runs", "steps")
-    return list(steps.items) if steps else []
+def _names_used(case: Case) -> list[tuple[str, ...]]:
+    """The names of the chains in the expressions of the fault's job, or of the action."""
+    job = case.at("jobs", case.job) if case.job else case.at("runs")
+    return [chain.names for chain in case.chains_between(job.start, job.end)] if job else []
 
 
 def _ids_without_step(case: Case) -> list[str]:
     """The ids in expressions that no step of the fault's job has."""
-    job = case.at("jobs", case.job) if case.job else case.at("runs")
-    ids = [step.text("id") for step in _steps_of(case)]
-    used = [chain.names for chain in case.chains_between(job.start, job.end)] if job else []
-    return list(dict.fromkeys(names[1] for names in used if len(names) > 2 and names[0].lower() == "steps" and names[1] not in ids))
-
-
-def _outputs_of(case: Case, name: str) -> list[str]:
-    """The outputs that the expressions of the fault's job ask of a step."""
-    job = case.at("jobs", case.job) if case.job else case.at("runs")
-    used = [chain.names for chain in case.chains_between(job.start, job.end)] if job else []
-    return [names[3] for names in used if len(names) > 3 and (names[0].lower(), names[1]) == ("steps", name)]
+    ids = [step.text("id") for step in files.steps_of(case.tree, case.job)]
+    return list(dict.fromkeys(names[1] for names in _names_used(case)
+                              if len(names) > 2 and names[0].lower() == "steps" and names[1] not in ids))
 
 
 def _needs(case: Case) -> Iterable[Node]:
-    """The entries of all `needs`."""
-    jobs = case.at("jobs")
-    for _, job in jobs.entries if jobs else ():
+    for _, job in case.tree.entries_at("jobs") if case.tree else ():
         node = job.get("needs")
         if node:
             yield from node.items or [node]
@@ -252,8 +231,10 @@ def another_id(case: Case) -> Iterable[Repair]:
     here = case.key or case.value
     node = here.key if here and case.key and here.key else here.value if here else None
     used = _ids_without_step(case)
-    asked = set(_outputs_of(case, used[0])) if len(used) == 1 and not case.key else set()
-    same = [step for step in _steps_of(case) if node and step.text("id") == node.value]
+    # the outputs that expressions ask of the id
+    of_id = [one for one in _names_used(case) if len(one) > 3 and (one[0].lower(), one[1]) == ("steps", used[0])] if len(used) == 1 else []
+    asked = {one[3] for one in of_id} if not case.key else set()
+    same = [step for step in files.steps_of(case.tree, case.job) if node and step.text("id") == node.value]
     wrong = next((one for one in same if asked & set(files.written_outputs(one))), None)
     if wrong is None and here and len(used) == 1 and not case.key and not files.written_outputs(here.parent):
         wrong = here.parent
@@ -274,10 +255,7 @@ def near_job(case: Case) -> Iterable[Repair]:
         jobs = [name for name in case.tree.names("jobs") if name != case.job]
         if any(case.arguments[0] in name.split() for name in jobs):
             return
-        words = re.split(r"[\s,;&|]+", here.value.value.strip())
-        if len(words) > 1 and all(word in jobs for word in words):
-            text = ", ".join(words)
-            yield case.replace("make it a list", text if isinstance(here.path[-1], int) else f"[{text}]", here.value.span, is_safe=True)
+        yield from _list_of_words(case, here, r"[\s,;&|]+", jobs)
         found = likely(case.arguments[0], jobs)
         asked = [name for name in _jobs_asked_for(case) if name in jobs]
         found = [(asked[0], False)] if len(asked) == 1 and not any(is_slip for _, is_slip in found) else found
@@ -288,11 +266,9 @@ def near_job(case: Case) -> Iterable[Repair]:
 
 def _jobs_asked_for(case: Case) -> list[str]:
     """The jobs whose results the expressions of the fault's job read and its `needs` lacks."""
-    job = case.at("jobs", case.job) if case.job else None
-    if job is None or case.tree is None or case.job is None:
+    if case.tree is None or case.job is None:
         return []
-    chains = [chain.names for chain in case.chains_between(job.start, job.end) if len(chain.names) > 1]
-    used = dict.fromkeys(names[1] for names in chains if names[0].lower() == "needs")
+    used = dict.fromkeys(names[1] for names in _names_used(case) if len(names) > 1 and names[0].lower() == "needs")
     return [name for name in used if name not in files.needed(case.tree, case.job)]
 
 
@@ -350,8 +326,7 @@ def list_of_row(case: Case) -> Iterable[Repair]:
 
 
 def _entries_of_text(text: str) -> list[str]:
-    """The entries of a list that is written as a text: between commas, on lines of their own, or as versions and labels beside each
-    other."""
+    """The entries of a list that is written as a text: between commas, on lines of their own, or versions and labels beside each other."""
     text = text.strip()
     text = text[1:-1] if text[:1] == "(" and text[-1:] == ")" else text.rstrip("]") if "[" not in text else text
     words = text.split()
@@ -394,13 +369,8 @@ def right_variable(case: Case) -> Iterable[Repair]:
         return
     name = re.sub(r"\W+", "_", here.key.value.strip(), flags=re.A).strip("_") or "NAME"
     if here.parent.get(name) is None:
-        yield case.of(f'change to "{name}"', Edit(here.key.span, name), *_uses_of_variable(case, here.key.value, name))
-
-
-def _uses_of_variable(case: Case, wrong: str, name: str) -> Iterable[Edit]:
-    for chain in case.chains_between(case.tree.start, case.tree.end) if case.tree else ():
-        if chain.names == ("env", wrong):
-            yield Edit(chain.span, f"env.{name}")
+        uses = (chain for chain in case.chains_between(case.tree.start, case.tree.end) if chain.names == ("env", here.key.value))
+        yield case.of(f'change to "{name}"', Edit(here.key.span, name), *(Edit(chain.span, f"env.{name}") for chain in uses))
 
 
 def secret_password(case: Case) -> Iterable[Repair]:
@@ -425,8 +395,7 @@ def secret_password(case: Case) -> Iterable[Repair]:
 def with_shell(case: Case) -> Iterable[Repair]:
     """The shell of the action's other steps, or else bash."""
     here = case.key
-    steps = case.at("runs", "steps")
-    used = [step.text("shell") for step in (steps.items if steps else []) if step.text("shell")]
+    used = [shell for step in files.steps_of(case.tree, None) if (shell := step.text("shell"))]
     if here:
         shell = max(used, key=used.count) if used else "bash"
         yield case.of(f'add "shell: {shell}"', next_entry(case, here.parent, "run", f"shell: {shell}"))
@@ -441,8 +410,7 @@ def output_value(case: Case) -> Iterable[Repair]:
     if meant:
         yield case.replace(f'change "{meant.value}" to "value"', "value", meant.span)
         return
-    steps = case.at("runs", "steps")
-    ids = [step.text("id") for step in (steps.items if steps else []) if step.text("id")]
+    ids = [name for step in files.steps_of(case.tree, None) if (name := step.text("id"))]
     value = "${{ steps.%s.outputs.%s }}" % (ids[-1], here.key.value) if ids else "''"
     title = 'add "value", ' + (f'from the step "{ids[-1]}"' if ids else "empty")
     if here.value.kind == "mapping" and here.value.entries:

@@ -60,8 +60,7 @@ def _of_day(match: re.Match[str]) -> str:
 
 
 def _bounded(field: str, most: int) -> str:
-    """A field in which the value after the greatest one, such as the hour 24, is 0. A step is at least 1, and no greater than the greatest
-    value."""
+    """A field in which the value after the greatest one, such as the hour 24, is 0, and a step is from 1 up to the greatest value."""
 
     def bounded(match: re.Match[str]) -> str:
         value = int(match[0])

@@ -4,8 +4,7 @@ from __future__ import annotations
 import re
 from typing import Callable, Iterable, NamedTuple
 
-from .quoting import EXPRESSION, open_in_bash, quote_in_line
-from .repair import Case, Edit, Found, Repair, first_entry, next_entry, quoted
+from .repair import Case, Edit, Found, Repair, first_entry, in_quotes, next_entry, quoted, without_quotes
 from .repairs_expressions import BRACES
 from .text import Point, Span
 
@@ -40,6 +39,10 @@ CALL_OF_TEXT = re.compile(r"(\w+)\(\s*([\w.-]+)\s*(?:,\s*'([^']*)'\s*,\s*'([^']*
 SHELL_COMMANDS = {"replace": "sed 's|{0}|{1}|g'", "tolower": "tr '[:upper:]' '[:lower:]'", "lower": "tr '[:upper:]' '[:lower:]'",
                   "tolowercase": "tr '[:upper:]' '[:lower:]'", "touppercase": "tr '[:lower:]' '[:upper:]'",
                   "toupper": "tr '[:lower:]' '[:upper:]'", "upper": "tr '[:lower:]' '[:upper:]'", "trim": "xargs"}
+HEREDOC = re.compile(r"<<-?[ \t]*(\\?)(['\"]?)([A-Za-z_]\w*)\2")
+EXPRESSION = re.compile(r"\$\{\{(?:[^$}]|\$(?!\{\{)|\}(?!\}))*\}\}")
+# Commands that only print or store what they read.
+READERS = re.compile(r"(?:^|[;&|(]|\$\()\s*(?:cat|tee)\b[^;&|]*$")
 
 
 class Place(NamedTuple):
@@ -61,8 +64,7 @@ def place_of(case: Case) -> Place | None:
     span = Span.on_line(case.span.start.line, match.start(), match.end())
     start = here.value.span.start
     start = Point(start.line + 1, 0) if here.value.style in ("|", ">") else Point(start.line, start.column + bool(here.value.style))
-    before = case.slice(Span(start, span.start))
-    before = before.replace("''", "'") if here.value.style == "'" else before.replace('\\"', '"') if here.value.style == '"' else before
+    before = without_quotes(case.slice(Span(start, span.start)), here.value.style)
     return Place(here, match, span, before, case.shell_of(here))
 
 
@@ -117,15 +119,9 @@ def _uses(case: Case, place: Place, name: str) -> list[Edit]:
     span = place.span
     if used in (f"'\"${name}\"'", f"'$env:{name}'"):
         if not (place.before.endswith("'") and after.startswith("'")) or place.script.value.style == "'":
-            return [Edit(span, _in_style(used, place))] if place.shell in POSIX else []
+            return [Edit(span, in_quotes(used, place.script.value.style))] if place.shell in POSIX else []
         used, span = used[1:-1], Span.on_line(span.start.line, span.start.column - 1, span.end.column + 1)
-    return [Edit(span, _in_style(used, place))]
-
-
-def _in_style(text: str, place: Place) -> str:
-    """A text as the script's quotes in YAML ask for."""
-    style = place.script.value.style
-    return text.replace("'", "''") if style == "'" else text.replace('"', '\\"') if style == '"' else text
+    return [Edit(span, in_quotes(used, place.script.value.style))]
 
 
 def _in_bash(place: Place, name: str, after: str) -> str | None:
@@ -291,3 +287,86 @@ REPAIRS: dict[str, tuple[Callable[[Case], Iterable[Repair]], ...]] = {
     "X9": (computed_by_shell,),
     "X19": (by_variable,),
 }
+
+
+class Open(NamedTuple):
+    """The quote that is open, and for a here-document, whether it is quoted and whether a command like `cat` reads it."""
+
+    quote: str = ""
+    in_document: bool = False
+    is_quoted: bool = False
+    is_read: bool = True
+
+
+class _Document(NamedTuple):
+    word: str
+    is_quoted: bool
+    is_read: bool
+
+
+def open_in_bash(script: str) -> Open:
+    """What is open at the end of the beginning of a script of a POSIX shell."""
+    script = EXPRESSION.sub(lambda match: "x" * len(match[0]), script)
+    stack: list[str] = []
+    waiting: list[_Document] = []
+    at = 0
+    while at < len(script):
+        sign, top = script[at], stack[-1] if stack else ""
+        if top == "'":
+            if sign == "'":
+                stack.pop()
+        elif sign == "\\":
+            at += 1
+        elif script.startswith("$(", at):
+            stack.append(")")
+            at += 1
+        elif sign == top and top:
+            stack.pop()
+        elif top != '"' and sign in "'\"":
+            stack.append(sign)
+        elif top != '"' and sign == "(":
+            stack.append(")")
+        elif top != '"' and sign == "#" and script[at - 1:at] in ("", " ", "\t", "\n", ";"):
+            at = _end_of_line(script, at) - 1
+        elif top != '"' and script.startswith("<<", at) and not script.startswith("<<<", at):
+            at += _note_document(script, at, waiting)
+        elif sign == "\n" and waiting:
+            at = _after_documents(script, at + 1, waiting) - 1
+            if waiting:
+                return Open("", True, waiting[0].is_quoted, waiting[0].is_read)
+        at += 1
+    return Open(next((sign for sign in reversed(stack) if sign != ")"), "") if stack and stack[-1] != ")" else "")
+
+
+def _end_of_line(script: str, at: int) -> int:
+    end = script.find("\n", at)
+    return len(script) if end < 0 else end
+
+
+def _note_document(script: str, at: int, waiting: list[_Document]) -> int:
+    """Adds the here-document that is announced at an offset, and returns how many more characters that takes."""
+    match = HEREDOC.match(script, at)
+    if match is None:
+        return 1
+    before = script[script.rfind("\n", 0, at) + 1:at]
+    waiting.append(_Document(match[3], bool(match[1] or match[2]), READERS.search(before) is not None))
+    return len(match[0]) - 1
+
+
+def _after_documents(script: str, at: int, waiting: list[_Document]) -> int:
+    """The offset after the here-documents that end in the script, which are taken out."""
+    while waiting and at < len(script):
+        end = _end_of_line(script, at)
+        if script[at:end].strip() == waiting[0].word and end < len(script):
+            waiting.pop(0)
+        at = end + 1
+    return min(at, len(script))
+
+
+def quote_in_line(line: str) -> str:
+    """The quote that is open at the end of the beginning of a line, for shells whose strings end with their line."""
+    quote = ""
+    for sign in EXPRESSION.sub("x", line):
+        if quote in ("", sign) and sign in "'\"":
+            quote = "" if quote else sign
+    return quote

@@ -6,8 +6,8 @@ import re
 from typing import Callable, Iterable, Sequence
 
 from .expressions import NAME, STRING
-from .repair import Case, Repair
-from .repairs_expressions import TWO_QUOTES, arguments_at, expression_of, in_yaml, is_compared, is_in_condition, is_operand
+from .repair import Case, Repair, in_quotes
+from .repairs_expressions import arguments_at, expression_of, is_compared, is_in_condition, is_operand
 from .syntax import table
 from .text import Point, Span
 from .tree import Node
@@ -77,14 +77,17 @@ def all_results(case: Case) -> Iterable[Repair]:
 
 
 def as_json(case: Case) -> Iterable[Repair]:
-    """The value as a text, except in a condition, where a text is always true."""
+    """The value as a text, or its name if each has one, except in a condition, where a text is always true."""
     chain, span = case.chain
     if is_in_condition(case) and case.code == "X18" or chain[:2] == ("needs", "*") and chain[2:3] not in (("result",), ("outputs",)):
         return
     if chain:
         joined = list(_joined(case, chain, span)) if span.end.column > span.start.column else []
-        yield from joined if _is_list_of_texts(case, chain) else ()
-        yield from _by_its_name(case, chain, span)
+        values = _values_of_row(case, chain)
+        has_lists = all(value.items and all(item.kind == "scalar" for item in value.items) for value in values)
+        yield from joined if values and has_lists else ()
+        if values and all(value.text("name") for value in values):
+            yield case.replace(f"change to {case.slice(span)}.name", f"{case.slice(span)}.name", span)
         yield case.replace("convert it to JSON", f"toJSON({case.slice(span)})", span)
         yield from joined if "*" in chain else ()
     elif (expression := expression_of(case)) and expression.text.strip():
@@ -95,21 +98,8 @@ def _joined(case: Case, chain: Sequence[str], span: Span) -> Iterable[Repair]:
     """The entries of a list as a text, with commas between them; with spaces only in a script, if the matrix has the list."""
     expression, here = expression_of(case), case.scalar
     between = "' '" if here and here.path[-1:] == ("run",) and chain[0].lower() == "matrix" else "', '"
-    literal = in_yaml(between, expression) if expression else between
+    literal = in_quotes(between, expression.style) if expression else between
     yield case.replace("join its entries", f"join({case.slice(span)}, {literal})", span)
-
-
-def _is_list_of_texts(case: Case, chain: Sequence[str]) -> bool:
-    """Whether each value of a matrix's row is a list of texts."""
-    values = _values_of_row(case, chain)
-    return bool(values) and all(value.items and all(item.kind == "scalar" for item in value.items) for value in values)
-
-
-def _by_its_name(case: Case, chain: Sequence[str], span: Span) -> Iterable[Repair]:
-    """The name of a row's value, if each is a mapping that has one."""
-    values = _values_of_row(case, chain)
-    if values and all(value.text("name") for value in values):
-        yield case.replace(f"change to {case.slice(span)}.name", f"{case.slice(span)}.name", span)
 
 
 def _values_of_row(case: Case, chain: Sequence[str]) -> list[Node]:
@@ -117,8 +107,7 @@ def _values_of_row(case: Case, chain: Sequence[str]) -> list[Node]:
     matrix = case.at("jobs", case.job, "strategy", "matrix") if case.job else None
     if matrix is None or len(chain) != 2 or chain[0].lower() != "matrix":
         return []
-    row, include = matrix.get(chain[1]), matrix.get("include")
-    return [*(row.items if row else ()), *(value for item in (include.items if include else ()) if (value := item.get(chain[1])))]
+    return [*matrix.items_at(chain[1]), *(value for item in matrix.items_at("include") if (value := item.get(chain[1])))]
 
 
 def of_a_ref(case: Case) -> Iterable[Repair]:
@@ -141,7 +130,7 @@ def fewer_arguments(case: Case) -> Iterable[Repair]:
     expression = expression_of(case)
     if expression and name.lower() == "contains" and len(literals) == len(arguments) - 1 > 1 and not STRING.fullmatch(arguments[-1]):
         texts = ", ".join(f'"{text}"' for text in literals)
-        listed = in_yaml(f"fromJSON('[{texts}]')", expression) + f", {arguments[-1]}"
+        listed = in_quotes(f"fromJSON('[{texts}]')", expression.style) + f", {arguments[-1]}"
         yield case.replace("make a list of the texts", listed, Span.on_line(case.span.start.line, start, end))
         return
     if name.lower() in ("contains", "startswith", "endswith") and len(arguments) > 2:
@@ -173,7 +162,7 @@ def right_format(case: Case) -> Iterable[Repair]:
         return
     (text, *arguments), span = call
     numbers = {int(number) for number in PLACEHOLDER.findall(text)}
-    quote = TWO_QUOTES if text.startswith(TWO_QUOTES) else "'"
+    quote = "''" if text.startswith("''") else "'"
     unused = [number for number in range(len(arguments)) if number not in numbers]
     places = "".join(f" {{{number}}}" for number in unused)
     tries = [("number the placeholders", [_numbered(text, len(arguments)), *arguments]),
@@ -189,8 +178,7 @@ def right_format(case: Case) -> Iterable[Repair]:
 
 
 def _numbered(text: str, count: int) -> str:
-    """A text with its placeholders numbered: those without a number one after another, or as many different ones as arguments by their
-    order."""
+    """A text with its placeholders numbered: those without one in turn, or as many different ones as arguments by their order."""
     used = sorted({int(number) for number in PLACEHOLDER.findall(text)})
     if used:
         order = {number: place for place, number in enumerate(used)}

@@ -12,12 +12,12 @@ from .repair import COMMENT, Case, Edit, Repair, known_keys, quoted
 from .repairs_blocks import CLOSERS, open_brackets
 from .repairs_expressions import title_of
 from .repairs_levels import indent_of, moved_line
-from .repairs_script_lines import MAX_LINES_ABOVE, as_block, script_below, script_in_lines, script_without_sign, text_in_script
-from .repairs_spaces import (MAX_LINES_OF_LIST, plain_spaces, spaces_for_tabs, with_colon, with_dash, with_space, with_spaced_items,
-                             without_spaces_after_dash)
+from .repairs_lines import (MAX_LINES_ABOVE, MAX_LINES_OF_LIST, as_block, plain_spaces, script_below, script_in_lines, script_without_sign,
+                            spaces_for_tabs, text_in_script, with_colon, with_dash, with_space, with_spaced_items,
+                            without_spaces_after_dash)
 from .scripts import expressions_in
 from .syntax import shape_at
-from .text import Point, Span
+from .text import Point, Span, end_of
 
 FLOW_ITEM = re.compile(r"[^,\[\]{}]*")
 KEY_IN_BRACKETS = re.compile(r"\s*[\w-]+: +")
@@ -121,18 +121,13 @@ def _quoted_item(case: Case) -> Iterable[Repair]:
     start = max(line.rfind(sign, 0, text_start) for sign in "[{,") + 1
     key = KEY_IN_BRACKETS.match(line, start)
     start = key.end() if key and key.end() <= text_start else start + len(line[start:]) - len(line[start:].lstrip())
-    ends = [_end_of_item(line, max(column + 1, start)), *(match.end() for match in re.finditer(r"\}\}", line)),
+    ends = [end_of(FLOW_ITEM, line, max(column + 1, start)), *(match.end() for match in re.finditer(r"\}\}", line)),
             line.find(", ", column), line.rfind("]")]
     for end in dict.fromkeys(end for end in ends if end > column):
         text = line[start:end].rstrip()
         if text and start <= column and not _opens_quote(text):
             span = Span.on_line(case.span.start.line, start, start + len(text))
             yield case.replace("put it in quotes", quoted(text), span)
-
-
-def _end_of_item(line: str, start: int) -> int:
-    match = FLOW_ITEM.match(line, start)
-    return match.end() if match else start
 
 
 def pair_below(case: Case) -> Iterable[Repair]:
@@ -312,20 +307,14 @@ def brackets_closed_above(case: Case) -> Iterable[Repair]:
             last = next((one for one in range(number - 1, line, -1) if case.lines[one].strip()), line)
             lines = case.outline.lines[line + 1:last + 1]
             is_list = last > line and all(below.indent > case.outline.lines[line].indent for below in lines)
-            end = _end_of_text(case.lines[last]) if is_list else span.end.column
+            end = len(COMMENT.sub("", case.lines[last])) if is_list else span.end.column
             here = Point(last if is_list else line, end)
             open_signs = open_brackets(case.slice(Span(span.start, here)))
             yield case.replace("close the bracket", "".join(CLOSERS[sign] for sign in reversed(open_signs)), Span.at(here))
 
 
-def _end_of_text(line: str) -> int:
-    """Where the text of a line ends, before a comment."""
-    return len(COMMENT.sub("", line))
-
-
 def as_expression(case: Case) -> Iterable[Repair]:
-    """A condition that begins in double quotes, as in a shell, or with `!` before its braces, as one expression; or one whose braces lack
-    the dollar."""
+    """A condition in double quotes, as in a shell, or with `!` before its braces, as one expression; or one whose braces lack a dollar."""
     span = case.rest_span(case.span.start.line)
     text = case.slice(span).strip() if span else ""
     is_one = text.endswith("}}") and text.count("{{") == 1

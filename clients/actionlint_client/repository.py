@@ -4,20 +4,18 @@ from __future__ import annotations
 from dataclasses import dataclass, field
 from functools import cached_property
 
-from .actions_on_disk import actions_below
 from .diagnostics import Diagnostics
-from .earlier import Earlier, is_no_yaml
+from .disk import actions_below
 from .editor import Editor
-from .faults import NO_FAULTS, FileFaults
+from .faults import NO_FAULTS, Fault, FileFaults
 from .folder import REASONS, TOO_LARGE, Folder, Result
 from .ignoring import Ignored
-from .positions import Lines
-from .project import Project
+from .paths import uri_of
+from .positions import Lines, lines_of
 from .problems import Problem
+from .project import Project
 from .protocol import Position, Range
-from .report import Fault
 from .script_checks import ScriptChecks
-from .uris import uri_of
 
 NOTHING = Result({}, {}, set())
 OF_SIZE = {"Y14", "Y15", "X5"}
@@ -49,10 +47,6 @@ class Document:
 
     def found(self) -> FileFaults:
         return self.repository.result.faults.get(self.path, NO_FAULTS)
-
-    def faults(self) -> tuple[Fault, ...]:
-        """The first 1,000 faults."""
-        return self.found().faults
 
     def earlier(self) -> FileFaults:
         """While the file isn't valid YAML, the faults on other lines that it had when it last was."""
@@ -228,3 +222,35 @@ class Repository:
 
 def _key(position: Position) -> tuple[int, int]:
     return position["line"], position["character"]
+
+
+def is_no_yaml(found: FileFaults) -> bool:
+    """Whether a file's one fault is that it isn't valid YAML."""
+    return len(found.faults) == 1 and found.faults[0].code.startswith("Y")
+
+
+@dataclass(frozen=True)
+class Earlier:
+    """A text, and the faults of the last valid YAML whose lines the text still has."""
+
+    data: bytes
+    found: FileFaults
+
+    def in_text(self, data: bytes) -> Earlier:
+        """The same for the text after an edit, whose own lines are those between the common prefix and the common suffix of both texts."""
+        before, after = lines_of(self.data), lines_of(data)
+        most = min(len(before), len(after))
+        prefix = next((number for number in range(most) if before[number] != after[number]), most)
+        suffix = next((number for number in range(most - prefix) if before[-1 - number] != after[-1 - number]), most - prefix)
+        moved = []
+        for fault in self.found.faults:
+            if fault.line <= prefix:
+                moved.append(fault)
+            elif fault.line > len(before) - suffix:
+                moved.append(fault._replace(line=fault.line + len(after) - len(before)))
+        return Earlier(data, FileFaults(tuple(moved), self.found.more))
+
+    def beside(self, found: FileFaults) -> FileFaults:
+        """Those that aren't on a line with one of the given faults."""
+        lines = {fault.line for fault in found.faults}
+        return FileFaults(tuple(fault for fault in self.found.faults if fault.line not in lines), self.found.more)

@@ -8,8 +8,8 @@ from urllib.parse import quote
 from .characters import json_text, shown
 from .entries import explained, markdown_of, plain_text, title_of
 from .forms import Form, Outcome
+from .output import version
 from .problems import ERROR, Problem
-from .version import version
 
 if TYPE_CHECKING:
     from .repair import Edit, Repair

@@ -17,9 +17,9 @@ from pathlib import Path
 from typing import Callable, NamedTuple, TypedDict
 
 from .child import LinterEnded
+from .faults import Fault
 from .problems import Problem
 from .reader import Reader, Started
-from .report import Fault
 from .shellcheck import ShellcheckFailed, notes_of_text, problem_of_note
 from .shellcheck_run import PROGRAM
 
@@ -75,7 +75,6 @@ class ScriptChecks:
         self._thread: threading.Thread | None = None
 
     def arguments(self, key: Key) -> list[str]:
-        """The arguments of the process."""
         return [self._linter, key[1]]
 
     def problem(self, path: str, note: WrittenNote) -> Problem:
@@ -83,8 +82,7 @@ class ScriptChecks:
         return problem_of_note(fault, note["code"], note["level"])
 
     def notes(self, key: Key, data: bytes) -> tuple[Problem, ...]:
-        """The notes on a text. While they aren't known, there are none, and the text is checked after a pause; a check of an earlier text
-        of this file is stopped."""
+        """The notes on a text, none while they aren't known. Then it is checked after a pause, and a check of another one is stopped."""
         if not self.is_on:
             return ()
         with self._changed:
@@ -198,19 +196,25 @@ def stop(number: int, _: object) -> None:
     sys.exit(128 + number)
 
 
-def main(words: list[str]) -> int:
+def check(find: Callable[[bytes], list[WrittenNote]], *failures: type[Exception]) -> int:
+    """Writes the notes on standard input, or why there are none, and returns the status of the process, which doesn't hold up others."""
     signal.signal(signal.SIGTERM, stop)
     os.nice(NICENESS)
-    unchecked: list[WrittenNote] = []
-    reader = Reader(Started(words[0], SECONDS_OF_AN_ANSWER))
     try:
-        found = notes_of_text(reader, words[1], sys.stdin.buffer.read(), lambda fault: unchecked.append(written(fault, UNCHECKED, "note")))
-        notes = [written(one.fault, one.code, one.level) for one in found]
-    except (LinterEnded, ShellcheckFailed) as error:
+        json.dump(find(sys.stdin.buffer.read()), sys.stdout)
+    except failures as error:
         print(error, file=sys.stderr)
         return 3
-    json.dump([*notes, *unchecked], sys.stdout)
     return 0
+
+
+def main(words: list[str]) -> int:
+    def find(data: bytes) -> list[WrittenNote]:
+        unchecked: list[WrittenNote] = []
+        reader = Reader(Started(words[0], SECONDS_OF_AN_ANSWER))
+        found = notes_of_text(reader, words[1], data, lambda fault: unchecked.append(written(fault, UNCHECKED, "note")))
+        return [*(written(one.fault, one.code, one.level) for one in found), *unchecked]
+    return check(find, LinterEnded, ShellcheckFailed)
 
 
 if __name__ == "__main__":

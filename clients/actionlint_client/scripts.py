@@ -1,4 +1,4 @@
-"""The scripts of a workflow or an action, and the place of each of their characters in the file."""
+"""The scripts of a workflow or an action, the shell of each, and the place of each of their characters in the file."""
 from __future__ import annotations
 
 import re
@@ -6,12 +6,13 @@ from bisect import bisect_right
 from dataclasses import dataclass
 from typing import Callable, Iterator, Sequence
 
-from .shells import command_of, default_shell, ends_at_failure, name_of
 from .tree import Node
 
 SHELLS = ("bash", "sh")
 # A string, its first quote if it isn't closed, or closing braces.
 STRING_OR_END = re.compile(r"'[^']*(?:''[^']*)*'|'|\}\}")
+# Options of a shell that are joined, such as `-euo`.
+JOINED = re.compile(r"-[A-Za-z]+")
 
 
 @dataclass(frozen=True)
@@ -40,11 +41,11 @@ class Script:
 
 def scripts_of(root: Node, data: bytes) -> list[Script]:
     """The scripts of a file, each once."""
-    jobs = [job for _, job in at.entries] if (at := root.get("jobs")) else []
-    steps = [(command_of(step, ""), step) for step in _items(root.get("runs", "steps"))]
+    jobs = [job for _, job in root.entries_at("jobs")]
+    steps = [(command_of(step, ""), step) for step in root.items_at("runs", "steps")]
     for job in jobs:
         default = default_shell(root, job)
-        steps += [(command_of(step, default), step) for step in _items(job.get("steps"))]
+        steps += [(command_of(step, default), step) for step in job.items_at("steps")]
     scripts: dict[int, tuple[str, Node]] = {}
     for command, step in steps:
         run = step.get("run")
@@ -54,10 +55,6 @@ def scripts_of(root: Node, data: bytes) -> list[Script]:
     # Where the characters of the file begin.
     characters = range(len(data)) if data.isascii() else [at for at, byte in enumerate(data) if byte & 0xC0 != 0x80]
     return [_script(command, node, characters) for command, node in scripts.values()]
-
-
-def _items(node: Node | None) -> list[Node]:
-    return node.items if node else []
 
 
 def _script(command: str, node: Node, characters: Sequence[int]) -> Script:
@@ -113,3 +110,62 @@ def _closing_braces(text: str, start: int) -> int:
     """The offset of the closing braces of an expression, -1 without any."""
     found = next((token for token in STRING_OR_END.finditer(text, start) if token[0] in ("}}", "'")), None)
     return found.start() if found and found[0] == "}}" else -1
+
+
+def default_shell(tree: Node, job: Node | None) -> str:
+    """The shell of steps that name none: that of the job, the workflow or the runner. Empty if that isn't known, and in an action."""
+    named = (node.text("defaults", "run", "shell") for node in (job, tree) if node)
+    return next(filter(None, named), "") or (_shell_of_runner(job) if job else "")
+
+
+def command_of(step: Node, default: str) -> str:
+    """The command that runs a step's script: the name of a shell, or one with options and `{0}` for the script's file."""
+    return step.text("shell") or default
+
+
+def name_of(command: str) -> str:
+    """The name of a command's shell, without its directory and its options."""
+    return command.split(" ")[0].rpartition("/")[2]
+
+
+def shell_of(step: Node, default: str) -> str:
+    return name_of(command_of(step, default))
+
+
+def ends_at_failure(command: str) -> bool:
+    """Whether `bash` or `sh` ends at the first command that fails. The runner asks for that where only the shell's name is given."""
+    _, *options = command.split()
+    if not options:
+        return True
+    return any(JOINED.fullmatch(word) and "e" in word for word in options) or ("-o", "errexit") in zip(options, options[1:])
+
+
+def _shell_of_runner(job: Node) -> str:
+    if job.get("container"):
+        return "sh"
+    labels = texts_in(job.get("runs-on"))
+    if _has_windows(labels):
+        return "pwsh"
+    is_computed = any("${{" in label for label in labels)
+    return "" if is_computed and _has_windows(texts_in(job.get("strategy"))) else "bash"
+
+
+def _has_windows(labels: list[str]) -> bool:
+    return any("windows" in label.lower() for label in labels)
+
+
+def texts_in(node: Node | None) -> list[str]:
+    """The scalars of a node, except keys. Each node is visited once, since aliases can share it."""
+    found: list[str] = []
+    seen: set[int] = set()
+    waiting = [node] if node else []
+    while waiting:
+        one = waiting.pop()
+        one = one.origin
+        if id(one) in seen:
+            continue
+        seen.add(id(one))
+        if one.kind == "scalar":
+            found.append(one.value)
+        waiting += [*(value for _, value in one.entries), *one.items]
+    return found

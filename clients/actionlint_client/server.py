@@ -27,16 +27,15 @@ from .limit import LIMIT, TooSlow
 from .messages import Messages, Wake
 from .navigation import MOVES, Navigation
 from .notes.checks import NoteChecks
+from .output import version
+from .paths import path_of
 from .program import find_program
-from .protocol import (Capabilities, Feature, FileEvent, Handler, InitializeResult, Message, TextDocumentContentChangeEvent,
-                       TextDocumentIdentifier, TextDocumentItem, VersionedTextDocumentIdentifier, WorkspaceFolder,
-                       WorkspaceFoldersChangeEvent)
+from .protocol import (Capabilities, Feature, Handler, InitializeResult, Message, TextDocumentContentChangeEvent, TextDocumentIdentifier,
+                       TextDocumentItem, VersionedTextDocumentIdentifier, WorkspaceFoldersChangeEvent)
 from .repository import Repository
 from .script_checks import ScriptChecks
 from .streams import waiting_input, waiting_output
 from .symbols import Symbols
-from .uris import path_of
-from .version import version
 from .workspace import Workspace
 
 FULL_TEXT = 1
@@ -95,7 +94,7 @@ class Server:
         }
         self._requests: dict[str, Handler] = {}
         for feature in self._features:
-            self._requests.update(feature.handlers())
+            self._requests.update(feature.handlers)
 
     def run(self) -> int:
         """Serves until the editor says `exit` or its input ends. The status is 0 if it said `shutdown` before, else 1."""
@@ -150,8 +149,9 @@ class Server:
             raise JsonRpcMethodNotFound.of(method)
         return self._handlers[method](**(parameters or {}))
 
-    def _initialize(self, rootUri: str | None = None, rootPath: str | None = None, workspaceFolders: list[WorkspaceFolder] | None = None,
-                    capabilities: Capabilities | None = None, initializationOptions: object = None, **_: object) -> InitializeResult:
+    def _initialize(self, rootUri: str | None = None, rootPath: str | None = None,
+                    workspaceFolders: list[TextDocumentIdentifier] | None = None, capabilities: Capabilities | None = None,
+                    initializationOptions: object = None, **_: object) -> InitializeResult:
         uris = [folder["uri"] for folder in workspaceFolders or []] or ([rootUri] if rootUri else [])
         self._named = _paths_of(uris)
         if not uris and rootPath:
@@ -201,7 +201,7 @@ class Server:
     def _close(self, textDocument: TextDocumentIdentifier, **_: object) -> None:
         self._workspace.close(textDocument["uri"])
 
-    def _take_changed_files(self, changes: list[FileEvent], **_: object) -> None:
+    def _take_changed_files(self, changes: list[TextDocumentIdentifier], **_: object) -> None:
         self._workspace.take_changed_files([change["uri"] for change in changes])
         self._workspace.renew_notes(self._notes)
 

@@ -7,10 +7,10 @@ from concurrent.futures import Future, ThreadPoolExecutor
 from typing import Callable, Iterable, Iterator, NamedTuple
 
 from .disk import Disk
+from .faults import Fault
 from .linter_limits import MAX_FILE_BYTES
 from .problems import Problem
 from .reader import Reader
-from .report import Fault
 from .scripts import Script, scripts_of
 from .shellcheck_run import PROGRAM, Note, NotChecked, Shellcheck, ShellcheckFailed
 from .text import LINE_BREAK, Places
@@ -63,8 +63,7 @@ def notes(reader: Reader, root: str, files: list[str], refused: set[str], say: C
 
 
 def notes_of_text(reader: Reader, path: str, data: bytes, tell: Callable[[Fault], None]) -> Iterator[Problem]:
-    """The notes on the scripts of one file with this text, none if it can't be read here. `tell` is told about scripts that can't be
-    checked."""
+    """The notes on the scripts of a file with this text, none if it can't be read here. `tell` hears of scripts that can't be checked."""
     return _problems(_read(reader, path, data, lambda _: None), tell)
 
 

@@ -58,9 +58,8 @@ def part_of(project: Project, file: str) -> Part | None:
     if tree is None or tree.kind != "mapping":
         return None
     kind = "workflow" if is_workflow(file) else "action"
-    jobs = tree.get("jobs")
     if is_workflow(file):
-        parts = tuple(_job(key, value, lines) for key, value in (jobs.entries if jobs else ()))
+        parts = tuple(_job(key, value, lines) for key, value in tree.entries_at("jobs"))
     else:
         parts = tuple(_steps(tree.get("runs", "steps"), lines))
     start = Point(0, 0)

@@ -25,9 +25,7 @@ class Symbols:
 
     def __init__(self, workspace: Workspace):
         self._workspace = workspace
-
-    def handlers(self) -> dict[str, Handler]:
-        return {
+        self.handlers: dict[str, Handler] = {
             "textDocument/documentSymbol": self.of_document,
             "workspace/symbol": self.of_workspace,
             "textDocument/documentLink": self.links,

@@ -1,29 +1,38 @@
-"""What is allowed where in workflows and actions, and what each name means. make_tables.py writes syntax.json."""
+"""What is allowed where in workflows and actions, and what each name means: what the linter accepts (syntax.json, which make_tables.py
+writes), and where GitHub accepts less (github.json and the tables of the notes). Completion and quick fixes offer what both accept."""
 from __future__ import annotations
 
-import json
 from functools import lru_cache
-from pathlib import Path as File
-from typing import TYPE_CHECKING, Any
+from typing import TYPE_CHECKING, Any, Collection
 
 from .markdown import Markdown
 from .names import names
+from .notes import file as notes
 from .paths import is_workflow
 
 if TYPE_CHECKING:
     from .tree import Path
 
-TABLE = File(__file__).parent / "syntax.json"
 VALUE_WORDS = {"AnyScalar": "text", "NotNull": "text", "Bools": "true or false", "Numbers": "number", "Chunks": "expression"}
-
 
 # A row of the table: what a value may be, as make_tables.py writes it.
 Shape = dict[str, Any]
+KINDS_OF_SCALARS = {"Numbers": "number", "Bools": "flag"}
+# What GitHub's documents list and the linter doesn't check; `sources` names the documents.
+GITHUB: dict[str, dict[str, Any]] = notes.table("../github")
+EVENTS, LEVELS = notes.table("events"), notes.table("values")["levels"]
+FILTERS = {event: set(filters) for event, filters in EVENTS["filters"].items()}
+# For keys of a job and of a step, the keys beside which GitHub refuses them.
+REFUSED_BESIDE = {
+    "job": {"with": {"runs-on", "steps"}, "secrets": {"runs-on", "steps"}},
+    "step": {"with": {"run"}, "shell": {"uses", "with"}, "working-directory": {"uses", "with"}, "run": {"with"}},
+}
+ALL_ACCESSES = {"read", "write", "none"}
 
 
 @lru_cache(maxsize=None)
 def table() -> dict[str, dict[str, Any]]:
-    found: dict[str, dict[str, Any]] = json.loads(TABLE.read_text(encoding="utf-8"))
+    found: dict[str, dict[str, Any]] = notes.table("../syntax")
     return found
 
 
@@ -123,3 +132,73 @@ def value_words(shape: Shape | None) -> str:
     elif shape["free"]:
         words.append("mapping")
     return " or ".join(words)
+
+
+def wanted_under(key: str) -> str | None:
+    """`list`, `mapping`, `number` or `flag`. None if a key takes several of them or is in no section."""
+    return _kinds().get(key)
+
+
+@lru_cache(maxsize=None)
+def _kinds() -> dict[str, str | None]:
+    """The kind of value of each key, None if sections differ."""
+    shapes = table()["shapes"]
+    found: dict[str, str | None] = {}
+    for section in shapes.values():
+        if section.get("others") not in (None, "unchecked"):
+            for key, row in section["keys"].items():
+                kind = _kind(shapes[row["shape"]])
+                found[key] = kind if found.setdefault(key, kind) == kind else None
+    return found
+
+
+def _kind(shape: Shape) -> str | None:
+    """The only kind that a shape takes. An expression in place of a whole mapping makes no difference."""
+    has_keys = shape["free"] is not None or "keys" in shape
+    if shape["items"] or has_keys:
+        is_one = shape["scalars"] == "NoScalar" or has_keys and shape["scalars"] == "Chunks"
+        return None if not is_one or shape["items"] and has_keys else "mapping" if has_keys else "list"
+    return KINDS_OF_SCALARS.get(shape["scalars"])
+
+
+def can_stand(section: str, key: str, siblings: Collection[str]) -> bool:
+    """Whether a key can be added to a mapping that has other keys. It can't if it is there already, or excludes one of them."""
+    return key not in siblings and _excluded(section).get(key, frozenset()).isdisjoint(siblings)
+
+
+@lru_cache(maxsize=None)
+def _excluded(section: str) -> dict[str, frozenset[str]]:
+    """For each key of a section those that can't stand beside it."""
+    found: dict[str, set[str]] = {}
+    for one, other in _pairs(section):
+        found.setdefault(one, set()).add(other)
+        found.setdefault(other, set()).add(one)
+    return {key: frozenset(others) for key, others in found.items()}
+
+
+def _pairs(section: str) -> list[tuple[str, str]]:
+    shapes = [shape for shape in table()["shapes"].values() if shape.get("section") == section]
+    pairs = [(key, row["clash"]) for shape in shapes for key, row in shape["keys"].items() if row["clash"]]
+    left, right = GITHUB["excluded keys"].get(section, ([], []))
+    return pairs + [(one, other) for one in left for other in right]
+
+
+def activity_types(event: str) -> list[str]:
+    """The activity types of an event, by the linter's list or else by GitHub's."""
+    found: list[str] = table()["activity types"].get(event) or GITHUB["activity types"].get(event) or []
+    return list(found)
+
+
+def takes_filter(event: str, key: str) -> bool:
+    """Whether GitHub knows a key below an event, unless the event has keys of its own, as `schedule` has."""
+    return key.removesuffix("-ignore") in FILTERS.get(event, {"types"})
+
+
+def takes_access(scope: str, access: str) -> bool:
+    """Whether a scope of `permissions` can have an access level."""
+    return access in LEVELS.get(scope, ALL_ACCESSES)
+
+
+def is_refused_beside(section: str, key: str, beside: Collection[str]) -> bool:
+    """Whether GitHub refuses a key of a section beside others that are there."""
+    return not REFUSED_BESIDE.get(section, {}).get(key, set()).isdisjoint(beside)

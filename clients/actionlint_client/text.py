@@ -35,6 +35,12 @@ class Span(NamedTuple):
         return self.start <= point <= self.end
 
 
+def end_of(pattern: re.Pattern[str], text: str, start: int) -> int:
+    """Where the match of a pattern at an offset of a text ends, or the offset itself without one."""
+    found = pattern.match(text, start)
+    return found.end() if found else start
+
+
 class Places:
     """The points of a text and their offsets. What is before the offset `begin` belongs to no line."""
 

@@ -75,7 +75,6 @@ class Node:
         return node
 
     def key(self, key: str) -> Node | None:
-        """The node of a key."""
         found = self._by_key.get(key)
         return found[0] if found else None
 
@@ -91,10 +90,19 @@ class Node:
             return []
         return [node.value] if node.kind == "scalar" else [item.value for item in node.items if item.kind == "scalar"]
 
+    def entries_at(self, *path: str | int) -> list[tuple[Node, Node]]:
+        """The entries of the mapping at the end of a path."""
+        node = self.get(*path)
+        return node.entries if node else NOTHING
+
+    def items_at(self, *path: str | int) -> list[Node]:
+        """The items of the list at the end of a path."""
+        node = self.get(*path)
+        return node.items if node else NOTHING
+
     def names(self, *path: str | int) -> list[str]:
         """The keys of the mapping at the end of a path."""
-        node = self.get(*path)
-        return [key.value for key, _ in node.entries] if node else []
+        return [key.value for key, _ in self.entries_at(*path)]
 
 
 def tree_of(root: Json, data: bytes) -> Node:
@@ -115,7 +123,6 @@ def walk(node: Node, path: Path = ()) -> Iterator[tuple[Path, Node | None, Node]
 
 
 def last_line(node: Node, lines: list[str]) -> int:
-    """The last line of a node."""
     below = [value for _, value in node.entries] or node.items
     if node.alias is None and not node.is_flow and below:
         return last_line(below[-1], lines)

@@ -6,10 +6,9 @@ from typing import Callable
 
 from .diagnostics import Diagnostics
 from .editor import Editor
-from .paths import is_below, is_linted
+from .paths import is_below, is_linted, path_of, root_of_file, root_of_folder
 from .repository import Document, Repository
 from .script_checks import ScriptChecks
-from .uris import path_of, root_of_file, root_of_folder
 
 RESCAN_SECONDS = 2.0
 LEAST_WAIT_SECONDS = 0.1
@@ -111,8 +110,7 @@ class Workspace:
             self.is_stale = True
 
     def wait_seconds(self) -> float | None:
-        """How long to wait for a message before looking at the disk, if the editor doesn't watch it, or before starting a linter again that
-        ended too often."""
+        """How long to wait for a message before looking at a disk that the editor doesn't watch, or starting one that ended too often."""
         delays = [delay for repository in self._repositories.values() if (delay := repository.folder.delay())]
         if delays:
             return max(min(delays), LEAST_WAIT_SECONDS)
@@ -121,7 +119,6 @@ class Workspace:
         return None if all(root in watched for root in self._repositories) else RESCAN_SECONDS
 
     def end(self) -> None:
-        """Ends all linters."""
         for repository in self._repositories.values():
             repository.folder.close()
 

@@ -24,12 +24,12 @@ from report_runs import command, facts_in, folder_with
 from repositories import ACTION, CALLED, FILE, FILES, RIGHT, WORKFLOWS, git, write
 
 from actionlint_client import fixing
+from actionlint_client.faults import Fault
 from actionlint_client.fixes import Fix
+from actionlint_client.fixing import MAX_COMPARED_LINES, unified_diff
 from actionlint_client.folder import Program
 from actionlint_client.repair import Edit, Repair
-from actionlint_client.report import Fault
 from actionlint_client.text import Span
-from actionlint_client.unified_diff import MAX_COMPARED_LINES, unified_diff
 
 CASES = Cases("applied-fixes")
 WRONG = FILES[FILE]

@@ -18,16 +18,14 @@ from promises import end, start
 from readers import Linter, reader
 from repositories import FILE, WORKFLOWS
 
-from actionlint_client import completion, place_in_tree, used
-from actionlint_client.completion import Offer, offers
+from actionlint_client import completion, place_in_tree
+from actionlint_client.completion import Offer, offers, used_in
+from actionlint_client.faults import Fault
 from actionlint_client.place import Outline, Role
 from actionlint_client.project import Project
-from actionlint_client.report import Fault
-from actionlint_client.sections import can_stand
-from actionlint_client.syntax import available
+from actionlint_client.syntax import available, can_stand
 from actionlint_client.text import Point, Span
 from actionlint_client.tree import walk
-from actionlint_client.used import used_in
 
 CASES = Cases("completion")
 CALLED, ACTION = WORKFLOWS + "called.yml", "greet/action.yml"
@@ -403,12 +401,12 @@ def in_a_large_folder(program: str) -> None:
     for _ in range(3):
         assert dict(used_in(project, list(texts))).keys() == texts.keys()
     assert sorted(read) == sorted(texts)
-    before, used.READING_SECONDS = used.READING_SECONDS, -1.0
+    before, completion.READING_SECONDS = completion.READING_SECONDS, -1.0
     try:
         assert dict(used_in(project, list(texts))).keys() == texts.keys(), "they are known"
         assert not dict(used_in(project_of(texts), list(texts)))
     finally:
-        used.READING_SECONDS = before
+        completion.READING_SECONDS = before
 
 
 @CASES.case

@@ -20,7 +20,7 @@ from note_cases import blocks
 from repositories import CLIENTS, TOP, write
 
 from actionlint_client.entries import entries, link_of
-from actionlint_client.notes.entries import entries_of_notes
+from actionlint_client.notes.file import entries_of_notes
 
 CASES = Cases("differences")
 PAGE = TOP / "docs/DIFFERENCES.md"

@@ -11,10 +11,9 @@ from cases import Cases
 from promises import end, start
 from repositories import ACTION, CALLED, FILE, FILES
 
-from actionlint_client.earlier import Earlier
-from actionlint_client.faults import FileFaults
+from actionlint_client.faults import Fault, FileFaults
 from actionlint_client.problems import ERROR as ERROR_LEVEL, WARNING as WARNING_LEVEL, level_of
-from actionlint_client.report import Fault
+from actionlint_client.repository import Earlier
 
 CASES = Cases("earlier")
 ERROR, WARNING = 1, 2

@@ -18,8 +18,8 @@ from repositories import FILE, FILES, TOP, WORKFLOWS, reported, write
 
 from actionlint_client import advice, fixes
 from actionlint_client.advice import FirstFixes
+from actionlint_client.faults import Fault
 from actionlint_client.problems import problem_of
-from actionlint_client.report import Fault
 
 CASES = Cases("first-fixes")
 ON, HEAD = "on: push\n", "jobs:\n  a:\n    runs-on: ubuntu-latest\n"

@@ -19,10 +19,10 @@ from repositories import FILE
 from slips import Folder, counted, every_text
 
 from actionlint_client.entries import ARGUMENT, entries
+from actionlint_client.faults import Fault
 from actionlint_client.fixes import REPAIRS, UNREADABLE, Trial, fixes, repairs
 from actionlint_client.project import Project
 from actionlint_client.repair import Repair, replaced
-from actionlint_client.report import Fault
 
 CASES = Cases("fixes")
 SECONDS = 20.0
@@ -198,8 +198,8 @@ def a_trial(program: str) -> None:
     trial = Trial([program], SECONDS, folder.project, "act/action.yml")
     assert not trial.before
     changed = ACTION["act/action.yml"].replace("who:", "whom:")
-    assert len(trial.faults_after({"act/action.yml": changed})) == 2, "the caller's two faults"
-    assert not trial.faults() and not trial.faults_after({"other/action.yml": ACTION["act/action.yml"]})
+    assert len(trial.report_after({"act/action.yml": changed})) == 2, "the caller's two faults"
+    assert not trial.report() and not trial.report_after({"other/action.yml": ACTION["act/action.yml"]})
     trial.close()
 
 

@@ -21,10 +21,9 @@ from editor import Editor, children, linters
 from promises import end, save, start
 from repositories import ACTION, CALLED, FILE, FILES, RIGHT, UNDEFINED, WORKFLOWS, WRONG, write
 
-from actionlint_client.actions_on_disk import actions_below
 from actionlint_client.diagnostics import Diagnostics
-from actionlint_client.disk import NOT_REGULAR, OPENED, Disk
-from actionlint_client.uris import path_of
+from actionlint_client.disk import NOT_REGULAR, OPENED, Disk, actions_below
+from actionlint_client.paths import path_of
 from actionlint_client.workspace import Workspace
 
 CASES = Cases("life")

@@ -23,10 +23,10 @@ from repositories import ACTION, CALLED, FILE, FILES, RIGHT, UNDEFINED, WORKFLOW
 
 from actionlint_client import disk, facts, folder as following, positions
 from actionlint_client.diagnostics import Diagnostics
+from actionlint_client.faults import Fault
 from actionlint_client.files import may_call
 from actionlint_client.folder import REASONS, REPORTS_TOO_MUCH, Folder, Program
 from actionlint_client.program import find_facts
-from actionlint_client.report import Fault
 from actionlint_client.repository import Repository
 from actionlint_client.workspace import Workspace
 
@@ -213,23 +213,13 @@ def ranges_on_a_long_line(_: str) -> None:
     chance = random.Random(3)
     text = "".join(chance.choice("aé\u2028\U0001F600 -") for _ in range(2_000))
     lines = positions.Lines(b"x\n" + text.encode(), True)
-    counted = []
-    two_units = positions._two_units
-
-    def counting(line: str) -> list[int]:
-        counted.append(1)
-        return two_units(line)
-
-    positions._two_units = counting
-    try:
-        for _ in range(500):
-            column, width = chance.randrange(1, 2_005), chance.randrange(5)
-            found = lines.range_of(Fault("a", 2, column, "m", "k", width))
-            units = [len(text[:before].encode("utf-16-le")) // 2 for before in (column - 1, column - 1 + width)]
-            assert [found["start"]["character"], found["end"]["character"]] == units and found["start"]["line"] == 1
-    finally:
-        positions._two_units = two_units
-    assert len(counted) == 1
+    positions._two_units.cache_clear()
+    for _ in range(500):
+        column, width = chance.randrange(1, 2_005), chance.randrange(5)
+        found = lines.range_of(Fault("a", 2, column, "m", "k", width))
+        units = [len(text[:before].encode("utf-16-le")) // 2 for before in (column - 1, column - 1 + width)]
+        assert [found["start"]["character"], found["end"]["character"]] == units and found["start"]["line"] == 1
+    assert positions._two_units.cache_info().misses == 1
 
 
 @CASES.case

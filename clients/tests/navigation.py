@@ -16,8 +16,8 @@ from promises import end, start
 from repositories import FILE
 
 from actionlint_client.completion import offers
-from actionlint_client.explanations import explanation
 from actionlint_client.folder import Program
+from actionlint_client.hover import explanation
 from actionlint_client.references import all_of, occurrence_at, occurrences
 from actionlint_client.renaming import rename
 from actionlint_client.repair import replaced

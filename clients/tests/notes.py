@@ -22,8 +22,7 @@ from report_runs import REPORT, facts_in
 from repositories import CLIENTS, TOP, WORKFLOWS, write
 
 from actionlint_client.entries import plain_text
-from actionlint_client.notes.entries import entries_of_notes
-from actionlint_client.notes.file import HERE, is_slip
+from actionlint_client.notes.file import HERE, entries_of_notes, is_slip
 from actionlint_client.notes.outputs import names_written
 from actionlint_client.notes.run import notes
 

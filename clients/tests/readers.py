@@ -10,10 +10,9 @@ from repositories import CLIENTS, FILE
 
 sys.path.insert(0, str(CLIENTS))
 from actionlint_client.facts import Facts
-from actionlint_client.faults import faults_of
+from actionlint_client.faults import Fault, faults_of
 from actionlint_client.program import find_facts
 from actionlint_client.reader import Reader, Started
-from actionlint_client.report import Fault
 from actionlint_client.tree import Node
 
 SECONDS = 60.0

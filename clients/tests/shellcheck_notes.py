@@ -18,8 +18,8 @@ from readers import reader
 from report_runs import run_report
 from repositories import FILE, TOP, WORKFLOWS, write
 
+from actionlint_client.faults import Fault
 from actionlint_client.problems import Problem
-from actionlint_client.report import Fault
 from actionlint_client.scripts import Script, scripts_of, variable_of, without_expressions, word_of
 from actionlint_client.shellcheck import notes_of_text
 

@@ -21,10 +21,10 @@ from cases import Cases
 from readers import Linter, reader
 from repositories import CLIENTS
 
+from actionlint_client.faults import Fault
 from actionlint_client.fixes import Fix, fixes
 from actionlint_client.project import Project
 from actionlint_client.repair import replaced
-from actionlint_client.report import Fault
 
 CASES = Cases("slips")
 SLIPS = Path(__file__).resolve().parent / "slips"

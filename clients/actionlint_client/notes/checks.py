@@ -4,16 +4,14 @@
 """
 from __future__ import annotations
 
-import json
 import os
-import signal
 import sys
 
+from ..faults import Fault
 from ..problems import NOTE, NOTE_KIND, Problem
 from ..program import find_facts
-from ..report import Fault
-from ..script_checks import NICENESS, Key, ScriptChecks, WrittenNote, stop, written
-from .entries import NoNotes, entry_of_note
+from ..script_checks import Key, ScriptChecks, WrittenNote, check, written
+from .file import NoNotes, entry_of_note
 
 
 class NoteChecks(ScriptChecks):
@@ -34,18 +32,12 @@ class NoteChecks(ScriptChecks):
 
 
 def main(words: list[str]) -> int:
-    signal.signal(signal.SIGTERM, stop)
-    os.nice(NICENESS)
-    from .run import notes_of_text
+    def find(data: bytes) -> list[WrittenNote]:
+        from .run import notes_of_text
 
-    linter, root, path = words
-    try:
-        found = [written(one.fault, one.code, one.level) for one in notes_of_text(linter, root, path, sys.stdin.buffer.read())]
-    except NoNotes as error:
-        print(error, file=sys.stderr)
-        return 3
-    json.dump(found, sys.stdout)
-    return 0
+        linter, root, path = words
+        return [written(one.fault, one.code, one.level) for one in notes_of_text(linter, root, path, data)]
+    return check(find, NoNotes)
 
 
 if __name__ == "__main__":

@@ -53,8 +53,7 @@ def compared_kinds(file: File) -> Iterator[Finding]:
     kinds: dict[str, set[str]] = {}
     for _, key, declared in file.inputs:
         kinds.setdefault(key.value.lower(), set()).add(declared.text("type") or "string")
-    declared_inputs = None if file.is_workflow else file.root.get("inputs")
-    for key, _ in declared_inputs.entries if declared_inputs else []:
+    for key, _ in [] if file.is_workflow else file.root.entries_at("inputs"):
         kinds[key.value.lower()] = {"string"}
     for part in (part for tree in file.expressions() for part in parts_of(tree)):
         if isinstance(part, Chain) and len(part.rest) == 1:

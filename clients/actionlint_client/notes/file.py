@@ -5,10 +5,11 @@ import json
 import re
 from bisect import bisect_right
 from dataclasses import dataclass
-from functools import cached_property
+from functools import cached_property, lru_cache
 from pathlib import Path
 from typing import Any, Callable, Iterator, NamedTuple
 
+from ..entries import Entry
 from ..facts_tree import Expression, Place, Word, inner
 from ..facts_tree import Path as Dotted
 from ..tree import Node, walk
@@ -60,8 +61,7 @@ class File:
     @cached_property
     def jobs(self) -> list[tuple[Node, Node]]:
         """The ids of jobs and the jobs, as far as these are mappings."""
-        found = self.root.get("jobs") if self.is_workflow else None
-        return [(key, job) for key, job in found.entries if job.kind == "mapping"] if found else []
+        return [(key, job) for key, job in self.root.entries_at("jobs") if job.kind == "mapping"] if self.is_workflow else []
 
     @cached_property
     def events(self) -> list[tuple[Node, Node | None]]:
@@ -122,8 +122,7 @@ class File:
 
 
 def names_of(expression: Expression) -> list[str]:
-    """The names of a path in lower case, `*` for all properties, such as `github`, `event`, `inputs`. Empty if it is no path or an index is
-    computed."""
+    """The names of a path in lower case, such as `github`, `event`, and `*` for all properties. Empty for no path or a computed index."""
     expression = inner(expression)
     if isinstance(expression, Word) and expression.kind == "name":
         return [expression.text.lower()]
@@ -155,3 +154,17 @@ def is_slip(name: str, known: str) -> bool:
     rest, other = name[first:], known[first:]
     swapped = len(rest) > 1 and len(other) > 1 and rest[:2] == other[1::-1] and rest[2:] == other[2:]
     return rest[1:] == other[1:] or rest[1:] == other or rest == other[1:] or swapped
+
+
+class NoNotes(Exception):
+    """The program that the notes need is missing, or could not go on."""
+
+
+@lru_cache(maxsize=None)
+def entries_of_notes() -> dict[str, Entry]:
+    """The entries of docs/NOTES.md by their codes. make_tables.py writes notes.json."""
+    return {row["code"]: Entry(**row) for row in table("notes")}
+
+
+def entry_of_note(code: str) -> Entry:
+    return entries_of_notes()[code]

@@ -16,9 +16,9 @@ def sections(file: File) -> Iterator[tuple[str, Node]]:
         for name in ("environment", "container"):
             if (found := job.get(name)) is not None:
                 yield name, found
-        services = job.get("services")
-        yield from (("service", value) for _, value in (services.entries if services else []))
-        boxes = [job.get("container"), *(value for _, value in (services.entries if services else []))]
+        services = [value for _, value in job.entries_at("services")]
+        yield from (("service", value) for value in services)
+        boxes = [job.get("container"), *services]
         yield from (("credentials", found) for box in boxes if box and (found := box.get("credentials")) is not None)
     for _, step in file.steps:
         yield ("step" if file.is_workflow else "composite step"), step
@@ -65,8 +65,7 @@ def unknown_keys(file: File) -> Iterator[Finding]:
             if key.value not in known:
                 yield note("N4", key, key.value, name)
     for name in ("inputs", "outputs"):
-        declared = None if file.is_workflow else file.root.get(name)
-        for _, one in declared.entries if declared else []:
+        for _, one in [] if file.is_workflow else file.root.entries_at(name):
             known = TABLE["loose"][name]
             yield from (note("N4", key, key.value, name.removesuffix("s")) for key, _ in one.entries
                         if key.value not in known and any(is_slip(key.value, word) for word in known))

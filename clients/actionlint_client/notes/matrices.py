@@ -33,9 +33,8 @@ def values_of(job: Node, names: list[str]) -> list[Node]:
     matrix = job.get("strategy", "matrix")
     if matrix is None or not names or "*" in names:
         return []
-    include = matrix.get("include")
     found = [item for key, row in rows(job) if key.value.lower() == names[0] for item in row.items]
-    found += [value for entry in (include.items if include else []) for key, value in entry.entries if key.value.lower() == names[0]]
+    found += [value for entry in matrix.items_at("include") for key, value in entry.entries if key.value.lower() == names[0]]
     for name in names[1:]:
         found = [value for node in found for key, value in node.entries if key.value.lower() == name]
     return found
@@ -44,9 +43,8 @@ def values_of(job: Node, names: list[str]) -> list[Node]:
 def repeated_values(file: File) -> Iterator[Finding]:
     """N21: a row of the matrix, a value of a row, or a job under `needs` that is there twice. An alias is where it stands."""
     for _, job in file.jobs:
-        matrix, needs = job.get("strategy", "matrix"), job.get("needs")
-        named = [key for key, _ in matrix.entries] if matrix else []
-        for items in ([row.items for _, row in rows(job)] + [needs.items if needs else [], named]):
+        named = [key for key, _ in job.entries_at("strategy", "matrix")]
+        for items in [*(row.items for _, row in rows(job)), job.items_at("needs"), named]:
             seen: set[tuple[Any, ...]] = set()
             for item in items:
                 value, text = _value(item), _in_a_line(item)
@@ -70,9 +68,9 @@ def _in_a_line(node: Node) -> str:
 def excluded_values(file: File) -> Iterator[Finding]:
     """N20: a value under `exclude` that its row doesn't have."""
     for _, job in file.jobs:
-        exclude = job.get("strategy", "matrix", "exclude")
+        exclude = job.items_at("strategy", "matrix", "exclude")
         known = {key.value.lower(): _texts(row.items) for key, row in rows(job) if exclude}
-        for key, value in (entry for one in (exclude.items if exclude else []) for entry in one.entries):
+        for key, value in (entry for one in exclude for entry in one.entries):
             texts = known.get(key.value.lower())
             if texts and value.kind == "scalar" and not has_expression(value.value) and _folded(value.value) not in texts:
                 yield note("N20", value, f"matrix.{key.value}", value.value)

@@ -5,8 +5,8 @@ import re
 from typing import Iterator
 
 from ..facts_tree import walk as parts_of
+from .actions import lacks
 from .file import File, Finding, names_of, note, table
-from .interfaces import lacks
 
 NAME = re.compile(r"""\s*(?:echo|printf)\s+["']?([A-Za-z_][\w-]*)(?:=|<<)[^|;&]*>>\s*"?\$\{?GITHUB_OUTPUT\}?"?\s*""")
 COMMAND = re.compile(r"(?:^|\||&&|;|\$\(|`|\bif\b|\bthen\b|\bdo\b|\belse\b)\s*(?=((?:\w+=(?:[^\s$`]|\$(?!\())*\s+)*[^\s;|&()`]+))")
@@ -35,8 +35,7 @@ def _is_plain(line: str) -> bool:
 
 
 def unwritten_outputs(file: File) -> Iterator[Finding]:
-    """N23: an output that the script of its step doesn't write, though it writes others, and nothing else in it could; or one that a known
-    action doesn't have."""
+    """N23: an output that its step's script surely doesn't write, though it writes others; or one that a known action doesn't have."""
     written: dict[tuple[int, str], set[str] | None] = {}
     called: dict[tuple[int, str], str] = {}
     for job, step in file.steps:

@@ -3,7 +3,7 @@ from __future__ import annotations
 
 from typing import Callable, Iterator
 
-from . import actions, conditions, folder, interfaces, keys, matrices, outputs, patterns, properties, runners, strangers, values
+from . import actions, conditions, folder, keys, matrices, outputs, patterns, properties, runners, strangers, values
 from .file import File, Finding
 
 RULES: tuple[Callable[[File], Iterator[Finding]], ...] = (
@@ -13,7 +13,7 @@ RULES: tuple[Callable[[File], Iterator[Finding]], ...] = (
     conditions.compared_kinds, matrices.compared_values, matrices.excluded_values, matrices.repeated_values, patterns.patterns,
     outputs.unwritten_outputs, folder.unused_anchors, folder.deprecated_inputs, folder.missing_files, folder.slips_of_secrets,
     properties.unknown_properties, runners.labels_of_two_runners, runners.missing_shells, strangers.untrusted_texts,
-    patterns.regular_expressions, interfaces.inputs_of_actions)
+    patterns.regular_expressions, actions.inputs_of_actions)
 
 
 def findings(file: File) -> list[Finding]:

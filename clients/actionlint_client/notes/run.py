@@ -3,24 +3,23 @@ from __future__ import annotations
 
 import os
 import posixpath
-from bisect import bisect_right
 from collections import deque
 from contextlib import contextmanager
 from typing import Callable, Iterable, Iterator
 
 from ..child import LinterEnded
 from ..disk import Disk
-from ..entries import ARGUMENT, Entry
+from ..entries import ARGUMENT
 from ..facts import EditRefused, Facts, NoAnswer, NoTree
 from ..facts_tree import read_place
+from ..faults import Fault
 from ..paths import ACTION_NAMES
 from ..positions import lines_of
 from ..problems import ERROR, NOTE, NOTE_KIND, Problem
 from ..program import FACTS, find_facts
-from ..report import Fault
+from ..text import BytePlaces
 from ..tree import Node, tree_of
-from .entries import NoNotes, entry_of_note
-from .file import File, Finding
+from .file import File, Finding, NoNotes, entry_of_note
 from .rules import findings
 
 SECONDS = 60.0
@@ -67,9 +66,8 @@ class Folder:
             file = File(path, self._tree(path), expressions, self._is_there, self.deprecated)
         except NoTree:
             return
-        places = Places(data)
-        for found in findings(file):
-            yield _problem(path, places, found, ERROR if counts else NOTE)
+        source = Source(path, data)
+        yield from (source.problem(found, ERROR if counts else NOTE) for found in findings(file))
 
     def _tree(self, path: str) -> Node:
         """The tree of a file. Raises `NoTree` and `NoAnswer`."""
@@ -91,50 +89,22 @@ class Folder:
         return {key.value.lower(): said for key, one in (inputs.entries if inputs else []) if (said := one.text("deprecationMessage"))}
 
 
-class Places:
-    """Lines and columns of a file, in characters from 1."""
+class Source:
+    """The lines of a file, and the places of its bytes."""
 
-    def __init__(self, data: bytes):
-        self.lines = lines_of(data)
-        self._data, self._starts = data, [0]
-        for line in self.lines:
-            end = self._starts[-1] + len(line)
-            self._starts.append(end + (2 if data[end:end + 2] == b"\r\n" else 1))
+    def __init__(self, path: str, data: bytes):
+        self._path, self._lines, self._places = path, lines_of(data), BytePlaces(data)
 
-        # The last place that was asked for: many may be on one long line.
-        self._last = (1, 0, 1)
-
-    def place(self, offset: int) -> tuple[int, int]:
-        line = bisect_right(self._starts, offset, 0, len(self.lines))
-        before, start, column = self._last
-        if before != line or start > offset:
-            start, column = self._starts[line - 1], 1
-        self._last = line, offset, column + self._characters(start, offset)
-        return line, self._last[2]
-
-    def width(self, start: int, end: int) -> int:
-        """The characters of a span on its first line."""
-        line, _ = self.place(start)
-        return max(self._characters(start, min(end, self._starts[line - 1] + len(self.lines[line - 1]))), 1)
-
-    def line_of(self, fault: Fault) -> str | None:
-        """The line at which it starts, unless that is long."""
-        line = self.lines[fault.line - 1]
-        return line.decode("utf-8", "replace") if len(line) <= LONGEST_LINE else None
-
-    def _characters(self, start: int, end: int) -> int:
-        return len(self._data[start:end].decode("utf-8", "replace"))
-
-
-def _problem(path: str, places: Places, found: Finding, level: str) -> Problem:
-    entry = entry_of_note(found.code)
-    line, column = places.place(found.start)
-    fault = Fault(path, line, column, message_of(entry, found.arguments), NOTE_KIND, places.width(found.start, found.end))
-    return Problem(fault, found.code, entry, places.line_of(fault), level)
-
-
-def message_of(entry: Entry, arguments: tuple[str, ...]) -> str:
-    return ARGUMENT.sub(lambda found: arguments[int(found[1])], entry.message)
+    def problem(self, found: Finding, level: str) -> Problem:
+        """A note with the line at which it starts, unless that is long. Its width is that on this line."""
+        entry, (start, end) = entry_of_note(found.code), self._places.span(found.start, found.end)
+        line = self._lines[start.line]
+        # The linter counts a byte order mark as a character of the first line.
+        mark = int(start.line == 0 and self._places.begin > 0)
+        width = (end.column if end.line == start.line else len(line.decode("utf-8", "replace")) - mark) - start.column
+        message = ARGUMENT.sub(lambda argument: found.arguments[int(argument[1])], entry.message)
+        fault = Fault(self._path, start.line + 1, start.column + mark + 1, message, NOTE_KIND, max(width, 1))
+        return Problem(fault, found.code, entry, line.decode("utf-8", "replace") if len(line) <= LONGEST_LINE else None, level)
 
 
 def notes(linter: str, root: str, files: list[str], counts: bool, say: Callable[[str], None]) -> Iterator[Problem]:
