@@ -55,7 +55,8 @@ def answers(program: str) -> None:
     assert facts.put(CALLED, text) == [CALLED] and facts.lacks() == ["a/action.yaml", "a/action.yml"]
     assert facts.put(ACTION, FILES[ACTION].encode()) == [CALLED, ACTION] and facts.lacks() == ["a/action.yaml"]
     found = facts.faults(CALLED)
-    assert [(fault.code, fault.arguments, fault.line, fault.column) for fault in found] == [("C3", ("who", "A"), 6, 15)], found
+    shown = [(fault["code"], fault["arguments"], fault["line"], fault["column"]) for fault in found]
+    assert shown == [("C3", ["who", "A"], 6, 15)], found
     assert list(facts.report()) == [CALLED] and facts.cycles() == {}
     facts.delete(ACTION)
     assert facts.faults(CALLED) == []

@@ -163,7 +163,7 @@ def commands(program: str) -> None:
         try:
             assert is_cut(LIMIT, 0.01, puts)
             assert linter.put(FILE, text) == []
-            assert [fault.code for fault in linter.faults(FILE)] == ["X13"], number
+            assert [fault["code"] for fault in linter.faults(FILE)] == ["X13"], number
         except LinterEnded as error:
             raise AssertionError("the command was cut") from error
     linter.stop()

@@ -270,7 +270,7 @@ def the_first_faults(program: str) -> None:
     for count in (0, 1, 2, 50):
         one.put(FILE, ("on: push\njobs: {}\n" + "".join(f"a{number}: 1\n" for number in range(count))).encode())
         found = one.faults(FILE)
-        assert [fault.code for fault in found] == ["K1"] * count, found
+        assert [fault["code"] for fault in found] == ["K1"] * count, found
         for most in (0, 1, 2, 60):
             assert one.first_faults(FILE, most) == (found[:most], max(count - most, 0)), (count, most)
     one.stop()
