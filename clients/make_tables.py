@@ -6,8 +6,7 @@
 `actionlint_client/faults.json` has the entries of docs/FAULTS*.md: the code, message and place of each fault, and what the page says;
 `actionlint_client/notes/notes.json` those of docs/NOTES.md.
 The others are from what FACTS, by default the actionlint-facts that the clients run, answers to `tables`: `names.json` has the lists of
-names, `limits.json` the limits, and `syntax.json` what is allowed where, with what meanings.toml says about each name. Properties of
-contexts aren't among the answers; they are from the definitions that the linter's code is proved to match.
+names, `limits.json` the limits, and `syntax.json` what is allowed where, with what meanings.toml says about each name.
 """
 from __future__ import annotations
 
@@ -30,8 +29,8 @@ from actionlint_client.program import find_facts, find_program
 Tables = dict[str, Any]
 OUT = Path(__file__).resolve().parent / "actionlint_client"
 LINK_IN_PAGE = re.compile(r"\]\((#[^)]*)\)")
-# A property of the object of a job or a step.
-OBJECT_PROPERTY = re.compile(r'\(codes "([^"]+)", ')
+# What the types of contexts have for the name of a job or a step.
+ANY_NAME = "*"
 SCALARS = {"none": "NoScalar", "any": "AnyScalar", "not null": "NotNull", "boolean": "Bools", "number": "Numbers", "expression": "Chunks"}
 # The shape of the mapping under `on`, whose section is named by its key.
 EVENTS = "Events"
@@ -51,7 +50,7 @@ def main(words: list[str]) -> int:
         return 2
     linter = tables_of(*named or [find_facts(find_program(None))])
     tables = {"faults.json": faults(TOP / "docs"), "notes/notes.json": notes(TOP / "docs/NOTES.md"),
-              "names.json": names(linter, TOP / "crates"), "syntax.json": syntax(linter, TOP), "limits.json": linter["limits"]}
+              "names.json": names(linter), "syntax.json": syntax(linter, TOP), "limits.json": linter["limits"]}
     differing = []
     for file, table in tables.items():
         text = json.dumps(table, indent=1, ensure_ascii=False) + "\n"
@@ -99,7 +98,7 @@ def shown_files(files: dict[str, str]) -> list[str]:
     return [*shown, f"```yaml\n{list(files.values())[-1]}```"]
 
 
-def names(linter: Tables, crates: Path) -> dict[str, list[str]]:
+def names(linter: Tables) -> dict[str, list[str]]:
     """The lists of names, each sorted."""
     permissions = linter["permissions"]
     lists = {
@@ -109,7 +108,7 @@ def names(linter: Tables, crates: Path) -> dict[str, list[str]]:
         "keys": [key for shape in linter["shapes"].values() for key in shape.get("keys", ())],
         "contexts": linter["contexts"],
         "functions": linter["signatures"],
-        "properties": properties(crates),
+        "properties": [name for of in linter["types"].values() for name in property_names(of) if name != ANY_NAME],
         "shells": linter["shells"],
         "permission scopes": permissions["scopes"],
         "permission values": permissions["values"] + permissions["whole"],
@@ -118,10 +117,17 @@ def names(linter: Tables, crates: Path) -> dict[str, list[str]]:
     return {name: sorted(set(found)) for name, found in lists.items()}
 
 
-def properties(crates: Path) -> list[str]:
-    """The names of properties of contexts, from the definitions."""
-    objects = (crates / "al_check_contexts/specs/Contexts.antt").read_text(encoding="utf-8")
-    return [*lists_page.NAME.findall((crates / lists_page.FIXED).read_text(encoding="utf-8")), *OBJECT_PROPERTY.findall(objects)]
+def property_names(of: str | Tables) -> list[str]:
+    """The names of the properties of a type, and of theirs."""
+    if isinstance(of, str):
+        return []
+    return [found for name, inner in of["properties"].items() for found in (name, *property_names(inner))]
+
+
+def fixed_contexts(types: Tables) -> Tables:
+    """The contexts with properties that are the same in every file."""
+    objects = {name: of["properties"] for name, of in types.items() if isinstance(of, dict)}
+    return {name: {"properties": found} for name, found in objects.items() if found and ANY_NAME not in found}
 
 
 def syntax(linter: Tables, top: Path) -> dict[str, dict | list]:
@@ -137,7 +143,7 @@ def syntax(linter: Tables, top: Path) -> dict[str, dict | list]:
         "other places": {name: linter["other_places"][name] for name in ("action", "condition of an action")},
         "expressions": {"conditions": linter["conditions"],
                         **{name: linter["expressions"][name] for name in ("only_outside_runs", "not_in_runs")}},
-        "contexts": {name: {"properties": fields_of} for name, (fields_of, _) in lists_page.fixed_contexts(top / "crates").items()},
+        "contexts": fixed_contexts(linter["types"]),
         "functions": {name: function(row) for name, row in linter["signatures"].items()},
         "meanings": {heading.removesuffix(UNCHECKED): found for heading, found in meanings.items() if found},
     }

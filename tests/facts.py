@@ -17,11 +17,12 @@ import subprocess
 import sys
 
 import fault_entries
+import lists_page
 from running import CALLED, CALLER, CLEAN, FAULT, WORKFLOWS, Place, each, exit_status, report, show
 
 TOP = pathlib.Path(__file__).resolve().parent.parent
 BLOCK = re.compile(r"^```facts\n(.*?)^```$", re.DOTALL | re.MULTILINE)
-STEP = re.compile(r"\.([\w-]+)|\[(\d+)\]")
+STEP = re.compile(r"\.([\w*-]+)|\[(\d+)\]")
 SECONDS = 60
 LINE_BREAK = re.compile(rb"\r\n|\n|\r")
 CONTROL = re.compile(r"[\x00-\x1f\x7f]")
@@ -188,6 +189,11 @@ def all_tables(program):
     wrong += [f"there is no shape {it}" for it in sorted(used - set(tables["shapes"]))]
     wrong += [f"nothing uses the shape {it}" for it in sorted(set(tables["shapes"]) - used - {"Event"})]
     report("tables", 0, wrong)
+    for name, (fields, others) in lists_page.fixed_contexts(TOP / "crates").items():
+        wanted = {"properties": fields, "others": None if others == "none" else others}
+        found = tables["types"][name]
+        same = found == wanted and list(found["properties"]) == list(fields)
+        report(f"type-of-{name}", 0, [] if same else [f"{found} where the definitions have {wanted}"])
 
 
 class Lint:

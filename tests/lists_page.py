@@ -1,7 +1,6 @@
 """Compares the tables of docs/LISTS.md with the definitions, or writes them: lists_page.py TOP [--write].
 
-Each list is a table of the page, found by its header. clients/make_tables.py reads the definitions with the same functions. Numbers that
-other pages say in words are those of the definitions too.
+Each list is a table of the page, found by its header. Numbers that other pages say in words are those of the definitions too.
 """
 
 import pathlib

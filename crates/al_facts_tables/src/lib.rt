@@ -3,5 +3,6 @@
 
 mod shapes;
 mod tables;
+mod types;
 
 pub use tables::push_tables;

@@ -1,6 +1,7 @@
 //! The tables of the linter.
 
 use crate::shapes::push_shapes;
+use crate::types::push_types;
 use al_check::{
     CONDITIONS, Key, NOT_IN_RUNS, NOT_IN_WORKFLOW, OF_CALL, OF_INTERFACE, PlaceRow, SCRIPTS,
     available_at, available_rows,
@@ -241,6 +242,7 @@ pub fn push_tables(json: &mut Json) -> Result<(), AllocError> {
     push_shapes(json)?;
     push_events(json)?;
     push_contexts(json, &CONTEXTS)?;
+    push_types(json)?;
     push_places(json)?;
     push_checked(json)?;
     push_all_functions(json)?;
