@@ -22,11 +22,8 @@ KINDS_OF_SCALARS = {"Numbers": "number", "Bools": "flag"}
 GITHUB: dict[str, dict[str, Any]] = notes.table("../github")
 EVENTS, LEVELS = notes.table("events"), notes.table("values")["levels"]
 FILTERS = {event: set(filters) for event, filters in EVENTS["filters"].items()}
-# For keys of a job and of a step, the keys beside which GitHub refuses them.
-REFUSED_BESIDE = {
-    "job": {"with": {"runs-on", "steps"}, "secrets": {"runs-on", "steps"}},
-    "step": {"with": {"run"}, "shell": {"uses", "with"}, "working-directory": {"uses", "with"}, "run": {"with"}},
-}
+# Beside which keys GitHub refuses others: the rows that notes are on, and those that only keep repairs from writing such keys.
+REFUSED_BESIDE = [notes.table("keys")[rows] for rows in ("beside", "not repaired beside")]
 ALL_ACCESSES = {"read", "write", "none"}
 
 
@@ -201,4 +198,4 @@ def takes_access(scope: str, access: str) -> bool:
 
 def is_refused_beside(section: str, key: str, beside: Collection[str]) -> bool:
     """Whether GitHub refuses a key of a section beside others that are there."""
-    return not REFUSED_BESIDE.get(section, {}).get(key, set()).isdisjoint(beside)
+    return any(other in beside for rows in REFUSED_BESIDE for other in rows.get(section, {}).get(key, ()))

@@ -29,7 +29,7 @@ WRONG_FIXES = (
     ("similar_names_are_guesses", "names.py", KNOWN,
      "return [(meant, True)]", "return [(meant, False)]"),
     ("the_first_of_several_slips_is_meant", "names.py", NAMES, "return found[0] if len(found) == 1 else", "return found[0] if found else"),
-    ("with_stands_beside_runs_on", "syntax.py", KEYS, '{"with": {"runs-on", "steps"}, ', "{"),
+    ("with_stands_beside_runs_on", "notes/keys.json", KEYS, '{"with": ["runs-on", "steps"], ', "{"),
     ("any_access_to_a_token", "notes/values.json", KEYS, '{"id-token": ["write", "none"], ', "{"),
     ("a_condition_has_no_brackets", "operators.py", KEYS, "f\"{grouped(condition, ('||',))} &&", 'f"{condition} &&'),
     ("a_false_middle_is_taken", "operators.py", KEYS, "if is_false(yes):", "if False:"),
