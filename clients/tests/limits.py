@@ -185,7 +185,7 @@ def requests_that_never_end(program: str) -> None:
     with tempfile.TemporaryDirectory(prefix="actionlint-test-") as folder:
         for module, function, method, more in (
                 ("hover", "explanation", "textDocument/hover", {}),
-                ("renaming", "counted", "textDocument/rename", {"newName": "b"})):
+                ("fixes", "counted", "textDocument/rename", {"newName": "b"})):
             editor = start(program, FILES, server=endless_server(folder, module, function))
             editor.open(FILE, RIGHT)
             answer = asks(editor, method, 2, 3, **more)

@@ -172,6 +172,7 @@ def lines_of_files(program: str) -> None:
                 f"{one.path}:{one.line}:{one.column}: {one.message} [{one.kind}]", *snippet))
             wanted = printed(program, folder, list(files))
             assert "".join(f"{line}\n" for line in lines) == wanted, (found, wanted)
+            assert all((one.width or 1) == 1 + snippet[-1].count("~") for one, snippet in found), found
             count += len(found)
     assert count > 100, count
 
