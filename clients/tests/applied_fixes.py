@@ -6,6 +6,7 @@ written is told; and nothing else changes.
 """
 from __future__ import annotations
 
+import ctypes
 import os
 import random
 import shutil
@@ -32,6 +33,8 @@ from actionlint_client.repair import Edit, Repair
 from actionlint_client.text import Span
 
 CASES = Cases("applied-fixes")
+# Of linux/prctl.h and linux/capability.h.
+PR_CAPBSET_DROP, CAP_DAC_OVERRIDE = 24, 1
 WRONG = FILES[FILE]
 TWICE = WRONG + "      - run: echo ${{ github.shaa }} ${{ github.reff }}\n"
 TWICE_RIGHT = TWICE.replace("reff", "ref").replace("shaa", "sha")
@@ -213,15 +216,19 @@ def a_file_that_changes_meanwhile(program: str) -> None:
         assert found[FILE].decode().startswith(WRONG + "# new\n") and found[other].decode() == RIGHT and len(found) == 3, found
 
 
+def obey_modes() -> None:
+    """Modes of files hold for root too: what is run next can't get the capability to override them."""
+    ctypes.CDLL(None).prctl(PR_CAPBSET_DROP, CAP_DAC_OVERRIDE, 0, 0, 0)
+
+
 @CASES.case
 def a_folder_that_is_read_only(program: str) -> None:
     """The files stay, no other file is left there, and the status is 3."""
-    user = {"user": 65_534, "group": 65_534, "extra_groups": []} if os.geteuid() == 0 else {}
     with folder_with({FILE: WRONG}) as folder:
         os.chmod(folder, 0o755)
         workflows = os.path.dirname(os.path.join(folder, FILE))
         os.chmod(workflows, 0o555)
-        status, _, said = report(program, folder, "--fix", "--form", "jsonl", **user)
+        status, _, said = report(program, folder, "--fix", "--form", "jsonl", preexec_fn=obey_modes)
         os.chmod(workflows, 0o755)
         assert status == 3 and said == [f"{FILE}: not fixed, since Permission denied"], (status, said)
         assert contents(folder) == {FILE: WRONG.encode()}
