@@ -8,7 +8,7 @@ use Rattle.al_scalar.specs.declared.header.Chomping.{Chomping}
 use Rattle.al_scalar.specs.declared.header.Chomping.TheVariants.{Strip, Clip, Keep}
 use Rattle.al_scalar.specs.Places.{first_text, first_end, lines_at}
 use Rattle.al_scalar.specs.LineEnds.{cells_at, cells_between, broken_line, SameLine, first_last, later}
-use Rattle.al_scalar.specs.Private.BlockRead.{row_like, last_row, rest, rest_of, AddsRow, EndsRow, last_line}
+use Rattle.al_scalar.specs.Private.BlockRead.{row_like, last_row, rest_of, AddsRow, EndsRow, last_line}
 use Rattle.al_scalar.specs.declared.block.BlockStyle.{BlockStyle}
 use Rattle.al_scalar.specs.declared.block.RowState.{RowState}
 use Rattle.al_scalar.proofs.LineLemmas.{cells_between-front}
@@ -85,17 +85,21 @@ spaced-between bytes from stop b h e = ap begins_blank (cells_between-front byte
 abbrev pub of_rows : Bool → Chomping → Option BlockLine → List ℕ → ℕ → Rows → Taken
 of_rows lit k last es end rs = record { text = text_after lit k last es rs.rows; end = rows_end end rs.rows; left = rs.left }
 
-pub rest-more : (lit : Bool) (k : Chomping) (m : Option ℕ) (found : Bool) (last : Option BlockLine) (es : List ℕ) (end : ℕ) (xs : List Line) (t : List Cell) → has_line xs ≡ true
-    → row_of m found (first_text xs) ≡ Some t → first_last xs ≡ false
-    → rest lit k m found last es end xs ≡ of_rows lit k last es end (with_row (record { text = t; break = first_end xs ∷ [] }) (rows_at m (found || not (is_all_blank (first_text xs))) (later xs)))
-rest-more lit k m found last es end [] t h e f = cc
-rest-more lit k m found last es end (l ∷ ls) t h e f = rw (e, f, rows_at) refl
+-- the scalar after some rows, given the rows that are left
+abbrev with_rows : BlockStyle → RowState → Rows → Taken
+with_rows style was rs = with_text was.text (of_rows style.literal style.chomping (last_row was.pending.last) was.pending.empties.items was.end rs)
 
-pub rest-last : (lit : Bool) (k : Chomping) (m : Option ℕ) (found : Bool) (last : Option BlockLine) (es : List ℕ) (end : ℕ) (xs : List Line) (t : List Cell) → has_line xs ≡ true
-    → row_of m found (first_text xs) ≡ Some t → first_last xs ≡ true
-    → rest lit k m found last es end xs ≡ of_rows lit k last es end (record { rows = record { text = t; break = [] } ∷ []; left = record { text = []; end = first_end xs; last = true } ∷ [] })
-rest-last lit k m found last es end [] t h e f = cc
-rest-last lit k m found last es end (l ∷ ls) t h e f = rw (e, f, rows_at) refl
+rest-more : (style : BlockStyle) (found : Bool) (was : RowState) (xs : List Line) (t : List Cell) → has_line xs ≡ true
+    → row_of style.indent found (first_text xs) ≡ Some t → first_last xs ≡ false → rest_of style found was xs
+    ≡ with_rows style was (with_row (record { text = t; break = first_end xs ∷ [] }) (rows_at style.indent (found || not (is_all_blank (first_text xs))) (later xs)))
+rest-more style found was [] t h e f = cc
+rest-more style found was (l ∷ ls) t h e f = rw (e, f, rows_at) refl
+
+rest-last : (style : BlockStyle) (found : Bool) (was : RowState) (xs : List Line) (t : List Cell) → has_line xs ≡ true
+    → row_of style.indent found (first_text xs) ≡ Some t → first_last xs ≡ true → rest_of style found was xs
+    ≡ with_rows style was (record { rows = record { text = t; break = [] } ∷ []; left = record { text = []; end = first_end xs; last = true } ∷ [] })
+rest-last style found was [] t h e f = cc
+rest-last style found was (l ∷ ls) t h e f = rw (e, f, rows_at) refl
 
 -- ---- the steps of the loop over lines
 
@@ -111,9 +115,7 @@ rows-last style found was is bytes i from stop e r s u w z g h =
     let ended : first_end ls ≡ stop = s.end ∙ u.end ∙ ap first_end at_stop in
     let is_last : first_last ls ≡ true = s.last ∙ u.last ∙ ap first_last at_stop in
     let row : row_of style.indent found (first_text ls) ≡ Some cells = r ∙ ap Some (w ∙ ap (cells_between bytes from) z) in
-    e ∙ ap (with_text was.text) (rest-last style.literal style.chomping style.indent found (last_row was.pending.last) was.pending.empties.items was.end ls cells
-    (lines_at-some bytes i) row is_last)
-    ∙ rw (g, h, ended, at_stop) refl
+    e ∙ rest-last style found was ls cells (lines_at-some bytes i) row is_last ∙ rw (g, h, ended, at_stop) refl
 
 pub rows-more : {x : Taken} (style : BlockStyle) (found b : Bool) (was is : RowState) (bytes : List ℕ) (i from stop next : ℕ)
     → x ≡ rest_of style found was (lines_at bytes i) → row_of style.indent found (first_text (lines_at bytes i)) ≡ Some (first_text (lines_at bytes from))
@@ -129,6 +131,4 @@ rows-more style found b was is bytes i from stop next e r s u w z q g h =
     let after : later ls ≡ lines_at bytes next = s.later ∙ u.later ∙ ap later z in
     let row : row_of style.indent found (first_text ls) ≡ Some cells = r ∙ ap Some w in
     let rs = rows_at style.indent (found || not b) (lines_at bytes next) in
-    e ∙ ap (with_text was.text) (rest-more style.literal style.chomping style.indent found (last_row was.pending.last) was.pending.empties.items was.end ls cells
-    (lines_at-some bytes i) row is_last)
-    ∙ rw (q, after, ended, g style.chomping rs.rows, ← h) refl
+    e ∙ rest-more style found was ls cells (lines_at-some bytes i) row is_last ∙ rw (q, after, ended, g style.chomping rs.rows, ← h) refl
