@@ -1,7 +1,6 @@
 -- Lists after appends: their prefixes, and their elements as sets.
-use Rattle.std.specs.Prelude.{Contains, ◌↔◌}
-use Rattle.std.proofs.Common.{◌≡◌, List, [], ◌++◌, ◌∙◌, sym, ap, append_assoc, append-nil, subst, ◌⊎◌, ⊎_elim}
-use Rattle.std.proofs.lemmas.List.Elements.{Contains-append_left, Contains-append_right, Contains-append_cases}
+use Rattle.std.specs.Prelude.{Contains}
+use Rattle.std.proofs.Common.{◌≡◌, List, [], ◌++◌, ◌∙◌, sym, ap, append_assoc, append-nil, subst}
 use Rattle.al_base.specs.Growth.{BeginsWith, SameSet}
 
 -- A list begins with itself, and still does after appends.
@@ -18,9 +17,3 @@ pub ruleset growth = (begins_by, begins_same, begins_trans)
 
 pub same_set : {X : Type 0} (xs ys : List X) → xs ≡ ys → SameSet xs ys
 same_set xs ys e x = let P : List _ → Type 0 = λ l. Contains l x in (λ h. subst P e h, λ h. subst P (sym e) h)
-
--- Appending a list adds its elements.
-pub adds_set : {X : Type 0} (old new more : List X) → new ≡ old ++ more → (x : X) → Contains new x ↔ (Contains old x ⊎ Contains more x)
-adds_set {X} old new more e x =
-    let P : List X → Type 0 = λ l. Contains l x in
-    (λ h. Contains-append_cases old more x (subst P e h), λ h. subst P (sym e) (⊎_elim (λ a. Contains-append_left old more x a) (λ b. Contains-append_right old more x b) h))

@@ -7,5 +7,5 @@ use Rattle.al_base.specs.Ascii.{ascii}
 abbrev pub digit_of : ℕ → ℕ
 digit_of b = b - ascii "0"
 
-abbrev pub decimal : List ℕ → ℕ
-decimal digits = number_from_digits 10 (map digit_of digits)
+abbrev pub number_from_decimal : List ℕ → ℕ
+number_from_decimal digits = number_from_digits 10 (map digit_of digits)

@@ -9,15 +9,14 @@ ghost use Rattle.al_expr_grammar.specs.Chunks.{IsCutFrom, chunks_of, span_of_chu
 ghost use Rattle.al_expr_types.specs.Tables.{objects_of, type_at};
 ghost use Rattle.al_expr_typing.specs.Scopes.{IsShown, scope_view};
 ghost use Rattle.al_scalar.specs.Scalar.{text_of};
-ghost use Rattle.al_rules_formats.specs.Chunks.{is_lone as lone};
-ghost use Rattle.al_rules_formats.specs.declared.chunks.Around.TheVariants.{Nothing};
+ghost use Rattle.al_expr_grammar.specs.Lone.{is_lone as lone};
+ghost use Rattle.al_expr_grammar.specs.declared.lone.Around.TheVariants.{Nothing};
 
 use al_base::{Fault, FaultSink};
 use al_check_objects::class_type_of;
-use al_expr_grammar::{Chunk, chunks, parse_expr};
+use al_expr_grammar::{Around, Chunk, chunks, is_lone, parse_expr};
 use al_expr_types::{Ty, Types};
 use al_expr_typing::{Scope, type_of};
-use al_rules_formats::{Around, is_lone};
 use al_scalar::Scalar;
 use al_tree::contains_chunk;
 use std::alloc::AllocError;

@@ -6,7 +6,7 @@ use Rattle.std.proofs.lemmas.Bool.Decides.{nat_tests}
 use Rattle.std.proofs.lemmas.List.{drop_more, length-map}
 use Rattle.std.proofs.lemmas.Map.Text.{is_eq-slice_cmp}
 use Rattle.std.proofs.lemmas.Option.{slice_get-map, slice_get_past, slice_get_read}
-use Rattle.std.specs.BTreeMap.{BTreeMap, Updates, get, get_by, is_at as is_at_key}
+use Rattle.std.specs.BTreeMap.{BTreeMap, Updates, get, get_by, is_at}
 use Rattle.std.specs.Cmp.Lexicographic.{slice_cmp}
 use Rattle.std.specs.Map.{lookup}
 use Rattle.std.specs.Option.{option_cmp, option_copied, option_eq, option_flatten}
@@ -16,7 +16,7 @@ use Rattle.std.specs.Slice.{IsItemAt}
 use Rattle.std.specs.Str.{bytes_eq}
 use Rattle.std.specs.declared.cmp.Ordering.{Ordering}
 use Rattle.std.specs.declared.cmp.Ordering.TheVariants.{Equal}
-use Rattle.al_check_contexts.specs.Answered.{OutputsOfCall, is_at, call_outputs}
+use Rattle.al_check_contexts.specs.Answered.{OutputsOfCall, is_call_at, call_outputs}
 use Rattle.al_expr_types.specs.declared.name_list.NameList.{NameList}
 use Rattle.al_check_contexts.specs.Lookups.{Found, and_found, found_at, known_by, list_at}
 use Rattle.al_check_contexts.specs.declared.known.Answer.{Answer}
@@ -74,7 +74,7 @@ same_option cmp eq same (Some x) (Some y) = same x y
 same_option cmp eq same _ _ = refl
 
 at_place : (key : Key) (names : Option (List (List ℕ))) (job : Option (List ℕ)) (step : Option ℕ) →
-    is_at_key (key_cmp key) (to_job job, step) ≡ is_at job step (record { job = option_copied key.0; step = key.1; names = names })
+    is_at (key_cmp key) (to_job job, step) ≡ is_call_at job step (record { job = option_copied key.0; step = key.1; names = names })
 at_place key names job step =
     then_eq (job_cmp key.0 (to_job job)) (option_cmp nat_cmp key.1 step)
     ∙ ap (λ b. b && is_eq (job_cmp key.0 (to_job job))) (same_option nat_cmp (λ i k. i == k) same_number key.1 step)
@@ -124,14 +124,14 @@ put_found old new key position u =
     let names : Option ℕ → Option (List (List ℕ)) = option_and_then (list_at old) in
     λ d job step.
     (ap (option_map names) (sym (got new job step) ∙ u.0 (to_job job, step))
-    ∙ chosen names (is_at_key (key_cmp key) (to_job job, step)) position (get key_cmp old.positions (to_job job, step))
-    ∙ ap (λ o. if is_at_key (key_cmp key) (to_job job, step) then Some (names position) else option_map names o) (got old.positions job step)
+    ∙ chosen names (is_at (key_cmp key) (to_job job, step)) position (get key_cmp old.positions (to_job job, step))
+    ∙ ap (λ o. if is_at (key_cmp key) (to_job job, step) then Some (names position) else option_map names o) (got old.positions job step)
     ∙ ap (λ b. if b then Some (names position) else option_map names (get_by (place_cmp job step) old.positions)) (at_place key (names position) job step)) d
 
 -- ---- all answers
 
 abbrev pub found_in : List OutputsOfCall → Found
-found_in bs job step = option_map (λ b. b.names) (find (is_at job step) bs)
+found_in bs job step = option_map (λ b. b.names) (find (is_call_at job step) bs)
 
 -- one more answer, prepended
 pub found_more : (lists : List (List (List ℕ))) (answers : List Answer) (i k : ℕ) (d : Answer) (old new : Found) → i < length answers → k ≡ i + 1 →
@@ -141,10 +141,10 @@ found_more lists answers i k d old new within next put so_far =
     let b = call_outputs lists (get_or answers i d) in
     let rest = map (call_outputs lists) (drop (i + 1) answers) in
     put ∙ ap (and_found b) (so_far ∙ ap (λ n. found_in (map (call_outputs lists) (drop n answers))) next)
-    ∙ (λ e job step. sym (chosen (λ (x : OutputsOfCall). x.names) (is_at job step b) b (find (is_at job step) rest)) e)
+    ∙ (λ e job step. sym (chosen (λ (x : OutputsOfCall). x.names) (is_call_at job step b) b (find (is_call_at job step) rest)) e)
     ∙ ap (λ l. found_in (map (call_outputs lists) l)) (sym (drop_more answers i d within))
 
 -- where nothing was put
 pub none_found : (o : Outputs) (bs : List OutputsOfCall) → o.positions.entries ≡ [] → bs ≡ [] → found_at o ≡ found_in bs
 unfolding found_at
-none_found o bs e h = (λ d job step. option_map (option_and_then (list_at o)) (lookup (is_at_key (place_cmp job step)) (e d))) ∙ ap found_in (sym h)
+none_found o bs e h = (λ d job step. option_map (option_and_then (list_at o)) (lookup (is_at (place_cmp job step)) (e d))) ∙ ap found_in (sym h)

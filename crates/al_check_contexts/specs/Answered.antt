@@ -15,12 +15,12 @@ pub record OutputsOfCall : Type 0 where
   pub names : Option (List (List ℕ))
 
 -- whether it is about this job and step
-abbrev pub is_at : Option (List ℕ) → Option ℕ → OutputsOfCall → Bool
-is_at job step b = option_eq (λ i k. i == k) b.step step && option_eq bytes_eq b.job job
+abbrev pub is_call_at : Option (List ℕ) → Option ℕ → OutputsOfCall → Bool
+is_call_at job step b = option_eq (λ i k. i == k) b.step step && option_eq bytes_eq b.job job
 
 -- the names in the first answer for a job or a step
 abbrev pub known_in : List OutputsOfCall → OutputNames
-known_in bs job step = option_and_then (λ b. b.names) (find (is_at job step) bs)
+known_in bs job step = option_and_then (λ b. b.names) (find (is_call_at job step) bs)
 
 -- the meaning of the program's answer, given the lists of names that its position refers to
 abbrev pub call_outputs : List (List (List ℕ)) → Answer → OutputsOfCall

@@ -9,7 +9,7 @@ use Rattle.al_types.specs.Strings.{named_strings}
 use Rattle.al_types.specs.Types.{Type', Any, String}
 use Rattle.al_scalar.specs.Scalar.{Scalar}
 use Rattle.al_yaml_tree.specs.Node.{Node}
-use Rattle.al_check_contexts.specs.Answered.{OutputsOfCall, is_at}
+use Rattle.al_check_contexts.specs.Answered.{OutputsOfCall, is_call_at}
 use Rattle.al_check_contexts.specs.Contexts.{OutputNames, job_field, step_type}
 use Rattle.al_check_objects.specs.Objects.{loose_any, loose_strings, strictly}
 use Rattle.al_check_contexts.specs.declared.known.Outputs.{Outputs}
@@ -34,7 +34,7 @@ found_at o job step =
 
 -- with one more answer before the others
 abbrev pub and_found : OutputsOfCall → Found → Found
-and_found b found job step = if is_at job step b then Some b.names else found job step
+and_found b found job step = if is_call_at job step b then Some b.names else found job step
 
 abbrev pub known_by : Outputs → OutputNames
 known_by o job step = option_and_then (λ names. names) (found_at o job step)

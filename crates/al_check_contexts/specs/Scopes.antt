@@ -13,7 +13,7 @@ use Rattle.al_expr_names.specs.declared.names.Function.TheVariants.{HashFiles}
 use Rattle.al_yaml_tree.specs.Node.{Node}
 use Rattle.al_tree.specs.declared.files.FileKind.{FileKind}
 use Rattle.al_tree.specs.declared.files.FileKind.TheVariants as kind
-use Rattle.al_check_places.specs.Availability.{Row}
+use Rattle.al_check_places.specs.Availability.{AvailabilityRow}
 use Rattle.al_check_places.specs.Places.{Place}
 use Rattle.al_check_contexts.specs.Contexts.{OutputNames, context_type_at}
 
@@ -27,7 +27,7 @@ abbrev pub special_in_action : Bool → List Function
 special_in_action is_condition = if is_condition then special else HashFiles ∷ []
 
 -- In a workflow the row of the place decides; without one, every context is available.
-abbrev pub available_at : FileKind → Option Row → Bool → Available
+abbrev pub available_at : FileKind → Option AvailabilityRow → Bool → Available
 available_at kind.Workflow row is_condition =
     option_map_or (λ r. available r.contexts r.special) row (available (map (λ c. c.1) contexts) [])
 available_at kind.Action row is_condition = available of_action (special_in_action is_condition)

@@ -4,7 +4,7 @@ ghost use Rattle.al_check_contexts.specs.Scopes as scopes;
 ghost use Rattle.al_check_places.specs.Availability.{row_view};
 ghost use Rattle.al_expr_names.specs.Scopes.{available_of};
 
-use al_check_places::Row;
+use al_check_places::AvailabilityRow;
 use al_expr_names::{Available, CONTEXTS, Context, Function, SPECIAL_FUNCTIONS};
 use al_tree::FileKind;
 
@@ -27,7 +27,11 @@ const OF_ACTION: &[Context] = &[
 /// availability"): in a workflow the contexts and special functions of the row, and without a row
 /// all contexts and no special function. In an action it doesn't depend on the row: the contexts of
 /// actions and `hashFiles`, and in conditions the functions that tell the status of the job so far.
-pub fn available_at(kind: FileKind, row: Option<&'static Row>, is_condition: bool) -> Available
+pub fn available_at(
+    kind: FileKind,
+    row: Option<&'static AvailabilityRow>,
+    is_condition: bool,
+) -> Available
     ensures { available_of result
         ≡ scopes.available_at kind (option_map (λ r. row_view r.now) row.entry) is_condition }
 {

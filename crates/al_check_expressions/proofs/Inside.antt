@@ -33,8 +33,8 @@ use Rattle.al_check_places.specs.Places.{Place, places_of}
 use Rattle.al_check_contexts.specs.Contexts.{OutputNames}
 use Rattle.al_check_contexts.specs.Scopes.{scope_at}
 use Rattle.al_check_expressions.specs.FileExpressions.{expression_faults}
-use Rattle.al_rules_formats.specs.Chunks.{is_lone_chunk}
-use Rattle.al_rules_formats.specs.declared.chunks.Around.TheVariants.{Nothing}
+use Rattle.al_expr_grammar.specs.Lone.{is_lone_chunk}
+use Rattle.al_expr_grammar.specs.declared.lone.Around.TheVariants.{Nothing}
 use Rattle.al_check_expressions.specs.Contents.{chunk_faults, chunked_faults, collection_faults, content_faults, is_whole, span_in_file, fault_in_file, place_faults, tree_faults}
 use Rattle.al_expr_grammar.specs.Inside.{AllLie}
 use Rattle.al_check_expressions.specs.Inside.{IsThere}

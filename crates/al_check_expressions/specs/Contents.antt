@@ -14,8 +14,8 @@ use Rattle.al_expr_grammar.specs.Extents.{extent}
 use Rattle.al_expr_grammar.specs.Refusal.{expression_fault, fault_of_content}
 use Rattle.al_expr_grammar.specs.Tree.{Tree}
 use Rattle.al_expr_names.specs.Scopes.{Scope}
-use Rattle.al_rules_formats.specs.Chunks.{is_lone_chunk}
-use Rattle.al_rules_formats.specs.declared.chunks.Around.TheVariants.{Nothing}
+use Rattle.al_expr_grammar.specs.Lone.{is_lone_chunk}
+use Rattle.al_expr_grammar.specs.declared.lone.Around.TheVariants.{Nothing}
 use Rattle.al_types.specs.Types.{Type', is_collection}
 use Rattle.al_expr_typing.specs.Meaning.{faults_found, meaning_of, type_found}
 use Rattle.al_tree.specs.Faults.{has_chunk}
@@ -38,20 +38,20 @@ fault_in_file s by f = record f { span = span_in_file s (by + f.span.start) (by 
 
 -- X18: an object or array with other text around it, or where only a scalar is accepted
 abbrev pub collection_faults : Bool → Bool → Type' → Tree → List Fault
-collection_faults is_alone is_scalar_only t tree =
-    if is_collection t && (not is_alone || is_scalar_only) then
+collection_faults is_lone is_scalar_only t tree =
+    if is_collection t && (not is_lone || is_scalar_only) then
     expression_fault code.NotText (extent tree) [] ∷ [] else []
 
 abbrev pub tree_faults : Scope → Bool → Bool → Tree → List Fault
-tree_faults sc is_alone is_scalar_only tree =
+tree_faults sc is_lone is_scalar_only tree =
     faults_found (meaning_of sc tree)
-    ++ collection_faults is_alone is_scalar_only (type_found (meaning_of sc tree)) tree
+    ++ collection_faults is_lone is_scalar_only (type_found (meaning_of sc tree)) tree
 
 -- an expression with X1 to X6 has no other fault
 abbrev pub content_faults : Scope → Bool → Bool → List ℕ → List Fault
-content_faults sc is_alone is_scalar_only bytes =
+content_faults sc is_lone is_scalar_only bytes =
     option_map_or (λ f. f ∷ []) (fault_of_content bytes)
-    (tree_faults sc is_alone is_scalar_only (tree_of_content bytes))
+    (tree_faults sc is_lone is_scalar_only (tree_of_content bytes))
 
 abbrev pub chunk_faults : Scope → Bool → Scalar → Span → List Fault
 chunk_faults sc is_scalar_only s c =

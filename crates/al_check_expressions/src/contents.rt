@@ -17,10 +17,9 @@ ghost use Rattle.al_base.specs.Growth.{BeginsWith};
 
 use al_base::{Code, ExpressionCode, Fault, FaultSink, Span};
 use al_check_places::Place;
-use al_expr_grammar::{Expr, chunks, extent, parse_expr};
+use al_expr_grammar::{Around, Expr, chunks, extent, is_lone, parse_expr};
 use al_expr_types::Types;
 use al_expr_typing::{Scope, type_of};
-use al_rules_formats::{Around, is_lone};
 use al_scalar::Scalar;
 use al_tree::contains_chunk;
 use std::alloc::AllocError;
@@ -52,7 +51,7 @@ struct Text<'s> {
     scope: &'s Scope,
     scalar: &'s Scalar,
     /// Whether the expression is all of its text.
-    is_alone: bool,
+    is_lone: bool,
     /// Whether only a scalar is accepted at its place.
     is_scalar_only: bool,
 }
@@ -68,11 +67,11 @@ fn check_tree(
     requires { IsShown types.old text.now.scope.now }
     ensures ok { OnOk result
         (faults.new ≡ faults.old ++ tree_faults (scope_view types.old text.now.scope.now)
-        text.now.is_alone text.now.is_scalar_only (expr_view expr.now)) }
+        text.now.is_lone text.now.is_scalar_only (expr_view expr.now)) }
     ensures kept { BeginsWith (objects_of types.new) (objects_of types.old) }
 {
     let ty = type_of(types, text.scope, expr, faults)?;
-    if ty.is_collection() && (!text.is_alone || text.is_scalar_only) {
+    if ty.is_collection() && (!text.is_lone || text.is_scalar_only) {
         faults.report_plain(extent(expr), Code::Expression(ExpressionCode::NotText))?;
     }
     Ok(())
@@ -88,7 +87,7 @@ fn check_content(
     requires { IsShown types.old text.now.scope.now }
     ensures ok { OnOk result
         (faults.new ≡ faults.old ++ content_faults (scope_view types.old text.now.scope.now)
-        text.now.is_alone text.now.is_scalar_only content.now) }
+        text.now.is_lone text.now.is_scalar_only content.now) }
     ensures kept { BeginsWith (objects_of types.new) (objects_of types.old) }
 {
     match parse_expr(faults.alloc(), content)? {
@@ -122,7 +121,7 @@ fn check_expression(
     requires fits { start < 2 ^ 32 }
     ensures ok { OnOk result (faults.new ≡ faults.old
         ++ map (fault_in_file text.now.scalar.now start) (content_faults
-        (scope_view types.old text.now.scope.now) text.now.is_alone text.now.is_scalar_only
+        (scope_view types.old text.now.scope.now) text.now.is_lone text.now.is_scalar_only
         content.now)) }
     ensures kept { BeginsWith (objects_of types.new) (objects_of types.old) }
 {
@@ -153,7 +152,7 @@ fn check_chunks(
     let text = Text {
         scope,
         scalar: place.scalar,
-        is_alone: is_lone(
+        is_lone: is_lone(
             Around::Nothing,
             content.as_bytes(),
             found.as_slice(),
@@ -199,7 +198,7 @@ pub(crate) fn check_place(
     let text = Text {
         scope,
         scalar: place.scalar,
-        is_alone: true,
+        is_lone: true,
         is_scalar_only: place.is_scalar_only,
     };
     check_expression(types, &text, place.scalar.as_str(), 0, faults)

@@ -3,8 +3,8 @@ use Rattle.std.specs.Prelude.{if◌then◌else◌}
 use Rattle.al_scalar.specs.Scalar.{Scalar, text_of}
 use Rattle.al_scalar.specs.declared.styles.Class.{Class}
 use Rattle.al_scalar.specs.declared.styles.Class.TheVariants as class
-use Rattle.al_rules_formats.specs.Chunks.{is_lone_chunk}
-use Rattle.al_rules_formats.specs.declared.chunks.Around.TheVariants.{Nothing}
+use Rattle.al_expr_grammar.specs.Lone.{is_lone_chunk}
+use Rattle.al_expr_grammar.specs.declared.lone.Around.TheVariants.{Nothing}
 use Rattle.al_tree.specs.Faults.{has_chunk}
 use Rattle.al_types.specs.Types.{Type', Null, Number, Bool', String}
 

@@ -16,8 +16,8 @@ ghost use Rattle.al_yaml_tree.specs.View.{entries_of, entry_view, nodes_of, view
 use crate::field_lists::FieldList;
 use crate::objects::object_of;
 use crate::scalars::class_type_of;
+use al_expr_grammar::{Around, is_lone_chunk};
 use al_expr_types::{Join, Ty, Types};
-use al_rules_formats::{Around, is_lone_chunk};
 use al_scalar::Scalar;
 use al_tree::{contains_chunk, is_combination_key, items, key_of, members, value, value_below_two};
 use al_yaml_tree::{Entry, Node};

@@ -7,54 +7,54 @@ use Rattle.std.proofs.lemmas.Bool.{or_parts}
 use Rattle.std.proofs.lemmas.List.{length-map, length-take, take-map}
 use Rattle.std.specs.Str.{bytes_eq}
 use Rattle.std.proofs.lemmas.Bool.Decides.{nat_tests}
-use Rattle.al_check_places.specs.Availability.{Row, availability, longer, row_view, table}
-use Rattle.al_check_places.specs.declared.table.Row as rust
+use Rattle.al_check_places.specs.Availability.{AvailabilityRow, availability, longer, row_view, table}
+use Rattle.al_check_places.specs.declared.table.AvailabilityRow as rust
 use Rattle.al_check_places.specs.Paths.{Path, is_path_prefix}
 use Rattle.al_check_places.proofs.Prefixes.{too_long}
 
-module _ (begins : Row → Bool) where
+module _ (begins : AvailabilityRow → Bool) where
   -- whether a row's path begins the keys and has at least n keys, or just n
-  abbrev pub reaches : ℕ → Row → Bool
+  abbrev pub reaches : ℕ → AvailabilityRow → Bool
   reaches n r = begins r && not (nat_lt (length r.path) n)
 
-  abbrev pub has : ℕ → Row → Bool
+  abbrev pub has : ℕ → AvailabilityRow → Bool
   has n r = (length r.path == n) && begins r
 
-  abbrev best : Option Row → List Row → Option Row
+  abbrev best : Option AvailabilityRow → List AvailabilityRow → Option AvailabilityRow
   best q rs = fold longer q (filter begins rs)
 
-  abbrev shorter : ℕ → Option Row → Bool
+  abbrev shorter : ℕ → Option AvailabilityRow → Bool
   shorter n q = option_map_or (λ r. nat_lt (length r.path) n) q true
 
   -- a row stays the best of those that aren't longer
-  stays_here : (here : Bool) (q r : Row) (rs : List Row) → (here && not (nat_lt (length r.path) (length q.path + 1))) ≡ false → best (Some q) rs ≡ Some q →
+  stays_here : (here : Bool) (q r : AvailabilityRow) (rs : List AvailabilityRow) → (here && not (nat_lt (length r.path) (length q.path + 1))) ≡ false → best (Some q) rs ≡ Some q →
       fold longer (Some q) (if here then r ∷ filter begins rs else filter begins rs) ≡ Some q
   stays_here true q r rs h k = let less : nat_lt (length q.path) (length r.path) ≡ false = grind (arith, nat_tests, h) in ap (λ b. best (if b then Some r else Some q) rs) less ∙ k
   stays_here false q r rs h k = k
 
-  stays : (q : Row) (rs : List Row) → list_any (reaches (length q.path + 1)) rs ≡ false → best (Some q) rs ≡ Some q
+  stays : (q : AvailabilityRow) (rs : List AvailabilityRow) → list_any (reaches (length q.path + 1)) rs ≡ false → best (Some q) rs ≡ Some q
   stays q [] h = refl
   stays q (r ∷ rs) h =
       let parts = or_parts (reaches (length q.path + 1) r) (list_any (reaches (length q.path + 1)) rs) h in
       stays_here (begins r) q r rs parts.0 (stays q rs parts.1)
 
   -- the longer of a row and of one with fewer than n keys, if the row has n or fewer
-  takes : (n : ℕ) (q : Option Row) (r : Row) → shorter n q ≡ true → length r.path ≡ n → longer q r ≡ Some r
+  takes : (n : ℕ) (q : Option AvailabilityRow) (r : AvailabilityRow) → shorter n q ≡ true → length r.path ≡ n → longer q r ≡ Some r
   takes n None r h e = refl
   takes n (Some q) r h e = rw (e, h) refl
 
-  both_shorter : (n : ℕ) (q : Option Row) (r : Row) → shorter n q ≡ true → nat_lt (length r.path) n ≡ true → shorter n (longer q r) ≡ true
+  both_shorter : (n : ℕ) (q : Option AvailabilityRow) (r : AvailabilityRow) → shorter n q ≡ true → nat_lt (length r.path) n ≡ true → shorter n (longer q r) ≡ true
   both_shorter n None r h less = less
   both_shorter n (Some q) r h less = one_of (nat_lt (length q.path) (length r.path)) q r h less
     where
-      one_of : (b : Bool) (q r : Row) → nat_lt (length q.path) n ≡ true → nat_lt (length r.path) n ≡ true → shorter n (if b then Some r else Some q) ≡ true
+      one_of : (b : Bool) (q r : AvailabilityRow) → nat_lt (length q.path) n ≡ true → nat_lt (length r.path) n ≡ true → shorter n (if b then Some r else Some q) ≡ true
       one_of true q r h less = less
       one_of false q r h less = h
 
   -- the first row with n keys is the best, if none has more
-  found_here : (here is : Bool) (n : ℕ) (q : Option Row) (r x : Row) (rs : List Row) → is ≡ (length r.path == n) → shorter n q ≡ true →
+  found_here : (here is : Bool) (n : ℕ) (q : Option AvailabilityRow) (r x : AvailabilityRow) (rs : List AvailabilityRow) → is ≡ (length r.path == n) → shorter n q ≡ true →
       (here && not (nat_lt (length r.path) (n + 1))) ≡ false → (length r.path ≡ n → best (Some r) rs ≡ Some r) →
-      ((p : Option Row) → shorter n p ≡ true → find (has n) rs ≡ Some x → best p rs ≡ Some x) →
+      ((p : Option AvailabilityRow) → shorter n p ≡ true → find (has n) rs ≡ Some x → best p rs ≡ Some x) →
       (if is && here then Some r else find (has n) rs) ≡ Some x → fold longer q (if here then r ∷ filter begins rs else filter begins rs) ≡ Some x
   found_here true true n q r x rs e s h kept more f =
       let same : length r.path ≡ n = grind (arith, nat_tests, e) in ap (λ p. best p rs) (takes n q r s same) ∙ kept same ∙ f
@@ -63,7 +63,7 @@ module _ (begins : Row → Bool) where
   found_here false true n q r x rs e s h kept more f = more q s f
   found_here false false n q r x rs e s h kept more f = more q s f
 
-  pub found : (n : ℕ) (q : Option Row) (rs : List Row) (x : Row) → shorter n q ≡ true → list_any (reaches (n + 1)) rs ≡ false → find (has n) rs ≡ Some x →
+  pub found : (n : ℕ) (q : Option AvailabilityRow) (rs : List AvailabilityRow) (x : AvailabilityRow) → shorter n q ≡ true → list_any (reaches (n + 1)) rs ≡ false → find (has n) rs ≡ Some x →
       best q rs ≡ Some x
   found n q [] x s h f = absurd cc
   found n q (r ∷ rs) x s h f =
@@ -71,7 +71,7 @@ module _ (begins : Row → Bool) where
       found_here (begins r) (length r.path == n) n q r x rs refl s parts.0 (λ e. stays r rs (rw e parts.1)) (λ p t g. found n p rs x t parts.1 g) f
 
   -- if no row has n keys either, all have fewer
-  fewer_here : (here is rest : Bool) (n : ℕ) (r : Row) (after : Option Row) → is ≡ (length r.path == n) → (here && not (nat_lt (length r.path) (n + 1))) ≡ false →
+  fewer_here : (here is rest : Bool) (n : ℕ) (r : AvailabilityRow) (after : Option AvailabilityRow) → is ≡ (length r.path == n) → (here && not (nat_lt (length r.path) (n + 1))) ≡ false →
       (after ≡ None → rest ≡ false) → (if is && here then Some r else after) ≡ None → ((here && not (nat_lt (length r.path) n)) || rest) ≡ false
   fewer_here true true rest n r after e h more f = absurd cc
   fewer_here true false rest n r after e h more f =
@@ -79,28 +79,28 @@ module _ (begins : Row → Bool) where
   fewer_here false true rest n r after e h more f = more f
   fewer_here false false rest n r after e h more f = more f
 
-  pub fewer : (n : ℕ) (rs : List Row) → list_any (reaches (n + 1)) rs ≡ false → find (has n) rs ≡ None → list_any (reaches n) rs ≡ false
+  pub fewer : (n : ℕ) (rs : List AvailabilityRow) → list_any (reaches (n + 1)) rs ≡ false → find (has n) rs ≡ None → list_any (reaches n) rs ≡ false
   fewer n [] h f = refl
   fewer n (r ∷ rs) h f =
       let parts = or_parts (reaches (n + 1) r) (list_any (reaches (n + 1)) rs) h in
       fewer_here (begins r) (length r.path == n) _ n r _ refl parts.0 (fewer n rs parts.1) f
 
   -- if all have fewer than none, there is no row
-  none_here : (here : Bool) (q : Option Row) (r : Row) (rs : List Row) → (here && not (nat_lt (length r.path) 0)) ≡ false → best q rs ≡ q →
+  none_here : (here : Bool) (q : Option AvailabilityRow) (r : AvailabilityRow) (rs : List AvailabilityRow) → (here && not (nat_lt (length r.path) 0)) ≡ false → best q rs ≡ q →
       fold longer q (if here then r ∷ filter begins rs else filter begins rs) ≡ q
   none_here true q r rs h k = absurd (grind (arith, nat_tests, h))
   none_here false q r rs h k = k
 
-  pub none : (q : Option Row) (rs : List Row) → list_any (reaches 0) rs ≡ false → best q rs ≡ q
+  pub none : (q : Option AvailabilityRow) (rs : List AvailabilityRow) → list_any (reaches 0) rs ≡ false → best q rs ≡ q
   none q [] h = refl
   none q (r ∷ rs) h =
       let parts = or_parts (reaches 0 r) (list_any (reaches 0) rs) h in none_here (begins r) q r rs parts.0 (none q rs parts.1)
 
-abbrev pub begins : List (List ℕ) → Row → Bool
+abbrev pub begins : List (List ℕ) → AvailabilityRow → Bool
 begins ks r = is_path_prefix r.path ks
 
 -- no path has more keys than there are, or more than six
-at_most : (ks : List (List ℕ)) (rs : List Row) → list_any (λ r. nat_lt 6 (length r.path)) rs ≡ false → list_any (reaches (begins ks) (min (length ks) 6 + 1)) rs ≡ false
+at_most : (ks : List (List ℕ)) (rs : List AvailabilityRow) → list_any (λ r. nat_lt 6 (length r.path)) rs ≡ false → list_any (reaches (begins ks) (min (length ks) 6 + 1)) rs ≡ false
 at_most ks [] h = refl
 at_most ks (r ∷ rs) h =
     let parts = or_parts (nat_lt 6 (length r.path)) (list_any (λ r. nat_lt 6 (length r.path)) rs) h in
@@ -134,21 +134,21 @@ module _ (keys : List (Bor (List ℕ))) (n : ℕ) (inside : n ≤ length keys) w
   abbrev ks : List (List ℕ)
   ks = map (λ k. k.now) keys
 
-  abbrev Is : Option (Bor rust.Row) → Type 0
+  abbrev Is : Option (Bor rust.AvailabilityRow) → Type 0
   Is r = let some = map (λ k. k.now) (take n keys) in
       option_map (λ r. row_view r.now) r ≡ find (λ r. (length r.path == length some) && is_path_prefix r.path some) table
 
-  found_along : (r : Option (Bor rust.Row)) → Is r → option_map (λ r. row_view r.now) r ≡ find (has (begins ks) n) table
+  found_along : (r : Option (Bor rust.AvailabilityRow)) → Is r → option_map (λ r. row_view r.now) r ≡ find (has (begins ks) n) table
   found_along r is =
       is ∙ ap (λ some. find (λ r. (length r.path == length some) && is_path_prefix r.path some) table) (sym (take-map (λ k. k.now) n keys))
       ∙ along ks n (omega (arith, inside, length-map keys (λ k. k.now)))
 
-  pub longest : (r : Option (Bor rust.Row)) → list_any (reaches (begins ks) (n + 1)) table ≡ false → Is r → is_some r ≡ true →
+  pub longest : (r : Option (Bor rust.AvailabilityRow)) → list_any (reaches (begins ks) (n + 1)) table ≡ false → Is r → is_some r ≡ true →
       option_map (λ r. row_view r.now) r ≡ availability ks
   longest None h is some = absurd cc
   longest (Some x) h is some = sym (found (begins ks) n None table (row_view x.now) refl h (sym (found_along (Some x) is)))
 
-  pub shorter_left : (r : Option (Bor rust.Row)) → list_any (reaches (begins ks) (n + 1)) table ≡ false → Is r → is_some r ≡ false →
+  pub shorter_left : (r : Option (Bor rust.AvailabilityRow)) → list_any (reaches (begins ks) (n + 1)) table ≡ false → Is r → is_some r ≡ false →
       list_any (reaches (begins ks) n) table ≡ false
   shorter_left None h is some = fewer (begins ks) n table h (sym (found_along None is))
   shorter_left (Some x) h is some = absurd cc

@@ -13,10 +13,10 @@ use Rattle.al_expr_names.specs.declared.names.Function.{Function}
 use Rattle.al_expr_names.specs.declared.names.Function.TheVariants.{HashFiles}
 use Rattle.al_expr_names.specs.Scopes.{status}
 use Rattle.al_check_places.specs.Paths.{Path, path, is_path_prefix, key_view}
-use Rattle.al_check_places.specs.declared.table.Row as rust
+use Rattle.al_check_places.specs.declared.table.AvailabilityRow as rust
 
 -- a path, with the contexts and special functions there
-pub record Row : Type 0 where
+pub record AvailabilityRow : Type 0 where
   pub path : Path
   pub contexts : List Context
   pub special : List Function
@@ -34,11 +34,11 @@ abbrev pub of_step : List Context
 of_step = of_job ++ Secrets ∷ Steps ∷ []
 
 -- the rows of paths that have the same contexts and special functions
-abbrev pub rows : List String → List Context → List Function → List Row
+abbrev pub rows : List String → List Context → List Function → List AvailabilityRow
 rows paths contexts special =
     map (λ p. record { path = path p; contexts = contexts; special = special }) paths
 
-abbrev pub table : List Row
+abbrev pub table : List AvailabilityRow
 table =
     rows ("run-name" ∷ "concurrency" ∷ "on.workflow_call.inputs.*.default" ∷ [])
     (Github ∷ Inputs ∷ Vars ∷ []) []
@@ -62,15 +62,15 @@ table =
     ++ rows ("jobs.*.steps.if" ∷ []) (of_job ++ Steps ∷ []) (status ++ HashFiles ∷ [])
 
 -- the longer of two
-abbrev pub longer : Option Row → Row → Option Row
+abbrev pub longer : Option AvailabilityRow → AvailabilityRow → Option AvailabilityRow
 longer None r = Some r
 longer (Some q) r = if nat_lt (length q.path) (length r.path) then Some r else Some q
 
 -- the row with the longest path that is a prefix of the keys; None if everything is available
-abbrev pub availability : List (List ℕ) → Option Row
+abbrev pub availability : List (List ℕ) → Option AvailabilityRow
 availability ks = fold longer None (filter (λ r. is_path_prefix r.path ks) table)
 
 -- the meaning of the program's rows
-abbrev pub row_view : rust.Row → Row
+abbrev pub row_view : rust.AvailabilityRow → AvailabilityRow
 row_view r =
     record { path = map key_view r.path.now; contexts = r.contexts.now; special = r.special.now }

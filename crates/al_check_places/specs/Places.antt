@@ -11,14 +11,14 @@ use Rattle.al_tree.specs.Faults.{Standing, expected, standing, mapping_shape, sc
 use Rattle.al_tree.specs.Faults.{has_chunk, is_null}
 use Rattle.al_tree.specs.Keys.{keys_in}
 use Rattle.al_base.specs.Names.{among}
-use Rattle.al_tree.specs.Table.{Rule, Keys, no_keys, free, rule}
+use Rattle.al_tree.specs.Table.{ShapeRule, Keys, no_keys, free, rule}
 use Rattle.al_tree.specs.declared.table.Shape.{Shape}
 use Rattle.al_tree.specs.declared.table.Shape.TheVariants.{Any}
 use Rattle.al_tree.specs.declared.table.ScalarSet.TheVariants.{AnyScalar}
 use Rattle.al_tree.specs.Files.{shape_of}
 use Rattle.al_tree.specs.declared.files.FileKind.{FileKind}
 use Rattle.al_tree.specs.declared.files.FileKind.TheVariants as kind
-use Rattle.al_check_places.specs.Availability.{Row, availability, row_view}
+use Rattle.al_check_places.specs.Availability.{AvailabilityRow, availability, row_view}
 use Rattle.al_check_places.specs.Ways.{WayStep, under, nth, keys_of, is_checked, is_one, conditions}
 use Rattle.al_check_places.specs.Ways.{scripts}
 use Rattle.al_check_places.specs.Positions.{Position, position_of, position_view}
@@ -30,20 +30,20 @@ use Rattle.al_check_places.specs.declared.walk.Place as rust
 pub record Place : Type 0 where
   pub word : Scalar
   pub is_scalar_only : Bool
-  pub available : Option Row
+  pub available : Option AvailabilityRow
   pub is_condition : Bool
   pub is_script : Bool
   pub position : Position
 
 -- what isn't checked accepts anything
-abbrev pub rule_or_any : Option Rule → Rule
+abbrev pub rule_or_any : Option ShapeRule → ShapeRule
 rule_or_any r = unwrap_or r (record { scalars = AnyScalar; items = Some Any; keys_of = free Any })
 
 -- neither sequences nor mappings are accepted
-abbrev pub takes_scalars_only : Rule → Bool
+abbrev pub takes_scalars_only : ShapeRule → Bool
 takes_scalars_only r = elim r.keys_of [ no_keys ↦ is_none r.items | _ ↦ false ]
 
-abbrev pub row_of_way : FileKind → List WayStep → Option Row
+abbrev pub row_of_way : FileKind → List WayStep → Option AvailabilityRow
 row_of_way kind.Workflow way = availability (keys_of way)
 row_of_way kind.Action way = None
 
@@ -58,7 +58,7 @@ place_at k way only s = record {
 }
 
 -- a scalar that isn't null and that the rule accepts
-abbrev pub fits : Rule → Scalar → Bool
+abbrev pub fits : ShapeRule → Scalar → Bool
 fits r s = not (is_null s) && is_none (scalar_fault r.scalars s)
 
 -- a condition is an expression, and a text with `${{` has one
@@ -66,7 +66,7 @@ abbrev pub has_expression : List WayStep → Scalar → Bool
 has_expression way s = is_one conditions (keys_of way) || has_chunk (text_of s)
 
 -- the place of a scalar, if its way is checked
-abbrev pub scalar_places : FileKind → Rule → Bool → List WayStep → Scalar → List Place
+abbrev pub scalar_places : FileKind → ShapeRule → Bool → List WayStep → Scalar → List Place
 scalar_places k r is_item way s =
     if has_expression way s && fits r s && is_checked k way
     then place_at k way (takes_scalars_only r && not is_item) s ∷ [] else []

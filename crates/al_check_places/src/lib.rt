@@ -10,6 +10,6 @@ mod ways;
 
 pub use laws::placed_scalars;
 pub use positions::{Position, Section, Seen};
-pub use table::{Key, Row, available, rows as available_rows};
+pub use table::{AvailabilityRow, Key, available, rows as available_rows};
 pub use walk::{Place, places};
 pub use ways::{CONDITIONS, NOT_IN_RUNS, NOT_IN_WORKFLOW, OF_CALL, OF_INTERFACE, SCRIPTS, WayStep};

@@ -19,7 +19,7 @@ pub enum Key {
 /// What is available at the places whose keys begin with a path; the indices of sequences aren't
 /// keys (GitHub, "Contexts reference", "Context availability").
 #[derive(Clone, Copy)]
-pub struct Row {
+pub struct AvailabilityRow {
     /// The path from the root of a workflow.
     pub path: &'static [Key],
     /// The contexts that are available.
@@ -54,11 +54,11 @@ macro_rules! key {
 /// A row: the keys of its path, in which `*` is any key; its contexts; and its special functions.
 macro_rules! row {
     ([$($key:tt)+], $contexts:expr, $special:expr) => {
-        Row { path: &[$(key!($key)),+], contexts: $contexts, special: $special }
+        AvailabilityRow { path: &[$(key!($key)),+], contexts: $contexts, special: $special }
     };
 }
 
-const TABLE: &[Row] = &[
+const TABLE: &[AvailabilityRow] = &[
     row!(["run-name"], &[Github, Inputs, Vars], &[]),
     row!(["concurrency"], &[Github, Inputs, Vars], &[]),
     row!(["on" "workflow_call" "inputs" * "default"], &[Github, Inputs, Vars], &[]),
@@ -129,7 +129,7 @@ const TABLE: &[Row] = &[
 
 /// The rows of the table of availability in workflows. Doesn't allocate. Of several rows whose
 /// paths a place begins with, the one with the longest path counts.
-pub fn rows() -> &'static [Row]
+pub fn rows() -> &'static [AvailabilityRow]
     ensures { map row_view result.now ≡ table }
 {
     TABLE
@@ -171,7 +171,7 @@ pub(crate) fn is_path(path: &[Key], keys: &[&[u8]]) -> bool
 }
 
 /// The row whose path the keys are.
-fn row_of(keys: &[&[u8]]) -> Option<&'static Row>
+fn row_of(keys: &[&[u8]]) -> Option<&'static AvailabilityRow>
     ensures { let ks = map (λ k. k.now) keys.now in option_map (λ r. row_view r.now) result
         ≡ find (λ r. (length r.path == length ks) && is_path_prefix r.path ks) table }
 {
@@ -184,7 +184,7 @@ const LONGEST: usize = 6;
 /// The row of a place, by the keys on the way to it; `None` if everything is available.
 // Not inlined: the walk is slower for each node with this in it, and asks it only at expressions.
 #[inline(never)]
-pub fn available(keys: &[&[u8]]) -> Option<&'static Row>
+pub fn available(keys: &[&[u8]]) -> Option<&'static AvailabilityRow>
     ensures { option_map (λ r. row_view r.now) result ≡ availability (map (λ k. k.now) keys.now) }
 {
     for count in (0..keys.len().min(LONGEST) + 1).rev() {

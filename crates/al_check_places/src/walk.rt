@@ -16,11 +16,11 @@ ghost use Rattle.al_check_places.specs.Ways.{under, way_step_view};
 ghost use Rattle.al_yaml_tree.specs.View.{entries_of, entry_view, nodes_of, view};
 
 use crate::positions::{Position, position_at};
-use crate::table::{Row, available};
+use crate::table::{AvailabilityRow, available};
 use crate::ways::{Way, is_checked, is_condition, is_script};
 use al_scalar::Scalar;
 use al_tree::{
-    FEW_KEYS, FileKind, KeyIndex, Keys, Rule, ScalarSet, Shape, Standing, contains_chunk,
+    FEW_KEYS, FileKind, KeyIndex, Keys, ScalarSet, Shape, ShapeRule, Standing, contains_chunk,
     is_null_scalar, key_of, refine, root_shape, rule_of, scalar_fault, standing_of,
 };
 use al_yaml_tree::{Entry, Node};
@@ -35,7 +35,7 @@ pub struct Place<'a> {
     pub is_scalar_only: bool,
     /// The row of the contexts and special functions that are available there; `None` in a workflow
     /// where all contexts and no special functions are, and in an action.
-    pub available: Option<&'static Row>,
+    pub available: Option<&'static AvailabilityRow>,
     /// Whether it is a condition: without `${{`, its whole text is an expression.
     pub is_condition: bool,
     /// Whether it is a step's script, of which untrusted text would become part.
@@ -55,24 +55,24 @@ struct Walk<'a> {
 }
 
 /// The rule of a shape; one that isn't checked accepts anything.
-fn rule_at(shape: Shape) -> Rule
+fn rule_at(shape: Shape) -> ShapeRule
     ensures { rule_view result ≡ rule_or_any (table_rule shape) }
 {
-    rule_of(shape).unwrap_or(Rule {
+    rule_of(shape).unwrap_or(ShapeRule {
         scalars: ScalarSet::AnyScalar,
         items: Some(Shape::Any),
         keys: Keys::Free(Shape::Any),
     })
 }
 
-fn takes_scalars_only(rule: Rule) -> bool
+fn takes_scalars_only(rule: ShapeRule) -> bool
     ensures { result ≡ places.takes_scalars_only (rule_view rule) }
 {
     matches!(rule.keys, Keys::No) && rule.items.is_none()
 }
 
 /// What is available at the end of a way.
-fn available_in(kind: FileKind, way: &Way<'_>) -> Option<&'static Row>
+fn available_in(kind: FileKind, way: &Way<'_>) -> Option<&'static AvailabilityRow>
     ensures { option_map (λ r. row_view r.now) result
         ≡ row_of_way kind (map way_step_view way.now.steps.items) }
 {

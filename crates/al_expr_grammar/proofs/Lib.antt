@@ -13,6 +13,7 @@ pub mod TextTails
 pub mod Left
 pub mod Quotes
 pub mod Chunking
+pub mod LoneChunks
 pub mod Reading
 pub mod Inside
 pub mod LastQuote

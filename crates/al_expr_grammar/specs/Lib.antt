@@ -6,6 +6,7 @@ pub mod Tokens
 pub mod Building
 pub mod Refusal
 pub mod Chunks
+pub mod Lone
 pub mod Extents
 pub mod Law
 pub mod View

@@ -9,7 +9,7 @@ use Rattle.al_expr_types.specs.declared.ty.Base.TheVariants as base
 use Rattle.al_expr_types.specs.declared.ty.Scalar.{Scalar}
 use Rattle.al_expr_types.specs.declared.ty.Scalar.TheVariants as scalar
 use Rattle.al_expr_types.specs.declared.ty.Ty.{Ty}
-use Rattle.al_expr_typing.specs.Meaning.{Typed, typed, faults_then, and_then, property_of, all_of, index_of, not_indexable}
+use Rattle.al_expr_typing.specs.Meaning.{Typed, typed, faults_then, and_then, property_of, filter_of, index_of, not_indexable}
 use Rattle.al_expr_typing.specs.Steps.{is_index}
 
 abbrev pub in_arrays : ℕ → Typed → Typed
@@ -31,11 +31,11 @@ pub property_arrays : (k : ℕ) (n : List ℕ) (at whole : Span) (t : Type') →
 property_arrays zero n at whole t = in_none (property_of n at whole t)
 property_arrays (suc k) n at whole t = ap in_array (property_arrays k n at whole t) ∙ in_one_more k (property_of n at whole t)
 
-pub scalar_property : (n : List ℕ) (at whole : Span) (s : Scalar) → property_of n at whole (scalar_type s) ≡ all_of whole (scalar_type s)
+pub scalar_property : (n : List ℕ) (at whole : Span) (s : Scalar) → property_of n at whole (scalar_type s) ≡ filter_of whole (scalar_type s)
 scalar_property n at whole scalar.Any = refl
 scalar_property n at whole _ = refl
 
-pub scalar_index : (whole : Span) (s : Scalar) (i : Type') → index_of whole (scalar_type s) i ≡ all_of whole (scalar_type s)
+pub scalar_index : (whole : Span) (s : Scalar) (i : Type') → index_of whole (scalar_type s) i ≡ filter_of whole (scalar_type s)
 scalar_index whole scalar.Any i = refl
 scalar_index whole _ i = refl
 

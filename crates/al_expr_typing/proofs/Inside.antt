@@ -26,7 +26,7 @@ use Rattle.al_expr_names.specs.declared.names.Function.TheVariants.{Format}
 use Rattle.al_expr_names.specs.declared.signatures.Parameters.{Parameters}
 use Rattle.al_expr_typing.specs.Comparison.{comparable_types}
 use Rattle.al_expr_typing.specs.Literals.{literal_text}
-use Rattle.al_expr_typing.specs.Meaning.{Typed, typed, all_of, and_then, argument_faults, argument_then}
+use Rattle.al_expr_typing.specs.Meaning.{Typed, typed, filter_of, and_then, argument_faults, argument_then}
 use Rattle.al_expr_typing.specs.Meaning.{begins_logic, faults_then, call, call_from, operations, faults_found, format_faults}
 use Rattle.al_expr_typing.specs.Meaning.{give, index_of, index_from, is_logic, is_test, meaning, meanings, name_type, operation, or_fault, parts_of}
 use Rattle.al_expr_typing.specs.Meaning.{placeholder_faults, property_of, untrusted_faults}
@@ -76,7 +76,7 @@ module _ (size : ℕ) where
   property_lies n at whole (ArrayOf t) i j = then_lies (property_of n at whole t) (λ u. typed (ArrayOf u) []) (property_lies n at whole t i j) (λ u. tt)
   property_lies n at whole _ i j = (j, tt)
 
-  all_lies : (whole : Span) (u : Type') → LiesIn size whole → TypedLies (all_of whole u)
+  all_lies : (whole : Span) (u : Type') → LiesIn size whole → TypedLies (filter_of whole u)
   all_lies whole Any j = tt
   all_lies whole (ArrayOf t) j = tt
   all_lies whole (ObjectOf fields rest all) j = tt
@@ -193,7 +193,7 @@ module _ (size : ℕ) where
         then_lies (property_of b s (across d s) u) (λ v. walk sc safe ss v) (property_lies b s (across d s) u l.3 (across_lies d s l.2 l.3))
         (λ v. walked_lies ss sc safe low v l.4)
     walked_lies (AllThen a b ss) sc safe low u l =
-        then_lies (all_of (across a b) u) (λ v. walk sc safe ss v) (all_lies (across a b) u (across_lies a b l.2 l.3))
+        then_lies (filter_of (across a b) u) (λ v. walk sc safe ss v) (all_lies (across a b) u (across_lies a b l.2 l.3))
         (λ v. walked_lies ss sc safe low v l.4)
     walked_lies (IndexThen a t b ss) sc safe low u l =
         then_lies (index_from (literal_text t) (across a b) u (meaning sc safe t)) (λ v. walk sc safe ss v)

@@ -6,7 +6,7 @@ use Rattle.std.proofs.lemmas.List.{length-drop}
 use Rattle.std.specs.Int.Digits.{number_from_digits_after}
 use Rattle.std.specs.Prelude.{map, slice_set}
 use Rattle.al_base.specs.Ascii.{ascii}
-use Rattle.al_base.specs.Digits.{decimal, digit_of}
+use Rattle.al_base.specs.Digits.{number_from_decimal, digit_of}
 use Rattle.al_base.specs.FirstBytes.{begins_with}
 use Rattle.std.specs.Char.{is_ascii_digit}
 use Rattle.al_expr_typing.specs.declared.placeholders.PlaceholderState.TheVariants.{Outside, AfterOpening, InIndex, AfterClosing}
@@ -102,7 +102,7 @@ drop_within (b ∷ bs) n h = omega arith
 index_within : (ds rest : List ℕ) (n : ℕ) → length rest ≤ n → IsWithin n (argument_piece ds rest)
 index_within [] rest n h = tt
 index_within (d ∷ ds) rest n h =
-    cond_both (begins_with (ascii "}") rest) (Argument (decimal (d ∷ ds)) (drop 1 rest)) NoPiece (IsWithin n) (λ e. drop_within rest n h) (λ e. tt)
+    cond_both (begins_with (ascii "}") rest) (Argument (number_from_decimal (d ∷ ds)) (drop 1 rest)) NoPiece (IsWithin n) (λ e. drop_within rest n h) (λ e. tt)
 
 piece_within : (b : ℕ) (bs : List ℕ) (n : ℕ) → length bs ≤ n → IsWithin n (piece_of (b ∷ bs))
 piece_within b bs n h =

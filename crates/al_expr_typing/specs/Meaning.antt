@@ -77,11 +77,11 @@ property_of n at whole _ = not_indexable whole
 
 -- `.*` and `[*]`: for an object, an array of what all its fields and the type of others have in
 -- common, or of any if there is neither
-abbrev pub all_of : Span → Type' → Typed
-all_of whole Any = typed Any []
-all_of whole (ArrayOf t) = typed (ArrayOf t) []
-all_of whole (ObjectOf fields rest all) = typed (ArrayOf (or_any (option_of all))) []
-all_of whole _ = not_indexable whole
+abbrev pub filter_of : Span → Type' → Typed
+filter_of whole Any = typed Any []
+filter_of whole (ArrayOf t) = typed (ArrayOf t) []
+filter_of whole (ObjectOf fields rest all) = typed (ArrayOf (or_any (option_of all))) []
+filter_of whole _ = not_indexable whole
 
 -- the result of an index of this type: for an array an element
 abbrev pub index_of : Span → Type' → Type' → Typed
@@ -212,7 +212,7 @@ abbrev mutual
   walk sc safe NoStep u = typed u []
   walk sc safe (PropertyThen d b s ss) u =
       and_then (property_of b s (across d s) u) (λ v. walk sc safe ss v)
-  walk sc safe (AllThen a b ss) u = and_then (all_of (across a b) u) (λ v. walk sc safe ss v)
+  walk sc safe (AllThen a b ss) u = and_then (filter_of (across a b) u) (λ v. walk sc safe ss v)
   walk sc safe (IndexThen a t b ss) u =
       and_then (index_from (literal_text t) (across a b) u (meaning sc safe t))
       (λ v. walk sc safe ss v)
@@ -233,7 +233,7 @@ abbrev mutual
 -- one step of a path
 abbrev pub step_from : Scope → Bool → StepTree → Type' → Typed
 step_from sc safe (tree.Property d b s) u = property_of b s (across d s) u
-step_from sc safe (tree.All a b) u = all_of (across a b) u
+step_from sc safe (tree.All a b) u = filter_of (across a b) u
 step_from sc safe (tree.Index a t b) u =
     index_from (literal_text t) (across a b) u (meaning sc safe t)
 

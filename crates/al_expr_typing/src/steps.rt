@@ -2,7 +2,7 @@
 
 ghost use Rattle.std.specs.Prelude.{◌≡◌, ◌<◌, IfOk, List, None, length, true, ℕ};
 ghost use Rattle.al_base.specs.Growth.{BeginsWith};
-ghost use Rattle.al_expr_typing.specs.Meaning.{typed, faults_then, property_of, all_of, index_of};
+ghost use Rattle.al_expr_typing.specs.Meaning.{typed, faults_then, property_of, filter_of, index_of};
 ghost use Rattle.al_expr_typing.specs.Meaning.{not_indexable};
 ghost use Rattle.al_types.specs.Types.{Parts};
 ghost use Rattle.al_expr_typing.specs.Steps.{is_index};
@@ -83,7 +83,7 @@ fn base_property(
 #[tactic(auto, using(crate::proofs::TypedSteps::typing))]
 fn scalar_step(scalar: Scalar, whole: Span, faults: &mut FaultSink) -> Result<Ty, AllocError>
     ensures ok { IfOk result (λ t. (ms : List Parts) → typed (type_in ms t) faults.new
-        ≡ faults_then faults.old (all_of whole (scalar_type scalar))) }
+        ≡ faults_then faults.old (filter_of whole (scalar_type scalar))) }
     ensures known { IfOk result (λ t. (k : ℕ) → is_below k t ≡ true) }
 {
     match scalar {
@@ -139,7 +139,7 @@ pub(crate) fn all(
 ) -> Result<Ty, AllocError>
     requires { is_known types.old ty ≡ true }
     ensures ok { IfOk result (λ t. typed (type_at types.new t) faults.new
-        ≡ faults_then faults.old (all_of whole (type_at types.old ty))) }
+        ≡ faults_then faults.old (filter_of whole (type_at types.old ty))) }
     ensures known { IfOk result (λ t. is_known types.new t ≡ true) }
     ensures kept { BeginsWith (objects_of types.new) (objects_of types.old) }
 {

@@ -2,8 +2,8 @@
 
 use al_json::Json;
 use al_tree::{
-    Clash, Keys, NODE_VERSIONS, Need, Others, Row, Rule, ScalarSet, Shape, Trigger, rule_of,
-    runs_of,
+    Clash, Keys, NODE_VERSIONS, Need, Others, ScalarSet, SectionKey, Shape, ShapeRule, Trigger,
+    rule_of, runs_of,
 };
 use std::alloc::AllocError;
 
@@ -135,7 +135,7 @@ fn push_clash(json: &mut Json, clash: Clash) -> Result<(), AllocError> {
     }
 }
 
-fn push_row(json: &mut Json, row: &Row) -> Result<(), AllocError> {
+fn push_row(json: &mut Json, row: &SectionKey) -> Result<(), AllocError> {
     json.object_at(row.key)?;
     json.text_at("shape", shape_name(row.shape))?;
     push_need(json, row.need)?;
@@ -155,7 +155,7 @@ fn push_others(json: &mut Json, others: Others) -> Result<(), AllocError> {
     }
 }
 
-fn push_rows(json: &mut Json, rows: &[Row], others: Others) -> Result<(), AllocError> {
+fn push_rows(json: &mut Json, rows: &[SectionKey], others: Others) -> Result<(), AllocError> {
     json.object_at("keys")?;
     for row in rows {
         push_row(json, row)?;
@@ -172,7 +172,7 @@ fn push_keys(json: &mut Json, keys: Keys) -> Result<(), AllocError> {
     }
 }
 
-fn push_rule(json: &mut Json, rule: Rule) -> Result<(), AllocError> {
+fn push_rule(json: &mut Json, rule: ShapeRule) -> Result<(), AllocError> {
     json.text_at("scalars", scalars_name(rule.scalars))?;
     if let Some(items) = rule.items {
         json.text_at("items", shape_name(items))?;

@@ -3,7 +3,7 @@
 use crate::shapes::push_shapes;
 use crate::types::push_types;
 use al_check::{
-    CONDITIONS, Key, NOT_IN_RUNS, NOT_IN_WORKFLOW, OF_CALL, OF_INTERFACE, PlaceRow, SCRIPTS,
+    AvailabilityRow, CONDITIONS, Key, NOT_IN_RUNS, NOT_IN_WORKFLOW, OF_CALL, OF_INTERFACE, SCRIPTS,
     available_at, available_rows,
 };
 use al_expr::{CONTEXTS, Function, Parameters, Returned, SPECIAL_FUNCTIONS, Signature, Wanted};
@@ -66,7 +66,7 @@ fn push_paths(json: &mut Json, key: &str, paths: &[&[Key]]) -> Result<(), AllocE
     json.close(']')
 }
 
-fn push_place(json: &mut Json, row: &PlaceRow) -> Result<(), AllocError> {
+fn push_place(json: &mut Json, row: &AvailabilityRow) -> Result<(), AllocError> {
     json.open('{')?;
     json.key("path")?;
     push_path(json, row.path)?;

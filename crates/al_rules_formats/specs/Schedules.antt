@@ -11,7 +11,7 @@ use Rattle.std.specs.Option.{option_or, unwrap_or}
 use Rattle.std.specs.Str.{bytes_eq}
 use Rattle.std.specs.Char.{is_ascii_digit}
 use Rattle.al_base.specs.Ascii.{ascii}
-use Rattle.al_base.specs.Digits.{decimal}
+use Rattle.al_base.specs.Digits.{number_from_decimal}
 use Rattle.al_base.specs.Names.{same_name}
 use Rattle.al_rules_formats.specs.Texts.{pieces}
 use Rattle.al_rules_formats.specs.declared.schedules.Item.{Item}
@@ -38,7 +38,7 @@ day_names =
 
 -- the number with these decimal digits
 abbrev pub written_number : List ℕ → Option ℕ
-written_number bs = then_some (nat_lt 0 (length bs) && list_all is_ascii_digit bs) (decimal bs)
+written_number bs = then_some (nat_lt 0 (length bs) && list_all is_ascii_digit bs) (number_from_decimal bs)
 
 abbrev pub number_in : ℕ → ℕ → List ℕ → Option ℕ
 number_in low high bs =

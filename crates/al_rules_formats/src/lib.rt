@@ -1,15 +1,12 @@
-//! The small languages in the texts of workflows and actions: filter patterns, schedules, names,
-//! and texts that are one expression.
+//! The small languages in the texts of workflows and actions: filter patterns, schedules and names.
 #![tactic(auto)]
 
-mod chunks;
 mod names;
 mod patterns;
 mod schedules;
 mod texts;
 mod worked;
 
-pub use chunks::{Around, is_lone, is_lone_chunk};
 pub use names::{is_id, is_variable};
 pub use patterns::{Filter, is_pattern};
 pub use schedules::{Item, is_too_often, schedule};

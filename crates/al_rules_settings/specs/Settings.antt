@@ -13,10 +13,10 @@ use Rattle.al_yaml_tree.specs.Node.{Node, span_of}
 use Rattle.al_tree.specs.Faults.{has_chunk, is_null}
 use Rattle.al_base.specs.Names.{among}
 use Rattle.al_tree.specs.Values.{value_at, value_below, text_in, entries_in, entries_at}
-use Rattle.al_rules_formats.specs.Chunks.{is_lone_chunk}
+use Rattle.al_expr_grammar.specs.Lone.{is_lone_chunk}
 use Rattle.al_rules_formats.specs.Names.{is_variable}
 use Rattle.al_rules_formats.specs.Texts.{has_part}
-use Rattle.al_rules_formats.specs.declared.chunks.Around.TheVariants.{Blanks, Nothing}
+use Rattle.al_expr_grammar.specs.declared.lone.Around.TheVariants.{Blanks, Nothing}
 use Rattle.al_rules_settings.specs.Commands.{command_faults}
 use Rattle.al_rules_settings.specs.Names.{shells, permissions, scope_values, whole_values}
 use Rattle.al_rules_settings.specs.Words.{of_scalar, rule_fault, unless, unless_among}

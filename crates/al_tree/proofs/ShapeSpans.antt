@@ -18,7 +18,7 @@ use Rattle.al_tree.specs.Faults.{faults, is_empty_node, is_needed, is_null, item
 use Rattle.al_tree.specs.Faults.{one_fault, root_faults, scalar_fault, standing, takes_null}
 use Rattle.al_tree.specs.Keys.{keys_in}
 use Rattle.al_base.specs.Names.{among}
-use Rattle.al_tree.specs.Table.{Field, Keys, no_keys, free, keys, Rule, rule}
+use Rattle.al_tree.specs.Table.{Field, Keys, no_keys, free, keys, ShapeRule, rule}
 use Rattle.al_tree.specs.declared.table.Shape.{Shape}
 
 abbrev Lies : ℕ → Fault → Type 0
@@ -45,7 +45,7 @@ module _ (size : ℕ) where
   word_lies None above at i = none_lie
   word_lies (Some key) above at i = one_lies _ i
 
-  sequence_lies : (r : Option Rule) (misfit : List Fault) (items : Shape → List Fault) → All (Lies size) misfit
+  sequence_lies : (r : Option ShapeRule) (misfit : List Fault) (items : Shape → List Fault) → All (Lies size) misfit
       → ((s : Shape) → All (Lies size) (items s)) → All (Lies size) (option_map_or (λ o. option_map_or items o.items misfit) r [])
   sequence_lies None misfit items m f = none_lie
   sequence_lies (Some r) misfit items m f = elim r.items as (λ o. All (Lies size) (option_map_or items o misfit)) [ None ↦ m | Some s ↦ f s ]
@@ -62,7 +62,7 @@ module _ (size : ℕ) where
   keyed_lies (free s) above all at inside i f = f (free s)
   keyed_lies (keys others fs) above all at inside i f = both (flat_map (missing_fault at all) fs) (inside (keys others fs)) (missing_lies at all fs i) (f (keys others fs))
 
-  mapping_lies : (r : Option Rule) (above : List ℕ) (all : List ℕ → Bool) (at : Span) (inside : Keys → List Fault)
+  mapping_lies : (r : Option ShapeRule) (above : List ℕ) (all : List ℕ → Bool) (at : Span) (inside : Keys → List Fault)
       → LiesIn size at → ((own : Keys) → All (Lies size) (inside own)) → All (Lies size) (option_map_or (λ o. keyed_faults o.keys_of above all at inside) r [])
   mapping_lies None above all at inside i f = none_lie
   mapping_lies (Some r) above all at inside i f = keyed_lies r.keys_of above all at inside i f

@@ -16,12 +16,12 @@ use Rattle.al_tree.specs.declared.table.Trigger.TheVariants.{CallSecret, CallOut
 use Rattle.al_tree.specs.declared.table.ScalarSet.{ScalarSet}
 use Rattle.al_tree.specs.declared.table.ScalarSet.TheVariants.{NoScalar, AnyScalar, NotNull, Bools}
 use Rattle.al_tree.specs.declared.table.ScalarSet.TheVariants.{Numbers, Chunks}
-use Rattle.al_tree.specs.declared.table.Row.{Row}
+use Rattle.al_tree.specs.declared.table.SectionKey.{SectionKey}
 use Rattle.al_tree.specs.declared.table.Need as rust_need
 use Rattle.al_tree.specs.declared.table.Clash as rust_clash
 use Rattle.al_tree.specs.declared.table.Others as rust_others
 use Rattle.al_tree.specs.declared.table.Keys as rust
-use Rattle.al_tree.specs.declared.table.Rule as rust_rule
+use Rattle.al_tree.specs.declared.table.ShapeRule as rust_rule
 
 -- whether a key is required: never, always, or unless another key is present
 pub data Need : Type 0 where
@@ -55,7 +55,7 @@ pub data Keys : Type 0 where
   keys : Others → List Field → Keys
 
 -- which scalars, sequences and mappings a shape accepts
-pub record Rule : Type 0 where
+pub record ShapeRule : Type 0 where
   pub scalars : ScalarSet
   pub items : Option Shape
   pub keys_of : Keys
@@ -78,21 +78,21 @@ either one other shape =
     field optional (after (codes other)) one shape
     ∷ field optional (after (codes one)) other shape ∷ []
 
-abbrev pub takes : ScalarSet → Option Shape → Keys → Option Rule
+abbrev pub takes : ScalarSet → Option Shape → Keys → Option ShapeRule
 takes set item ks = Some (record { scalars = set; items = item; keys_of = ks })
 
-abbrev pub list_of : Shape → Option Rule
+abbrev pub list_of : Shape → Option ShapeRule
 list_of s = takes NoScalar (Some s) no_keys
 
-abbrev pub map_of : Shape → Option Rule
+abbrev pub map_of : Shape → Option ShapeRule
 map_of s = takes NoScalar None (free s)
 
 -- a mapping with these keys and no others
-abbrev pub section : List Field → Option Rule
+abbrev pub section : List Field → Option ShapeRule
 section fs = takes NoScalar None (keys wrong fs)
 
 -- The table. None accepts anything.
-abbrev pub rule : Shape → Option Rule
+abbrev pub rule : Shape → Option ShapeRule
 rule Any = None
 rule Text = takes AnyScalar None no_keys
 rule Flag = takes Bools None no_keys
@@ -190,7 +190,7 @@ clash_of rust_clash.TheVariants.Never = never
 clash_of (rust_clash.TheVariants.After k) = after k.now
 clash_of (rust_clash.TheVariants.Beside k) = beside k.now
 
-abbrev pub field_view : Row → Field
+abbrev pub field_view : SectionKey → Field
 field_view r =
     record { key = r.key.now; shape = r.shape; need = need_of r.need; clash = clash_of r.clash }
 
@@ -205,5 +205,5 @@ keys_view rust.TheVariants.No = no_keys
 keys_view (rust.TheVariants.Free s) = free s
 keys_view (rust.TheVariants.These rows others) = keys (others_of others) (map field_view rows.now)
 
-abbrev pub rule_view : rust_rule.Rule → Rule
+abbrev pub rule_view : rust_rule.ShapeRule → ShapeRule
 rule_view r = record { scalars = r.scalars; items = r.items; keys_of = keys_view r.keys }

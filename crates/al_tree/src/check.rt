@@ -18,7 +18,7 @@ ghost use Rattle.std.specs.Prelude.{◌≡◌, [], ◌++◌, map, option_map, If
 use crate::keys::{KeyIndex, KeySet, key_of};
 use crate::scalars::{is_null_scalar, scalar_fault};
 use crate::standings::{Standing, is_needed, refine, standing_of, takes_null};
-use crate::table::{Keys, Row, Shape, rule_of};
+use crate::table::{Keys, SectionKey, Shape, rule_of};
 use al_base::{Code, Fault, FaultSink, KeyCode, Span};
 use al_scalar::{Scalar, Style};
 use al_yaml_tree::{Entry, Node};
@@ -35,7 +35,7 @@ struct Demand<'a> {
 
 /// Adds the faults of all required keys that are missing.
 fn check_missing(
-    rows: &[Row],
+    rows: &[SectionKey],
     all: KeySet<'_>,
     at: Span,
     faults: &mut FaultSink,

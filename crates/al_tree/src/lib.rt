@@ -55,7 +55,9 @@ pub use kinds::{file_kind, is_action, is_workflow, is_workflow_name};
 pub use names::{event_names, is_combination_key, is_event};
 pub use scalars::{contains_chunk, is_null_scalar, scalar_fault};
 pub use standings::{NODE_VERSIONS, Standing, refine, runs_of, standing_of};
-pub use table::{Clash, Keys, Need, Others, Row, Rule, ScalarSet, Shape, Trigger, rule_of};
+pub use table::{
+    Clash, Keys, Need, Others, ScalarSet, SectionKey, Shape, ShapeRule, Trigger, rule_of,
+};
 pub use values::{
     Member, items, items_under, key, key_texts, member_positions, members, members_under, text,
     text_under, texts, texts_under, value,

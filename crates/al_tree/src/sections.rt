@@ -3,7 +3,7 @@
 
 use crate::table::Clash::{After, Beside, Never};
 use crate::table::Need::{May, Must, Unless};
-use crate::table::Row;
+use crate::table::SectionKey;
 use crate::table::Shape::{
     Any, AnyMap, Concurrency, Container, Defaults, Env, Flag, Jobs, Number, On, RunDefaults, Runs,
     RunsOn, Steps, Strategy, Text, TextList, TextMap, TextOrMap, Texts,
@@ -18,7 +18,7 @@ macro_rules! may {
         may!($key, $shape, Never)
     };
     ($key:literal, $shape:expr, $clash:expr) => {
-        Row {
+        SectionKey {
             key: $key,
             shape: $shape,
             need: May,
@@ -33,7 +33,7 @@ macro_rules! must {
         must!($key, $shape, Must, Never)
     };
     ($key:literal, $shape:expr, $need:expr, $clash:expr) => {
-        Row {
+        SectionKey {
             key: $key,
             shape: $shape,
             need: $need,
@@ -43,7 +43,7 @@ macro_rules! must {
 }
 
 /// A workflow.
-pub const WORKFLOW: &[Row] = &[
+pub const WORKFLOW: &[SectionKey] = &[
     may!("name", Text),
     may!("run-name", Text),
     must!("on", On(Events)),
@@ -55,16 +55,16 @@ pub const WORKFLOW: &[Row] = &[
 ];
 
 /// `defaults` of a workflow or job.
-pub const DEFAULTS: &[Row] = &[may!("run", RunDefaults)];
+pub const DEFAULTS: &[SectionKey] = &[may!("run", RunDefaults)];
 
 /// `run` in `defaults`.
-pub const RUN_DEFAULTS: &[Row] = &[may!("shell", Text), may!("working-directory", Text)];
+pub const RUN_DEFAULTS: &[SectionKey] = &[may!("shell", Text), may!("working-directory", Text)];
 
 /// `concurrency` of a workflow or job.
-pub const CONCURRENCY: &[Row] = &[must!("group", Text), may!("cancel-in-progress", Flag)];
+pub const CONCURRENCY: &[SectionKey] = &[must!("group", Text), may!("cancel-in-progress", Flag)];
 
 /// A job. A job with `uses` has only the keys that can stand beside it.
-pub const JOB: &[Row] = &[
+pub const JOB: &[SectionKey] = &[
     may!("name", Text),
     may!("permissions", TextOrMap),
     may!("needs", Texts),
@@ -88,17 +88,17 @@ pub const JOB: &[Row] = &[
 ];
 
 /// `runs-on` as a mapping.
-pub const RUNS_ON: &[Row] = &[may!("group", Text), may!("labels", Texts)];
+pub const RUNS_ON: &[SectionKey] = &[may!("group", Text), may!("labels", Texts)];
 
 /// A job's `strategy`.
-pub const STRATEGY: &[Row] = &[
+pub const STRATEGY: &[SectionKey] = &[
     may!("matrix", Any),
     may!("fail-fast", Flag),
     may!("max-parallel", Number),
 ];
 
 /// A job's `container` as a mapping.
-pub const CONTAINER: &[Row] = &[
+pub const CONTAINER: &[SectionKey] = &[
     may!("image", Text),
     may!("credentials", Any),
     may!("env", Env),
@@ -108,7 +108,7 @@ pub const CONTAINER: &[Row] = &[
 ];
 
 /// A step of a job or of a composite action.
-pub const STEP: &[Row] = &[
+pub const STEP: &[SectionKey] = &[
     may!("id", Text),
     may!("if", Text),
     may!("name", Text),
@@ -123,7 +123,7 @@ pub const STEP: &[Row] = &[
 ];
 
 /// `on` as a mapping; these events have shapes of their own.
-pub const ON: &[Row] = &[
+pub const ON: &[SectionKey] = &[
     may!("schedule", On(Schedule)),
     may!("workflow_dispatch", On(Dispatch)),
     may!("workflow_call", On(Call)),
@@ -131,13 +131,13 @@ pub const ON: &[Row] = &[
 ];
 
 /// An entry of `schedule`.
-pub const CRON: &[Row] = &[must!("cron", Text), may!("timezone", Text)];
+pub const CRON: &[SectionKey] = &[must!("cron", Text), may!("timezone", Text)];
 
 /// `workflow_dispatch`.
-pub const DISPATCH: &[Row] = &[may!("inputs", On(DispatchInputs))];
+pub const DISPATCH: &[SectionKey] = &[may!("inputs", On(DispatchInputs))];
 
 /// An input of `workflow_dispatch`.
-pub const DISPATCH_INPUT: &[Row] = &[
+pub const DISPATCH_INPUT: &[SectionKey] = &[
     may!("description", Text),
     may!("required", Flag),
     may!("default", Text),
@@ -147,14 +147,14 @@ pub const DISPATCH_INPUT: &[Row] = &[
 ];
 
 /// `workflow_call`.
-pub const CALL: &[Row] = &[
+pub const CALL: &[SectionKey] = &[
     may!("inputs", On(CallInputs)),
     may!("secrets", On(CallSecrets)),
     may!("outputs", On(CallOutputs)),
 ];
 
 /// An input of `workflow_call`.
-pub const CALL_INPUT: &[Row] = &[
+pub const CALL_INPUT: &[SectionKey] = &[
     may!("description", Text),
     may!("required", Flag),
     may!("default", Text),
@@ -163,13 +163,13 @@ pub const CALL_INPUT: &[Row] = &[
 ];
 
 /// A secret of `workflow_call`.
-pub const CALL_SECRET: &[Row] = &[may!("description", Text), may!("required", Flag)];
+pub const CALL_SECRET: &[SectionKey] = &[may!("description", Text), may!("required", Flag)];
 
 /// An output of `workflow_call`.
-pub const CALL_OUTPUT: &[Row] = &[may!("description", Text), must!("value", Text)];
+pub const CALL_OUTPUT: &[SectionKey] = &[may!("description", Text), must!("value", Text)];
 
 /// Every other event. A filter can't stand beside its `-ignore`.
-pub const EVENT: &[Row] = &[
+pub const EVENT: &[SectionKey] = &[
     may!("types", Texts),
     may!("workflows", Texts),
     may!("branches", Texts, After("branches-ignore")),
@@ -181,7 +181,7 @@ pub const EVENT: &[Row] = &[
 ];
 
 /// An action.
-pub const ACTION: &[Row] = &[
+pub const ACTION: &[SectionKey] = &[
     must!("name", Text),
     may!("author", Text),
     must!("description", Text),
@@ -192,10 +192,10 @@ pub const ACTION: &[Row] = &[
 ];
 
 /// `runs` with an unknown `using`.
-pub const RUNS: &[Row] = &[must!("using", Text)];
+pub const RUNS: &[SectionKey] = &[must!("using", Text)];
 
 /// `runs` of a Node action.
-pub const NODE_RUNS: &[Row] = &[
+pub const NODE_RUNS: &[SectionKey] = &[
     must!("using", Text),
     must!("main", Text),
     may!("pre", Text),
@@ -205,10 +205,10 @@ pub const NODE_RUNS: &[Row] = &[
 ];
 
 /// `runs` of a composite action.
-pub const COMPOSITE_RUNS: &[Row] = &[must!("using", Text), must!("steps", Steps)];
+pub const COMPOSITE_RUNS: &[SectionKey] = &[must!("using", Text), must!("steps", Steps)];
 
 /// `runs` of a Docker action.
-pub const DOCKER_RUNS: &[Row] = &[
+pub const DOCKER_RUNS: &[SectionKey] = &[
     must!("using", Text),
     must!("image", Text),
     may!("env", TextMap),

@@ -14,7 +14,7 @@ ghost use Rattle.std.specs.Str.{bytes_eq};
 
 use crate::keys::{EntryKey, KeySet, entry_among};
 use crate::names::is_event;
-use crate::table::{Clash, Keys, Need, Others, Row, Shape, Trigger};
+use crate::table::{Clash, Keys, Need, Others, SectionKey, Shape, Trigger};
 use al_base::is_among;
 use al_yaml_tree::Entry;
 
@@ -61,7 +61,7 @@ pub(crate) fn takes_null(shape: Shape) -> bool
 
 /// The row of a key.
 #[inline(always)]
-fn row_at<'a>(rows: &'a [Row], key: &[u8]) -> Option<&'a Row>
+fn row_at<'a>(rows: &'a [SectionKey], key: &[u8]) -> Option<&'a SectionKey>
     ensures { option_map (λ r. field_view r.now) result
         ≡ find (λ f. bytes_eq f.key key.now) (map field_view rows.now) }
 {

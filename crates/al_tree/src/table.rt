@@ -146,7 +146,7 @@ pub enum Clash {
 /// A key of a section: the shape of its value, whether it is required, and the key it can't stand
 /// beside.
 #[derive(Clone, Copy)]
-pub struct Row {
+pub struct SectionKey {
     /// The key, compared exactly.
     pub key: &'static str,
     /// What its value should be.
@@ -178,13 +178,13 @@ pub enum Keys {
     /// Mappings with any keys, whose values have this shape.
     Free(Shape),
     /// Mappings with the keys of these rows, and other keys with the given meaning.
-    These(&'static [Row], Others),
+    These(&'static [SectionKey], Others),
 }
 
 /// What a shape accepts: scalars, sequences of items with a shape (none if there is no such shape),
 /// and mappings.
 #[derive(Clone, Copy)]
-pub struct Rule {
+pub struct ShapeRule {
     /// The scalars that it accepts.
     pub scalars: ScalarSet,
     /// The shape of the items of a sequence; `None` if no sequence is accepted.
@@ -212,7 +212,7 @@ macro_rules! rule {
         rule!(@ $scalars, Some(Shape::$item), Keys::These($rows, Others::$others))
     };
     (@ $scalars:ident, $items:expr, $keys:expr) => {
-        Rule {
+        ShapeRule {
             scalars: ScalarSet::$scalars,
             items: $items,
             keys: $keys,
@@ -221,7 +221,7 @@ macro_rules! rule {
 }
 
 /// What a section of `on` accepts.
-fn trigger_rule(trigger: Trigger) -> Rule
+fn trigger_rule(trigger: Trigger) -> ShapeRule
     ensures { Some (rule_view result) ≡ rule (On trigger) }
 {
     match trigger {
@@ -243,7 +243,7 @@ fn trigger_rule(trigger: Trigger) -> Rule
 }
 
 /// What a shape accepts; `None` if it accepts anything.
-pub fn rule_of(shape: Shape) -> Option<Rule>
+pub fn rule_of(shape: Shape) -> Option<ShapeRule>
     ensures { option_map rule_view result ≡ rule shape }
 {
     Some(match shape {

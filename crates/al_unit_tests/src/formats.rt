@@ -1,9 +1,8 @@
 //! Filter patterns, schedules, names and lone expressions.
 
 use al_base::is_same_name;
-use al_rules_formats::{
-    Around, Filter, has_part, is_id, is_lone_chunk, is_pattern, is_too_often, is_variable, schedule,
-};
+use al_expr_grammar::{Around, is_lone_chunk};
+use al_rules_formats::{Filter, has_part, is_id, is_pattern, is_too_often, is_variable, schedule};
 use std::alloc::{AllocError, Global};
 
 /// A text, and two expected answers.

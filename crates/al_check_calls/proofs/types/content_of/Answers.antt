@@ -4,9 +4,9 @@ use Rattle.std.specs.Prelude.{slice_range}
 use Rattle.al_base.specs.declared.faults.Fault.{Fault}
 use Rattle.al_expr_grammar.specs.Chunks.{IsCutFrom, chunks_of, span_of_chunk}
 use Rattle.al_expr_grammar.specs.declared.chunk.Chunk.{Chunk}
-use Rattle.al_rules_formats.specs.Chunks.{is_lone}
-use Rattle.al_rules_formats.specs.declared.chunks.Around.TheVariants.{Nothing}
-use Rattle.al_rules_formats.proofs.LoneChunks.{lone_content}
+use Rattle.al_expr_grammar.specs.Lone.{is_lone}
+use Rattle.al_expr_grammar.specs.declared.lone.Around.TheVariants.{Nothing}
+use Rattle.al_expr_grammar.proofs.LoneChunks.{lone_content}
 use Rattle.al_check_calls.proofs.types.content_of.Goals as goal
 
 -- the content of the only chunk

@@ -6,9 +6,9 @@ use Rattle.al_base.specs.declared.faults.Fault.{Fault}
 use Rattle.al_base.specs.declared.faults.Span.{Span}
 use Rattle.al_expr_grammar.specs.Chunks.{chunks_of, span_of_chunk}
 use Rattle.al_expr_typing.specs.Scopes.{scope_view}
-use Rattle.al_rules_formats.specs.Chunks.{is_lone, is_lone_chunk}
-use Rattle.al_rules_formats.specs.declared.chunks.Around.TheVariants.{Nothing}
-use Rattle.al_rules_formats.proofs.LoneChunks.{lone_if_short}
+use Rattle.al_expr_grammar.specs.Lone.{is_lone, is_lone_chunk}
+use Rattle.al_expr_grammar.specs.declared.lone.Around.TheVariants.{Nothing}
+use Rattle.al_expr_grammar.proofs.LoneChunks.{lone_if_short}
 use Rattle.al_scalar.specs.Scalar.{Scalar, text_of}
 use Rattle.al_tree.specs.Faults.{has_chunk}
 use Rattle.al_types.specs.Types.{Type', String}

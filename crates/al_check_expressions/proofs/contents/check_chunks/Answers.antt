@@ -8,9 +8,9 @@ use Rattle.al_base.specs.declared.faults.Span.{Span}
 use Rattle.al_expr_grammar.specs.Chunks.{IsCutFrom, chunks_of, span_of_chunk}
 use Rattle.al_expr_typing.proofs.Shown.{scope_stays, shown_stays}
 use Rattle.al_scalar.specs.Scalar.{text_of}
-use Rattle.al_rules_formats.specs.Chunks.{is_lone_chunk}
-use Rattle.al_rules_formats.specs.declared.chunks.Around.TheVariants.{Nothing}
-use Rattle.al_rules_formats.proofs.LoneChunks.{lone_if_short}
+use Rattle.al_expr_grammar.specs.Lone.{is_lone_chunk}
+use Rattle.al_expr_grammar.specs.declared.lone.Around.TheVariants.{Nothing}
+use Rattle.al_expr_grammar.proofs.LoneChunks.{lone_if_short}
 use Rattle.al_check_expressions.proofs.contents.check_chunks.Goals as goal
 
 pub loop-chunk-preserved : goal.loop-chunk-preserved

@@ -8,8 +8,8 @@ use Rattle.al_base.specs.declared.faults.Span.{Span}
 use Rattle.al_base.specs.Limits.{longest_text}
 use Rattle.al_expr_grammar.specs.Chunks.{chunks_of}
 use Rattle.al_expr_grammar.specs.Tokens.{is_blank_byte}
-use Rattle.al_rules_formats.specs.declared.chunks.Around.{Around}
-use Rattle.al_rules_formats.specs.declared.chunks.Around.TheVariants.{Blanks, Nothing}
+use Rattle.al_expr_grammar.specs.declared.lone.Around.{Around}
+use Rattle.al_expr_grammar.specs.declared.lone.Around.TheVariants.{Blanks, Nothing}
 
 -- what is allowed outside the braces: nothing, or blanks and breaks
 abbrev pub may_stand : Around → ℕ → Bool

@@ -1,13 +1,13 @@
 //! Texts that are one expression.
 
 ghost use Rattle.al_expr_grammar.specs.Chunks.{span_of_chunk};
-ghost use Rattle.al_rules_formats.specs.Chunks.{is_lone as lone, is_lone_chunk as lone_chunk};
-ghost use Rattle.al_rules_formats.specs.Chunks.{is_short, may_stand};
+ghost use Rattle.al_expr_grammar.specs.Lone.{is_lone as lone, is_lone_chunk as lone_chunk};
+ghost use Rattle.al_expr_grammar.specs.Lone.{is_short, may_stand};
 ghost use Rattle.std.specs.Prelude.{◌≡◌, [], ◌∷◌, false, true, drop, map, IfOk, MatchOption, None};
 
+use crate::chunk::{Chunk, chunks};
 use al_base::limits::LONGEST_TEXT;
 use al_base::{Fault, Span};
-use al_expr_grammar::{Chunk, chunks};
 use std::alloc::{AllocError, Global};
 
 /// What a text may have outside the braces of its one expression.
@@ -41,7 +41,7 @@ fn suffix(bytes: &[u8], count: usize) -> &[u8]
 }
 
 /// Whether everything outside the braces of a chunk is allowed there.
-fn stands_alone(around: Around, bytes: &[u8], content: Span) -> bool
+fn is_lone_span(around: Around, bytes: &[u8], content: Span) -> bool
     ensures { result ≡ lone around bytes.now (content ∷ []) None }
 {
     let before = bytes
@@ -57,7 +57,7 @@ pub fn is_lone(around: Around, text: &[u8], chunks: &[Chunk<'_>], fault: &Option
     ensures { result ≡ lone around text.now (map span_of_chunk chunks.now) fault.now }
 {
     match chunks {
-        [chunk] if fault.is_none() => stands_alone(around, text, chunk.span),
+        [chunk] if fault.is_none() => is_lone_span(around, text, chunk.span),
         _ => false,
     }
 }

@@ -10,9 +10,9 @@ use Rattle.al_base.specs.declared.faults.Fault.{Fault}
 use Rattle.al_base.specs.declared.faults.Span.{Span}
 use Rattle.al_expr_grammar.specs.Chunks.{Chunked, before_opening, chunks_of, chunks_within, closing_position, with_content, with_opening}
 use Rattle.al_expr_grammar.proofs.Chunking.{closing_fits, opening_fits}
-use Rattle.al_rules_formats.specs.Chunks.{is_lone, is_lone_chunk, is_short, may_stand}
-use Rattle.al_rules_formats.specs.declared.chunks.Around.{Around}
-use Rattle.al_rules_formats.specs.declared.chunks.Around.TheVariants.{Nothing}
+use Rattle.al_expr_grammar.specs.Lone.{is_lone, is_lone_chunk, is_short, may_stand}
+use Rattle.al_expr_grammar.specs.declared.lone.Around.{Around}
+use Rattle.al_expr_grammar.specs.declared.lone.Around.TheVariants.{Nothing}
 
 -- ---- texts that may have chunks
 

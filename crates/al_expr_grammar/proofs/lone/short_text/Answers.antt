@@ -2,9 +2,9 @@ use Rattle.std.proofs.Common.{◌≡◌, ℕ, List, false, ◌&&◌, length, nat
 use Rattle.std.specs.Str.{IsUtf8, is_utf8}
 use Rattle.std.proofs.lemmas.Bool.{cases_Bool}
 use Rattle.std.proofs.lemmas.Str.{IsUtf8-from_is_utf8}
-use Rattle.al_rules_formats.specs.Chunks.{is_short}
-use Rattle.al_rules_formats.proofs.LoneChunks.{short}
-use Rattle.al_rules_formats.proofs.chunks.short_text.Goals as goal
+use Rattle.al_expr_grammar.specs.Lone.{is_short}
+use Rattle.al_expr_grammar.proofs.LoneChunks.{short}
+use Rattle.al_expr_grammar.proofs.lone.short_text.Goals as goal
 
 not_short : (text : List ℕ) → ¬ IsUtf8 text → is_short text ≡ false
 not_short text n =
