@@ -2,8 +2,10 @@
 use Rattle.std.specs.Prelude.{ℕ, ◌+◌, ◌-◌, List, [], ◌∷◌, ◌++◌, drop, Bool, true, not, ◌&&◌, ◌||◌}
 use Rattle.std.specs.Prelude.{◌==◌, nat_le, if◌then◌else◌}
 use Rattle.std.specs.Prelude.{Option, Some, None, is_none, is_some, unwrap_or, Result, Ok}
+use Rattle.std.specs.Int.{is_in_range}
 use Rattle.std.specs.Option.{option_map_or}
 use Rattle.al_base.specs.Ascii.{ascii, is_sign}
+use Rattle.al_base.specs.Digits.{digit_of}
 use Rattle.al_base.specs.declared.codes.YamlCode.TheVariants as yaml
 use Rattle.al_scalar.specs.Line.{Cell, Line, place, after_blanks, indent, is_empty, is_all_blank}
 use Rattle.al_scalar.specs.Line.{begins_blank, is_comment}
@@ -13,8 +15,9 @@ use Rattle.al_scalar.specs.declared.header.Chomping.{Chomping}
 use Rattle.al_scalar.specs.declared.header.Chomping.TheVariants.{Strip, Clip, Keep}
 use Rattle.al_scalar.specs.declared.header.Header.{Header}
 
+-- a digit of an indentation indicator: not 0
 abbrev pub is_digit : ℕ → Bool
-is_digit b = nat_le 49 b && nat_le b 57
+is_digit b = is_in_range (ascii "1") (ascii "9") b
 
 abbrev pub chomping_of : ℕ → Chomping
 chomping_of b = if b == ascii "+" then Keep else Strip
@@ -31,7 +34,7 @@ abbrev pub header : Option ℕ → Option Chomping → ℕ → List Cell → Res
 header digit sign at [] =
     header_end (record { digit = digit; chomping = unwrap_or sign Clip; end = at }) []
 header digit sign at (c ∷ cs) =
-    if is_none digit && is_digit c.0 then header (Some (c.0 - 48)) sign (at + 1) cs
+    if is_none digit && is_digit c.0 then header (Some (digit_of c.0)) sign (at + 1) cs
     else (if is_none sign && is_sign c.0 then header digit (Some (chomping_of c.0)) (at + 1) cs
     else header_end (record { digit = digit; chomping = unwrap_or sign Clip; end = at }) (c ∷ cs))
 

@@ -31,7 +31,7 @@ not_numbers = codes ".nan" ∷ codes ".NaN" ∷ codes ".NAN" ∷ []
 
 -- [0-7], [0-9] and [0-9a-fA-F]
 abbrev pub is_digit_in : Base → ℕ → Bool
-is_digit_in base.Octal b = is_in_range 48 55 b
+is_digit_in base.Octal b = is_in_range (ascii "0") (ascii "7") b
 is_digit_in base.Decimal b = is_ascii_digit b
 is_digit_in base.Hexadecimal b = is_ascii_hexdigit b
 

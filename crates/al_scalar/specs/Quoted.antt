@@ -52,14 +52,15 @@ single_part (c ∷ d ∷ cs) =
 
 -- The one-letter escapes of 5.7.
 abbrev pub escape_table : List (ℕ × ℕ)
-escape_table = (48, 0) ∷ (97, 7) ∷ (98, 8) ∷ (116, 9) ∷ (9, 9) ∷ (110, 10) ∷ (118, 11) ∷ (102, 12)
-    ∷ (114, 13) ∷ (101, 27)
-    ∷ (32, 32) ∷ (34, 34) ∷ (47, 47) ∷ (92, 92) ∷ (78, 0x85) ∷ (95, 0xa0) ∷ (76, 0x2028)
-    ∷ (80, 0x2029) ∷ []
+escape_table = (ascii "0", 0x00) ∷ (ascii "a", 0x07) ∷ (ascii "b", 0x08) ∷ (ascii "t", 0x09)
+    ∷ (ascii "\t", 0x09) ∷ (ascii "n", 0x0a) ∷ (ascii "v", 0x0b) ∷ (ascii "f", 0x0c)
+    ∷ (ascii "r", 0x0d) ∷ (ascii "e", 0x1b) ∷ (ascii " ", 0x20) ∷ (ascii "\"", 0x22)
+    ∷ (ascii "/", 0x2f) ∷ (ascii "\\", 0x5c) ∷ (ascii "N", 0x85) ∷ (ascii "_", 0xa0)
+    ∷ (ascii "L", 0x2028) ∷ (ascii "P", 0x2029) ∷ []
 
--- how many hexadecimal digits follow: x 2, u 4, U 8
+-- how many hexadecimal digits follow
 abbrev pub digits_table : List (ℕ × ℕ)
-digits_table = (120, 2) ∷ (117, 4) ∷ (85, 8) ∷ []
+digits_table = (ascii "x", 2) ∷ (ascii "u", 4) ∷ (ascii "U", 8) ∷ []
 
 abbrev pub hex_digit : ℕ → Option ℕ
 hex_digit b = if nat_lt (digit_value b) 16 then Some (digit_value b) else None
