@@ -294,6 +294,10 @@ class Page:
         names = [it for items in self.items.values() for it in items]
         return {it for it in names if names.count(it) > 1} - SHARED
 
+    def library_names(self):
+        """The names of definitions that a library gives to another one."""
+        return {it for items in self.items.values() for it in items} & set(self.library_words())
+
     def library_words(self):
         """The words of libraries that the definitions use; operators without the places of their arguments."""
         own = {it.partition(".")[0] for it in self.definitions.modules}
@@ -375,6 +379,8 @@ def main(folder, option=None, word=None):
         return
     if shared := sorted(found.shared_names()):
         sys.exit(f"these names stand for two definitions: {' '.join(shared)}")
+    if taken := sorted(found.library_names()):
+        sys.exit(f"these names stand for a definition and a word of a library: {' '.join(taken)}")
     tables = found.tables()
     if missing := tables.keys() - {it[2] for it in MADE.finditer(text)}:
         sys.exit(f"{PAGE} has no place for these tables: {' '.join(sorted(missing))}")
