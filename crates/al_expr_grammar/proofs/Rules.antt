@@ -12,7 +12,7 @@ use Rattle.al_expr_grammar.specs.Tree.{Tree, Named, Property, All, arguments_of}
 use Rattle.al_expr_grammar.specs.Grammar.{Binary, Primary, level_of}
 use Rattle.al_expr_grammar.specs.Grammar.{name, call_empty, call, group}
 use Rattle.al_expr_grammar.specs.Grammar.{to_property, to_keyword, to_all, to_each, to_index, Lists, listed, and_next}
-use Rattle.al_expr_grammar.specs.Table.{Verdict, Unexpected, TooDeep, E, A, I, S, O, N, Frame, Group, Call, Index, outside, scan}
+use Rattle.al_expr_grammar.specs.Table.{Verdict, Unexpected, TooDeep, E, A, I, S, O, N, Bracket, Group, Call, Index, Frame, outside, scan}
 use Rattle.al_expr_grammar.specs.Parsed.{EndsPath, EndsLevel, IsVerdict, Parsed, Refused, StepRead, StepRefused, ArgumentsPart, ArgumentsRead, ArgumentsRefused, IsStray, Lacks, error_at}
 use Rattle.std.proofs.lemmas.Bool.Decides.{nat_tests}
 use Rattle.std.proofs.lemmas.List.{length-map}
@@ -37,9 +37,8 @@ settled k j st [] h = refl
 settled k j st (Dot ∷ ts) h = absurd h
 settled k j st (OpenIndex ∷ ts) h = absurd h
 settled k j [] (t ∷ ts) h = refl
-settled k j (Group i ∷ st) (t ∷ ts) h = refl
-settled k j (Call i ∷ st) (t ∷ ts) h = refl
-settled k j (Index i ∷ st) (t ∷ ts) h = refl
+settled k j ((Group, i) ∷ st) (t ∷ ts) h = refl
+settled k j (f ∷ st) (t ∷ ts) h = refl
 
 pub uncalled : (k : ℕ) (st : List Frame) (ts : List TokenKind) → Lacks Open ts → scan N k st ts ≡ scan O k st ts
 uncalled k [] [] h = refl
@@ -63,24 +62,22 @@ pub unexpected : (ts : List Lexeme) → Unexpected (suc (length (kinds ts))) ≡
 unexpected ts = ap (λ n. Unexpected (suc n)) (same_length ts)
 
 -- the first token neither closes these brackets nor continues in them
-abbrev pub EndsInside : Frame → List TokenKind → Type 0
-EndsInside (Group k) ts = Lacks Close ts
-EndsInside (Call k) ts = Lacks Comma ts × Lacks Close ts
-EndsInside (Index k) ts = Lacks CloseIndex ts
+abbrev pub EndsInside : Bracket → List TokenKind → Type 0
+EndsInside Group ts = Lacks Close ts
+EndsInside Call ts = Lacks Comma ts × Lacks Close ts
+EndsInside Index ts = Lacks CloseIndex ts
 
 -- the first token can't follow an expression inside these brackets
-stray : (f : Frame) (st : List Frame) (us : List Lexeme) → EndsLevel 3 (kinds us) → EndsInside f (kinds us) → IsVerdict (error_at us) (scan O 0 (f ∷ st) (kinds us))
+stray : (f : Frame) (st : List Frame) (us : List Lexeme) → EndsLevel 3 (kinds us) → EndsInside f.0 (kinds us) → IsVerdict (error_at us) (scan O 0 (f ∷ st) (kinds us))
 stray f st [] h c = refl
 stray f st (lexeme Dot b s ∷ us) h c = absurd h
 stray f st (lexeme OpenIndex b s ∷ us) h c = absurd h
 stray f st (lexeme (Infix o) b s ∷ us) h c = absurd (omega (arith, h, at_most_three o))
-stray (Group k) st (lexeme Close b s ∷ us) h c = absurd (c (kinds us) refl)
-stray (Call k) st (lexeme Close b s ∷ us) h c = absurd (c.1 (kinds us) refl)
-stray (Call k) st (lexeme Comma b s ∷ us) h c = absurd (c.0 (kinds us) refl)
-stray (Index k) st (lexeme CloseIndex b s ∷ us) h c = absurd (c (kinds us) refl)
-stray (Group k) st (lexeme t b s ∷ us) h c = unexpected us
-stray (Call k) st (lexeme t b s ∷ us) h c = unexpected us
-stray (Index k) st (lexeme t b s ∷ us) h c = unexpected us
+stray (Group, k) st (lexeme Close b s ∷ us) h c = absurd (c (kinds us) refl)
+stray (Call, k) st (lexeme Close b s ∷ us) h c = absurd (c.1 (kinds us) refl)
+stray (Call, k) st (lexeme Comma b s ∷ us) h c = absurd (c.0 (kinds us) refl)
+stray (Index, k) st (lexeme CloseIndex b s ∷ us) h c = absurd (c (kinds us) refl)
+stray f st (lexeme t b s ∷ us) h c = unexpected us
 
 -- a literal
 pub constant_read : (room : ℕ) (w : _) (b : List ℕ) (s : Span) (rest : List Lexeme) → Parsed Primary room (lexeme (Keyword w) b s ∷ rest) (tree.Constant w s) rest
@@ -97,43 +94,43 @@ name_read room b s rest never = record { derives = name; goes = λ k st a h. unc
 
 -- brackets
 module _ (room inner : ℕ) (b : List ℕ) (s : Span) (ts : List Lexeme) (one : inner + 1 ≡ room) where
-  in_group : (k : ℕ) (st : List Frame) → k + outside st + room ≡ 50 → scan E k st (Open ∷ kinds ts) ≡ scan E 0 (Group k ∷ st) (kinds ts)
+  in_group : (k : ℕ) (st : List Frame) → k + outside st + room ≡ 50 → scan E k st (Open ∷ kinds ts) ≡ scan E 0 ((Group, k) ∷ st) (kinds ts)
   in_group k st h = not_deeper (k + outside st) _ _ (omega arith)
 
   pub group_read : (c : List ℕ) (e : Span) (rest : List Lexeme) (t : Tree) → Parsed (Binary 3) inner ts t (lexeme Close c e ∷ rest) → Parsed Primary room (lexeme Open b s ∷ ts) (tree.Group t s e) rest
   group_read c e rest t p = record {
     derives = group p.derives;
-    goes = λ k st a h. in_group k st h ∙ p.goes 0 (Group k ∷ st) refl (omega arith);
+    goes = λ k st a h. in_group k st h ∙ p.goes 0 ((Group, k) ∷ st) refl (omega arith);
     stops = tt;
     shorter = let short = p.shorter in omega arith;
   }
 
   pub group_refused : (e : ParseError) → Refused (Binary 3) inner ts e → Refused Primary room (lexeme Open b s ∷ ts) e
-  group_refused e r = λ k st a h. likewise e _ _ (in_group k st h) (r 0 (Group k ∷ st) refl (omega arith))
+  group_refused e r = λ k st a h. likewise e _ _ (in_group k st h) (r 0 ((Group, k) ∷ st) refl (omega arith))
 
   pub group_not_closed : (mid : List Lexeme) (t : Tree) (e : ParseError) → Parsed (Binary 3) inner ts t mid → IsStray mid Close e → Refused Primary room (lexeme Open b s ∷ ts) e
   group_not_closed mid t e p i =
-      rw i.fault (λ k st a h. likewise (error_at mid) _ _ (in_group k st h ∙ p.goes 0 (Group k ∷ st) refl (omega arith)) (stray (Group k) st mid p.stops i.other))
+      rw i.fault (λ k st a h. likewise (error_at mid) _ _ (in_group k st h ∙ p.goes 0 ((Group, k) ∷ st) refl (omega arith)) (stray (Group, k) st mid p.stops i.other))
 
   -- an index
-  to_inside : (k : ℕ) (st : List Frame) → Lacks Star (kinds ts) → k + outside st + room ≡ 50 → scan O k st (OpenIndex ∷ kinds ts) ≡ scan E 0 (Index k ∷ st) (kinds ts)
-  to_inside k st n h = not_deeper (k + outside st) _ _ (omega arith) ∙ in_index 0 (Index k ∷ st) (kinds ts) n
+  to_inside : (k : ℕ) (st : List Frame) → Lacks Star (kinds ts) → k + outside st + room ≡ 50 → scan O k st (OpenIndex ∷ kinds ts) ≡ scan E 0 ((Index, k) ∷ st) (kinds ts)
+  to_inside k st n h = not_deeper (k + outside st) _ _ (omega arith) ∙ in_index 0 ((Index, k) ∷ st) (kinds ts) n
 
   pub index_read : (c : List ℕ) (e : Span) (rest : List Lexeme) (t : Tree) → Lacks Star (kinds ts)
       → Parsed (Binary 3) inner ts t (lexeme CloseIndex c e ∷ rest) → StepRead room (lexeme OpenIndex b s ∷ ts) (tree.Index s t e) rest
   index_read c e rest t n p = record {
     derives = λ ss after w. to_index p.derives w;
-    goes = λ k st h. to_inside k st n h ∙ p.goes 0 (Index k ∷ st) refl (omega arith);
+    goes = λ k st h. to_inside k st n h ∙ p.goes 0 ((Index, k) ∷ st) refl (omega arith);
     shorter = let short = p.shorter in omega arith;
   }
 
   pub index_refused : (e : ParseError) → Lacks Star (kinds ts) → Refused (Binary 3) inner ts e → StepRefused room (lexeme OpenIndex b s ∷ ts) e
-  index_refused e n r = λ k st h. likewise e _ _ (to_inside k st n h) (r 0 (Index k ∷ st) refl (omega arith))
+  index_refused e n r = λ k st h. likewise e _ _ (to_inside k st n h) (r 0 ((Index, k) ∷ st) refl (omega arith))
 
   pub index_not_closed : (mid : List Lexeme) (t : Tree) (e : ParseError) → Parsed (Binary 3) inner ts t mid → Lacks Star (kinds ts) → IsStray mid CloseIndex e
       → StepRefused room (lexeme OpenIndex b s ∷ ts) e
   index_not_closed mid t e p n i =
-      rw i.fault (λ k st h. likewise (error_at mid) _ _ (to_inside k st n h ∙ p.goes 0 (Index k ∷ st) refl (omega arith)) (stray (Index k) st mid p.stops i.other))
+      rw i.fault (λ k st h. likewise (error_at mid) _ _ (to_inside k st n h ∙ p.goes 0 ((Index, k) ∷ st) refl (omega arith)) (stray (Index, k) st mid p.stops i.other))
 
 -- calls
 pub lists_append : (ts mid rest : List Lexeme) (more : List Tree) (t : Tree) → Lists ts more mid → Lists mid (t ∷ []) rest → Lists ts (more ++ t ∷ []) rest
@@ -148,7 +145,7 @@ first_argument_read room ts rest t p = record {
   is = refl;
   begins = p.derives;
   lists = listed;
-  goes = λ k st h. p.goes 0 (Call k ∷ st) refl (omega arith);
+  goes = λ k st h. p.goes 0 ((Call, k) ∷ st) refl (omega arith);
   stops = p.stops;
   shorter = p.shorter;
 }
@@ -162,25 +159,25 @@ later_argument_read room ts us rest all b s t a p = record {
   is = ap (λ l. l ++ t ∷ []) a.is;
   begins = a.begins;
   lists = lists_append a.mid _ rest a.more t a.lists (and_next p.derives listed);
-  goes = λ k st h. a.goes k st h ∙ p.goes 0 (Call k ∷ st) refl (omega arith);
+  goes = λ k st h. a.goes k st h ∙ p.goes 0 ((Call, k) ∷ st) refl (omega arith);
   stops = p.stops;
   shorter = let x = a.shorter in let y = p.shorter in omega arith;
 }
 
 module _ (inner : ℕ) (ts : List Lexeme) (n : Lacks Close (kinds ts)) where
-  into_call : (room k : ℕ) (st : List Frame) → inner + 1 ≡ room → k + outside st + room ≡ 50 → scan E k st (Name ∷ Open ∷ kinds ts) ≡ scan E 0 (Call k ∷ st) (kinds ts)
-  into_call room k st one h = not_deeper (k + outside st) _ _ (omega arith) ∙ in_call 0 (Call k ∷ st) (kinds ts) n
+  into_call : (room k : ℕ) (st : List Frame) → inner + 1 ≡ room → k + outside st + room ≡ 50 → scan E k st (Name ∷ Open ∷ kinds ts) ≡ scan E 0 ((Call, k) ∷ st) (kinds ts)
+  into_call room k st one h = not_deeper (k + outside st) _ _ (omega arith) ∙ in_call 0 ((Call, k) ∷ st) (kinds ts) n
 
   past_arguments : (left : List Lexeme) (all : List Tree) → ArgumentsPart inner ts all left → (room k : ℕ) (st : List Frame) → inner + 1 ≡ room → k + outside st + room ≡ 50
-      → scan E k st (Name ∷ Open ∷ kinds ts) ≡ scan O 0 (Call k ∷ st) (kinds left)
+      → scan E k st (Name ∷ Open ∷ kinds ts) ≡ scan O 0 ((Call, k) ∷ st) (kinds left)
   past_arguments left all a room k st one h = into_call room k st one h ∙ a.goes k st (omega arith)
 
   pub first_argument_refused : (e : ParseError) → Refused (Binary 3) inner ts e → ArgumentsRefused inner ts e
-  first_argument_refused e r = λ room b c s u one k st a h. likewise e _ _ (into_call room k st one h) (r 0 (Call k ∷ st) refl (omega arith))
+  first_argument_refused e r = λ room b c s u one k st a h. likewise e _ _ (into_call room k st one h) (r 0 ((Call, k) ∷ st) refl (omega arith))
 
   pub later_argument_refused : (us : List Lexeme) (all : List Tree) (b : List ℕ) (s : Span) (e : ParseError) → ArgumentsPart inner ts all (lexeme Comma b s ∷ us)
       → Refused (Binary 3) inner us e → ArgumentsRefused inner ts e
-  later_argument_refused us all b s e a r = λ room c d u v one k st x h. likewise e _ _ (past_arguments _ all a room k st one h) (r 0 (Call k ∷ st) refl (omega arith))
+  later_argument_refused us all b s e a r = λ room c d u v one k st x h. likewise e _ _ (past_arguments _ all a room k st one h) (r 0 ((Call, k) ∷ st) refl (omega arith))
 
   module _ (room : ℕ) (b c : List ℕ) (s u : Span) (one : inner + 1 ≡ room) where
     pub call_closed : (d : List ℕ) (e : Span) (rest : List Lexeme) (all : List Tree) → ArgumentsRead inner ts all (lexeme Close d e ∷ rest) →
@@ -195,7 +192,7 @@ module _ (inner : ℕ) (ts : List Lexeme) (n : Lacks Close (kinds ts)) where
     pub call_not_closed : (left : List Lexeme) (all : List Tree) (e : ParseError) → ArgumentsRead inner ts all left → IsStray left Close e →
         Refused Primary room (lexeme Name b s ∷ lexeme Open c u ∷ ts) e
     call_not_closed left all e a i =
-        rw i.fault (λ k st x h. likewise (error_at left) _ _ (past_arguments left all a.part room k st one h) (stray (Call k) st left a.part.stops (a.ends, i.other)))
+        rw i.fault (λ k st x h. likewise (error_at left) _ _ (past_arguments left all a.part room k st one h) (stray (Call, k) st left a.part.stops (a.ends, i.other)))
 
 pub call_empty_read : (room inner : ℕ) (b c d : List ℕ) (s u e : Span) (rest : List Lexeme) → inner + 1 ≡ room →
     Parsed Primary room (lexeme Name b s ∷ lexeme Open c u ∷ lexeme Close d e ∷ rest) (tree.Call b s (arguments_of []) e) rest
@@ -220,7 +217,7 @@ pub each_read : (room inner : ℕ) (a b c : List ℕ) (s d e : Span) (rest : Lis
     → StepRead room (lexeme OpenIndex c d ∷ lexeme Star b s ∷ lexeme CloseIndex a e ∷ rest) (All d e) rest
 each_read room inner a b c s d e rest one = record { derives = λ ss after w. to_each w; goes = λ k st h. not_deeper (k + outside st) _ _ (omega arith); shorter = omega arith }
 
-after_star : (k : ℕ) (st : List Frame) (us : List Lexeme) → Lacks CloseIndex (kinds us) → IsVerdict (error_at us) (scan S 0 (Index k ∷ st) (kinds us))
+after_star : (k : ℕ) (st : List Frame) (us : List Lexeme) → Lacks CloseIndex (kinds us) → IsVerdict (error_at us) (scan S 0 ((Index, k) ∷ st) (kinds us))
 after_star k st [] n = refl
 after_star k st (lexeme CloseIndex b s ∷ us) n = absurd (n (kinds us) refl)
 after_star k st (lexeme t b s ∷ us) n = unexpected us

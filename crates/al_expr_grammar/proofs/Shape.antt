@@ -1,5 +1,5 @@
 -- The table without its limit on nesting, and its relation to the grammar.
-use Rattle.std.proofs.Common.{◌≡◌, ℕ, suc, ◌+◌, ◌<◌, ◌≤◌, Bool, true, false, List, [], ◌∷◌, ◌++◌, length, length-append, refl, subst, ◌∙◌, arith, nat_lt, cond}
+use Rattle.std.proofs.Common.{◌≡◌, ℕ, suc, ◌+◌, ◌<◌, ◌≤◌, Bool, true, false, List, [], ◌∷◌, ◌++◌, map, length, length-append, refl, subst, ◌∙◌, arith, nat_lt, cond}
 use Rattle.al_expr_grammar.specs.declared.token.TokenKind.{TokenKind}
 use Rattle.al_expr_grammar.specs.declared.token.TokenKind.TheVariants.{Name, Keyword, Number, Text, Open, Close, OpenIndex, CloseIndex, Dot, Comma, Star, Bang, Infix}
 use Rattle.al_expr_grammar.specs.Lexeme.{Lexeme, kinds}
@@ -13,10 +13,7 @@ use Rattle.al_expr_grammar.specs.Table.{onward, scan}
 use Rattle.al_expr_grammar.proofs.Left.{LiesIn, at_end, lies_on}
 
 abbrev pub forget : List Frame → List Frame
-forget [] = []
-forget (Group k ∷ st) = Group 0 ∷ forget st
-forget (Call k ∷ st) = Call 0 ∷ forget st
-forget (Index k ∷ st) = Index 0 ∷ forget st
+forget st = map (λ f. (f.0, 0)) st
 
 abbrev pub shape : Mode → List Frame → List TokenKind → Verdict
 shape m st [] = finish m st
@@ -43,22 +40,19 @@ module _ (room : Bool) (left : ℕ) (go : Mode → ℕ → List Frame → Verdic
   operand_same k st (Keyword w) = ih O k st
   operand_same k st Number = ih O k st
   operand_same k st Text = ih O k st
-  operand_same k st Open = deeper_same E 0 0 (Group k ∷ st)
+  operand_same k st Open = deeper_same E 0 0 ((Group, k) ∷ st)
   operand_same k st Bang = deeper_same E (suc k) 1 st
   operand_same k st _ = refl
 
   after_same : (k : ℕ) (st : List Frame) (t : TokenKind) → Same (after_operand k st t) (after_operand 0 (forget st) t)
   after_same k st (Infix o) = ih E 0 st
   after_same k st Dot = ih D k st
-  after_same k st OpenIndex = deeper_same I 0 0 (Index k ∷ st)
-  after_same k (Group j ∷ st) Close = ih O j st
-  after_same k (Call j ∷ st) Close = ih O j st
-  after_same k (Index j ∷ st) CloseIndex = ih O j st
-  after_same k (Call j ∷ st) Comma = ih E 0 (Call j ∷ st)
-  after_same k [] _ = refl
-  after_same k (Group j ∷ st) _ = refl
-  after_same k (Call j ∷ st) _ = refl
-  after_same k (Index j ∷ st) _ = refl
+  after_same k st OpenIndex = deeper_same I 0 0 ((Index, k) ∷ st)
+  after_same k ((Group, j) ∷ st) Close = ih O j st
+  after_same k ((Call, j) ∷ st) Close = ih O j st
+  after_same k ((Index, j) ∷ st) CloseIndex = ih O j st
+  after_same k ((Call, j) ∷ st) Comma = ih E 0 ((Call, j) ∷ st)
+  after_same k st _ = refl
 
   step_same : (m : Mode) (k : ℕ) (st : List Frame) (t : TokenKind) → Same (step m k st t) (step m 0 (forget st) t)
   step_same E k st t = operand_same k st t
@@ -73,18 +67,14 @@ module _ (room : Bool) (left : ℕ) (go : Mode → ℕ → List Frame → Verdic
   step_same D k st Star = ih O k st
   step_same D k st _ = refl
   step_same O k st t = after_same k st t
-  step_same N k st Open = deeper_same A 0 0 (Call k ∷ st)
+  step_same N k st Open = deeper_same A 0 0 ((Call, k) ∷ st)
   step_same N k st t = after_same k st t
 
 finish_same : (m : Mode) (st : List Frame) → finish m st ≡ finish m (forget st)
 finish_same O [] = refl
-finish_same O (Group k ∷ st) = refl
-finish_same O (Call k ∷ st) = refl
-finish_same O (Index k ∷ st) = refl
+finish_same O (f ∷ st) = refl
 finish_same N [] = refl
-finish_same N (Group k ∷ st) = refl
-finish_same N (Call k ∷ st) = refl
-finish_same N (Index k ∷ st) = refl
+finish_same N (f ∷ st) = refl
 finish_same _ st = refl
 
 agrees_refl : (v w : Verdict) → v ≡ w → Agrees v w
@@ -158,8 +148,8 @@ mutual
   derives_shape (bare d) h st = derives_shape d h st
   derives_shape (path d w) h st = derives_shape d (before_walks w h) st ∙ walks_shape w h st
   derives_shape name h st = uncalled st _ h
-  derives_shape (call d w) h st = in_call (Call 0 ∷ st) _ (begins d) ∙ derives_shape d (before_lists w tt) (Call 0 ∷ st) ∙ lists_shape w tt st
-  derives_shape (group d) h st = derives_shape d tt (Group 0 ∷ st)
+  derives_shape (call d w) h st = in_call ((Call, 0) ∷ st) _ (begins d) ∙ derives_shape d (before_lists w tt) ((Call, 0) ∷ st) ∙ lists_shape w tt st
+  derives_shape (group d) h st = derives_shape d tt ((Group, 0) ∷ st)
   derives_shape _ h st = refl
 
   operators_shape : {l : ℕ} {ts rest : List Lexeme} {os : List (Sign × Tree)} → Operators l ts os rest → NoCall (kinds rest) → (st : List Frame) → shape O st (kinds ts) ≡ shape O st (kinds rest)
@@ -172,11 +162,11 @@ mutual
   walks_shape (to_keyword w) h st = walks_shape w h st
   walks_shape (to_all w) h st = walks_shape w h st
   walks_shape (to_each w) h st = walks_shape w h st
-  walks_shape (to_index d w) h st = in_index (Index 0 ∷ st) _ (begins d) ∙ derives_shape d tt (Index 0 ∷ st) ∙ walks_shape w h st
+  walks_shape (to_index d w) h st = in_index ((Index, 0) ∷ st) _ (begins d) ∙ derives_shape d tt ((Index, 0) ∷ st) ∙ walks_shape w h st
 
-  lists_shape : {ts rest : List Lexeme} {more : List Tree} → Lists ts more rest → NoCall (kinds rest) → (st : List Frame) → shape O (Call 0 ∷ st) (kinds ts) ≡ shape O (Call 0 ∷ st) (kinds rest)
+  lists_shape : {ts rest : List Lexeme} {more : List Tree} → Lists ts more rest → NoCall (kinds rest) → (st : List Frame) → shape O ((Call, 0) ∷ st) (kinds ts) ≡ shape O ((Call, 0) ∷ st) (kinds rest)
   lists_shape listed h st = refl
-  lists_shape (and_next d w) h st = derives_shape d (before_lists w h) (Call 0 ∷ st) ∙ lists_shape w h st
+  lists_shape (and_next d w) h st = derives_shape d (before_lists w h) ((Call, 0) ∷ st) ∙ lists_shape w h st
 
 shape_lies : (ts : List TokenKind) (m : Mode) (st : List Frame) → LiesIn (length ts) (shape m st ts)
 shape_lies [] m st = at_end m st

@@ -9,7 +9,7 @@ use Rattle.al_expr_grammar.specs.Grammar.{Nonterminal, Binary, Unary, Postfix, P
 use Rattle.al_expr_grammar.specs.Grammar.{constant, number, text, name, call_empty, call, group, Operators, no_more, one_more}
 use Rattle.al_expr_grammar.specs.Grammar.{Walks, arrived, to_property, to_keyword, to_all, to_each, to_index, Lists, listed, and_next}
 use Rattle.al_expr_grammar.specs.Parsed.{NoBang, EndsPath, EndsLevel, EndsRule}
-use Rattle.al_expr_grammar.specs.Table.{Fine, E, A, O, Frame, Group, Call, Index as IndexFrame}
+use Rattle.al_expr_grammar.specs.Table.{Fine, E, A, O, Frame, Group, Call, Index as IndexBracket}
 use Rattle.al_expr_grammar.proofs.Chains.{ends_below}
 use Rattle.al_expr_grammar.proofs.Rules.{at_most_three}
 use Rattle.al_expr_grammar.proofs.Shape.{shape, uncalled}
@@ -38,7 +38,7 @@ data ReadsOperators (l : ℕ) (st : List Frame) (ts : List Lexeme) : Type 0 wher
 abbrev Inner : ℕ → Type 0
 Inner n = (st : List Frame) (ts : List Lexeme) → length ts < n → shape E st (kinds ts) ≡ Fine → Reads (Binary 3) st ts
 
-grouped : (st : List Frame) (b : List ℕ) (s : Span) (ts : List Lexeme) → Reads (Binary 3) (Group 0 ∷ st) ts → Reads Primary st (lexeme Open b s ∷ ts)
+grouped : (st : List Frame) (b : List ℕ) (s : Span) (ts : List Lexeme) → Reads (Binary 3) ((Group, 0) ∷ st) ts → Reads Primary st (lexeme Open b s ∷ ts)
 grouped st b s ts (read t (lexeme Close c e ∷ rest) d f h l) = read _ rest (group d) f tt (omega (arith, l))
 grouped st b s ts (read t (lexeme Dot c e ∷ rest) d f h l) = absurd h
 grouped st b s ts (read t (lexeme OpenIndex c e ∷ rest) d f h l) = absurd h
@@ -50,7 +50,7 @@ also : {st : List Frame} {ts us : List Lexeme} (s : StepTree) → ((ss : List St
 also s make l (walked ss rest w f h m) = walked (s ∷ ss) rest (make ss rest w) f h (omega (arith, l, m))
 
 indexed : (st : List Frame) (b : List ℕ) (s : Span) (ts : List Lexeme) → ((us : List Lexeme) → length us < length ts → IsFineAfter st us → ReadsSteps st us)
-    → Reads (Binary 3) (IndexFrame 0 ∷ st) ts → ReadsSteps st (lexeme OpenIndex b s ∷ ts)
+    → Reads (Binary 3) ((IndexBracket, 0) ∷ st) ts → ReadsSteps st (lexeme OpenIndex b s ∷ ts)
 indexed st b s ts walk (read t (lexeme CloseIndex c e ∷ us) d f h l) = also (Index s t e) (λ ss rest w. to_index d w) (omega (arith, l)) (walk us (omega (arith, l)) f)
 indexed st b s ts walk (read t (lexeme Dot c e ∷ us) d f h l) = absurd h
 indexed st b s ts walk (read t (lexeme OpenIndex c e ∷ us) d f h l) = absurd h
@@ -58,10 +58,10 @@ indexed st b s ts walk (read t (lexeme (Infix o) c e ∷ us) d f h l) = absurd (
 indexed st b s ts walk (read t us d f h l) = absurd cc
 
 module _ (n : ℕ) (inner : Inner n) where
-  arguments : (fuel : ℕ) (st : List Frame) (ts : List Lexeme) → length ts ≤ fuel → length ts < n → IsFineAfter (Call 0 ∷ st) ts → EndsLevel 3 (kinds ts) → ReadsArguments st ts
+  arguments : (fuel : ℕ) (st : List Frame) (ts : List Lexeme) → length ts ≤ fuel → length ts < n → IsFineAfter ((Call, 0) ∷ st) ts → EndsLevel 3 (kinds ts) → ReadsArguments st ts
   arguments fuel st (lexeme Close d e ∷ rest) m k f h = given [] d e rest listed f (omega arith)
   arguments zero st (lexeme Comma b s ∷ us) m k f h = absurd (omega (arith, m))
-  arguments (suc fuel) st (lexeme Comma b s ∷ us) m k f h = elim (inner (Call 0 ∷ st) us (omega (arith, k)) f) [
+  arguments (suc fuel) st (lexeme Comma b s ∷ us) m k f h = elim (inner ((Call, 0) ∷ st) us (omega (arith, k)) f) [
     | read t mid d g i l ↦ elim (arguments fuel st mid (omega (arith, m, l)) (omega (arith, k, l)) g i) [
       | given more c e rest w a z ↦ given (t ∷ more) c e rest (and_next d w) a (omega (arith, l, z))
     ]
@@ -71,17 +71,17 @@ module _ (n : ℕ) (inner : Inner n) where
   arguments fuel st (lexeme (Infix o) b s ∷ us) m k f h = absurd (omega (arith, h, at_most_three o))
   arguments fuel st ts m k f h = absurd cc
 
-  called : (st : List Frame) (b c : List ℕ) (s u : Span) (ts : List Lexeme) → length ts < n → Reads (Binary 3) (Call 0 ∷ st) ts
+  called : (st : List Frame) (b c : List ℕ) (s u : Span) (ts : List Lexeme) → length ts < n → Reads (Binary 3) ((Call, 0) ∷ st) ts
       → Reads Primary st (lexeme Name b s ∷ lexeme Open c u ∷ ts)
   called st b c s u ts k (read t mid d f h l) = elim (arguments (length mid) st mid (omega arith) (omega (arith, k, l)) f h) [
     | given more a e rest w g z ↦ read _ rest (call d w) g tt (omega (arith, l, z))
   ]
 
-  calls : (st : List Frame) (b c : List ℕ) (s u : Span) (ts : List Lexeme) → length ts < n → shape A (Call 0 ∷ st) (kinds ts) ≡ Fine
+  calls : (st : List Frame) (b c : List ℕ) (s u : Span) (ts : List Lexeme) → length ts < n → shape A ((Call, 0) ∷ st) (kinds ts) ≡ Fine
       → Reads Primary st (lexeme Name b s ∷ lexeme Open c u ∷ ts)
   calls st b c s u [] k f = absurd cc
   calls st b c s u (lexeme Close d e ∷ rest) k f = read _ rest call_empty f tt (omega arith)
-  calls st b c s u (lexeme a d e ∷ ts) k f = called st b c s u (lexeme a d e ∷ ts) k (inner (Call 0 ∷ st) (lexeme a d e ∷ ts) k f)
+  calls st b c s u (lexeme a d e ∷ ts) k f = called st b c s u (lexeme a d e ∷ ts) k (inner ((Call, 0) ∷ st) (lexeme a d e ∷ ts) k f)
 
   primary : (st : List Frame) (ts : List Lexeme) → length ts ≤ n → NoBang (kinds ts) → shape E st (kinds ts) ≡ Fine → Reads Primary st ts
   primary st [] k h f = absurd cc
@@ -91,7 +91,7 @@ module _ (n : ℕ) (inner : Inner n) where
   primary st (lexeme Name b s ∷ []) k h f = read _ [] name (sym (uncalled st [] tt) ∙ f) tt (omega arith)
   primary st (lexeme Name b s ∷ lexeme Open c u ∷ ts) k h f = calls st b c s u ts (omega (arith, k)) f
   primary st (lexeme Name b s ∷ lexeme a c u ∷ ts) k h f = read _ (lexeme a c u ∷ ts) name f tt (omega arith)
-  primary st (lexeme Open b s ∷ ts) k h f = grouped st b s ts (inner (Group 0 ∷ st) ts (omega (arith, k)) f)
+  primary st (lexeme Open b s ∷ ts) k h f = grouped st b s ts (inner ((Group, 0) ∷ st) ts (omega (arith, k)) f)
   primary st (lexeme Bang b s ∷ ts) k h f = absurd h
   primary st (lexeme a b s ∷ ts) k h f = absurd cc
 
@@ -110,7 +110,7 @@ module _ (n : ℕ) (inner : Inner n) where
   walk (suc fuel) st (lexeme OpenIndex c d ∷ lexeme Star b s ∷ ts) m k f = absurd cc
   walk (suc fuel) st (lexeme OpenIndex c d ∷ []) m k f = absurd cc
   walk (suc fuel) st (lexeme OpenIndex c d ∷ lexeme a b s ∷ ts) m k f =
-      indexed st c d (lexeme a b s ∷ ts) (λ us l g. walk fuel st us (omega (arith, m, l)) (omega (arith, k, l)) g) (inner (IndexFrame 0 ∷ st) (lexeme a b s ∷ ts) (omega (arith, k)) f)
+      indexed st c d (lexeme a b s ∷ ts) (λ us l g. walk fuel st us (omega (arith, m, l)) (omega (arith, k, l)) g) (inner ((IndexBracket, 0) ∷ st) (lexeme a b s ∷ ts) (omega (arith, k)) f)
   walk (suc fuel) st (lexeme a b s ∷ ts) m k f = walked [] _ arrived f tt (omega arith)
 
   with_steps : {st : List Frame} {ts mid : List Lexeme} {t : Tree} → Derives Primary ts t mid → length mid < length ts → ReadsSteps st mid → Reads Postfix st ts

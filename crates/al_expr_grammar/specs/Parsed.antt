@@ -126,7 +126,7 @@ pub record ArgumentsPart (room : ℕ) (ts : List Lexeme) (all : List Tree) (rest
   pub begins : Derives (Binary 3) ts first mid
   pub lists : Lists mid more rest
   pub goes : (k : ℕ) (st : List Frame) → 1 + k + outside st + room ≡ deepest_expression
-      → scan E 0 (Call k ∷ st) (kinds ts) ≡ scan O 0 (Call k ∷ st) (kinds rest)
+      → scan E 0 ((Call, k) ∷ st) (kinds ts) ≡ scan O 0 ((Call, k) ∷ st) (kinds rest)
   pub stops : EndsLevel 3 (kinds rest)
   pub shorter : length rest < length ts
 

@@ -12,9 +12,12 @@ use Rattle.al_expr_grammar.specs.declared.token.TokenKind.TheVariants.{Comma, St
 pub data Mode : Type 0 where
   E A I S D O N : Mode
 
+pub data Bracket : Type 0 where
+  Group Call Index : Bracket
+
 -- an open bracket, with the number of negations that were open before it in the bracket around it
-pub data Frame : Type 0 where
-  Group Call Index : ℕ → Frame
+abbrev pub Frame : Type 0
+Frame = Bracket × ℕ
 
 -- What a token leads to: nothing, as it isn't allowed; a mode with this many negations open in the
 -- innermost bracket, and the open brackets; or the same one level deeper.
@@ -27,18 +30,18 @@ operand k st Name = Go N k st
 operand k st (Keyword w) = Go O k st
 operand k st Number = Go O k st
 operand k st Text = Go O k st
-operand k st Open = Deeper E 0 (Group k ∷ st)
+operand k st Open = Deeper E 0 ((Group, k) ∷ st)
 operand k st Bang = Deeper E (suc k) st
 operand k st _ = Stuck
 
 abbrev pub after_operand : ℕ → List Frame → TokenKind → Transition
 after_operand k st (Infix o) = Go E 0 st
 after_operand k st Dot = Go D k st
-after_operand k st OpenIndex = Deeper I 0 (Index k ∷ st)
-after_operand k (Group j ∷ st) Close = Go O j st
-after_operand k (Call j ∷ st) Close = Go O j st
-after_operand k (Call j ∷ st) Comma = Go E 0 (Call j ∷ st)
-after_operand k (Index j ∷ st) CloseIndex = Go O j st
+after_operand k st OpenIndex = Deeper I 0 ((Index, k) ∷ st)
+after_operand k ((Group, j) ∷ st) Close = Go O j st
+after_operand k ((Call, j) ∷ st) Close = Go O j st
+after_operand k ((Call, j) ∷ st) Comma = Go E 0 ((Call, j) ∷ st)
+after_operand k ((Index, j) ∷ st) CloseIndex = Go O j st
 after_operand k st _ = Stuck
 
 abbrev pub step : Mode → ℕ → List Frame → TokenKind → Transition
@@ -50,7 +53,7 @@ step D k st Name = Go O k st
 step D k st (Keyword w) = Go O k st
 step D k st Star = Go O k st
 step D k st t = Stuck
-step N k st Open = Deeper A 0 (Call k ∷ st)
+step N k st Open = Deeper A 0 ((Call, k) ∷ st)
 step N k st t = after_operand k st t
 step O k st t = after_operand k st t
 step m k st t = operand k st t
@@ -69,9 +72,7 @@ finish _ _ = Early
 -- the brackets and negations that are open
 abbrev pub outside : List Frame → ℕ
 outside [] = 0
-outside (Group k ∷ st) = 1 + k + outside st
-outside (Call k ∷ st) = 1 + k + outside st
-outside (Index k ∷ st) = 1 + k + outside st
+outside (f ∷ st) = 1 + f.1 + outside st
 
 -- continues after a step, given whether there is room for one more level, and how many tokens were
 -- left
