@@ -38,7 +38,8 @@ day_names =
 
 -- the number with these decimal digits
 abbrev pub written_number : List ℕ → Option ℕ
-written_number bs = then_some (nat_lt 0 (length bs) && list_all is_ascii_digit bs) (number_from_decimal bs)
+written_number bs =
+    then_some (nat_lt 0 (length bs) && list_all is_ascii_digit bs) (number_from_decimal bs)
 
 abbrev pub number_in : ℕ → ℕ → List ℕ → Option ℕ
 number_in low high bs =
