@@ -5,8 +5,8 @@ use crate::commands::{Command, Question, Wrong};
 use al_check::Actions;
 use al_cli::number_of;
 use al_facts_tables::push_tables;
-use al_facts_trees::{Form, push_node, push_places};
-use al_json::{Json, push_first, push_joined};
+use al_facts_trees::{Form, owners, push_node, push_places};
+use al_json::{FileFaults, Json, join_faults, push_faults};
 use al_session::{Edit, Refused, Session};
 use al_text::limits::{LARGEST_FILE, MOST_FILES};
 use al_text::{Args, Code, Fault, Path};
@@ -128,7 +128,30 @@ fn cycles_at<'a>(cycles: &'a [Vec<Fault>], number: Option<usize>) -> &'a [Fault]
     }
 }
 
-/// The faults of a file, those of call cycles included: all of them, or the first ones.
+/// Bytes, and the path by which they are read.
+#[derive(Clone, Copy)]
+struct Source<'a> {
+    path: &'a str,
+    bytes: &'a [u8],
+}
+
+// Writes the key `faults` with these faults of a file, in the order of reports.
+fn push_listed(json: &mut Json, source: Source<'_>, faults: &[&Fault]) -> Result<(), AllocError> {
+    let Source { path, bytes } = source;
+    let owners = &owners(json.alloc(), path, bytes, faults)?;
+    push_faults(
+        json,
+        FileFaults {
+            path,
+            bytes,
+            faults,
+            owners,
+        },
+    )
+}
+
+/// The faults of a file, those of call cycles included: all of them, or the first ones and the
+/// number of the others.
 fn file_faults(
     alloc: Global,
     session: &mut Session<Actions>,
@@ -140,11 +163,15 @@ fn file_faults(
     let (Some(bytes), Some(own)) = (session.bytes(path), session.faults(path)) else {
         return error(alloc, "no file has this path");
     };
+    let joined = join_faults(alloc, own, more)?;
+    let count = most.unwrap_or(joined.len()).min(joined.len());
+    let (first, others) = joined.as_slice().split_at(count);
     let mut json = Json::new(alloc);
     json.open('{')?;
-    match most {
-        Some(most) => push_first(&mut json, bytes, own, more, most)?,
-        None => push_joined(&mut json, bytes, own, more)?,
+    push_listed(&mut json, Source { path, bytes }, first)?;
+    if most.is_some() {
+        json.key("more")?;
+        json.number(others.len() as u64)?;
     }
     json.close('}')?;
     Ok(json)
@@ -161,9 +188,11 @@ fn push_file(
     if own.is_empty() && cycles.is_empty() {
         return Ok(());
     }
+    let bytes = session.bytes(path).unwrap_or(&[]);
+    let joined = join_faults(json.alloc(), own, cycles)?;
     json.open('{')?;
     json.text_at("path", path)?;
-    push_joined(json, session.bytes(path).unwrap_or(&[]), own, cycles)?;
+    push_listed(json, Source { path, bytes }, joined.as_slice())?;
     json.close('}')
 }
 
@@ -210,20 +239,17 @@ fn files(
 }
 
 /// The first fault of a file, because of which it has no tree.
-fn push_yaml_fault(json: &mut Json, bytes: &[u8], fault: YamlFault) -> Result<(), AllocError> {
-    let faults = [Fault {
+fn push_yaml_fault(
+    json: &mut Json,
+    source: Source<'_>,
+    fault: YamlFault,
+) -> Result<(), AllocError> {
+    let fault = Fault {
         span: fault.span,
         code: Code::Yaml(fault.code),
         args: Args::none(),
-    }];
-    push_joined(json, bytes, &faults, &[])
-}
-
-/// Bytes, and the path by which they are read.
-#[derive(Clone, Copy)]
-struct Source<'a> {
-    path: &'a str,
-    bytes: &'a [u8],
+    };
+    push_listed(json, source, &[&fault])
 }
 
 // Writes what is asked about bytes with this tree.
@@ -252,7 +278,7 @@ fn read_source(alloc: Global, question: Question, source: Source<'_>) -> Result<
     json.open('{')?;
     match read_yaml(alloc, source.bytes)? {
         Ok(doc) => push_answer(&mut json, question, source, &doc.root)?,
-        Err(fault) => push_yaml_fault(&mut json, source.bytes, fault)?,
+        Err(fault) => push_yaml_fault(&mut json, source, fault)?,
     }
     json.close('}')?;
     Ok(json)

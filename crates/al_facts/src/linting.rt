@@ -2,7 +2,8 @@
 
 use al_check::Actions;
 use al_cli::{Disk, Ending, Gathered, Usage, Words, load, parse_words, say_skipped};
-use al_json::{Detail, ReportedFile, write_fault_lines, write_status};
+use al_facts_trees::owners;
+use al_json::{Detail, FileFaults, join_faults, write_fault_lines, write_status};
 use al_session::Session;
 use al_text::{Fault, Stop};
 use std::alloc::Global;
@@ -135,25 +136,49 @@ fn write_files<W: Write>(
     detail: Detail,
 ) -> io::Result<()> {
     for (number, found) in cycles.iter().enumerate() {
-        match reported_file(session, number, found.as_slice()) {
-            Some(file) => write_fault_lines(alloc, writer, file, detail)?,
-            None => return Err(io::Error::from(ErrorKind::NotFound)),
-        }
+        let Some(file) = file_at(session, number) else {
+            return Err(io::Error::from(ErrorKind::NotFound));
+        };
+        write_file(alloc, file, found.as_slice(), writer, detail)?;
     }
     Ok(())
 }
 
-// The file with this number, in order of path, and its faults on call cycles.
-fn reported_file<'a>(
-    session: &'a Session<Actions>,
-    number: usize,
-    cycles: &'a [Fault],
-) -> Option<ReportedFile<'a>> {
+/// A file of the folder, and the faults of its own.
+#[derive(Clone, Copy)]
+struct File<'a> {
+    path: &'a str,
+    bytes: &'a [u8],
+    own: &'a [Fault],
+}
+
+// The file with this number, in order of path.
+fn file_at(session: &Session<Actions>, number: usize) -> Option<File<'_>> {
     let path = session.path_at(number)?;
-    Some(ReportedFile {
+    Some(File {
         path,
         bytes: session.bytes(path)?,
         own: session.faults(path)?,
-        cycles,
     })
+}
+
+// Writes the faults of a file, those of its calls on a call cycle included.
+fn write_file<W: Write>(
+    alloc: Global,
+    file: File<'_>,
+    cycles: &[Fault],
+    writer: &mut W,
+    detail: Detail,
+) -> io::Result<()> {
+    let File { path, bytes, own } = file;
+    let joined = join_faults(alloc, own, cycles)?;
+    let faults = joined.as_slice();
+    let owners = &owners(alloc, path, bytes, faults)?;
+    let written = FileFaults {
+        path,
+        bytes,
+        faults,
+        owners,
+    };
+    write_fault_lines(alloc, writer, written, detail)
 }

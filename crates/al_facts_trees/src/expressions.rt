@@ -1,42 +1,15 @@
 //! The expressions of a file: their places, tokens and trees, with spans in the file.
 
+use crate::contents::{Origin, contents, span_in_file};
 use crate::trees::{keyword_text, operator_text};
 use al_check::{Place, places};
-use al_expr::{Expr, Operand, PathStep, Token, TokenKind, Word, chunks, extent, lex, parse_expr};
+use al_expr::{Expr, Operand, PathStep, Token, TokenKind, Word, extent, lex, parse_expr};
 use al_json::{Json, push_contexts, push_fault, push_functions};
 use al_text::limits::LONGEST_TEXT;
 use al_text::{Fault, Span};
-use al_tree::{FileKind, contains_chunk};
-use al_yaml::{Node, Scalar};
+use al_tree::FileKind;
+use al_yaml::Node;
 use std::alloc::AllocError;
-
-/// Where an expression comes from: a scalar, and the index of the expression's first byte in its
-/// text.
-#[derive(Clone, Copy)]
-struct Origin<'s> {
-    scalar: &'s Scalar,
-    start: u32,
-}
-
-// The offset in the file of an index of a scalar's text; at the text's end, the end of the scalar.
-fn offset(scalar: &Scalar, index: usize) -> u32 {
-    scalar.locate(index.min(scalar.text().len()))
-}
-
-// The span in the file of a span of an expression.
-fn span_in_file(origin: Origin<'_>, span: Span) -> Span {
-    let first = origin.start.saturating_add(span.start) as usize;
-    let end = origin.start.saturating_add(span.end) as usize;
-    let start = offset(origin.scalar, first);
-    if end <= first {
-        return Span { start, end: start };
-    }
-    let last = offset(origin.scalar, end.saturating_sub(1));
-    Span {
-        start,
-        end: last.saturating_add(1),
-    }
-}
 
 fn push_span(json: &mut Json, origin: Origin<'_>, span: Span) -> Result<(), AllocError> {
     let Span { start, end } = span_in_file(origin, span);
@@ -233,13 +206,11 @@ fn push_content(json: &mut Json, origin: Origin<'_>, content: &str) -> Result<()
     json.close('}')
 }
 
-// Writes the chunks of a text, and its fault if one isn't closed.
-fn push_chunks(json: &mut Json, scalar: &Scalar, text: &str) -> Result<(), AllocError> {
+// Writes the expressions at a place, and the fault of the text if one isn't closed.
+fn push_chunks(json: &mut Json, place: &Place<'_>) -> Result<(), AllocError> {
+    let scalar = place.scalar;
+    let (found, unclosed) = contents(json.alloc(), place)?;
     json.list_at("chunks")?;
-    if text.len() > LONGEST_TEXT {
-        return json.close(']');
-    }
-    let (found, unclosed) = chunks(json.alloc(), text)?;
     for chunk in &found {
         let start = chunk.span.start;
         push_content(json, Origin { scalar, start }, chunk.content)?;
@@ -249,23 +220,6 @@ fn push_chunks(json: &mut Json, scalar: &Scalar, text: &str) -> Result<(), Alloc
         Some(fault) => push_moved(json, Origin { scalar, start: 0 }, fault),
         None => Ok(()),
     }
-}
-
-// Writes a text that is an expression as a whole.
-fn push_whole(json: &mut Json, scalar: &Scalar, text: &str) -> Result<(), AllocError> {
-    json.list_at("chunks")?;
-    push_content(json, Origin { scalar, start: 0 }, text)?;
-    json.close(']')
-}
-
-fn push_text(json: &mut Json, place: &Place<'_>) -> Result<(), AllocError> {
-    let Ok(text) = str::from_utf8(place.scalar.text()) else {
-        return Ok(());
-    };
-    if place.is_condition && !contains_chunk(text.as_bytes()) {
-        return push_whole(json, place.scalar, text);
-    }
-    push_chunks(json, place.scalar, text)
 }
 
 // Writes what is available at a place; nothing if all is.
@@ -287,7 +241,7 @@ fn push_place(json: &mut Json, place: &Place<'_>) -> Result<(), AllocError> {
     json.flag_at("condition", place.is_condition)?;
     json.flag_at("script", place.is_script)?;
     push_available(json, place)?;
-    push_text(json, place)?;
+    push_chunks(json, place)?;
     json.close('}')
 }
 

@@ -1,12 +1,16 @@
-//! Answers about a single file: its tree as YAML, and its expressions.
+//! Answers about a single file: its tree as YAML, its expressions, and what their undefined
+//! properties are read from.
 #![tactic(auto)]
 
+mod contents;
 mod expressions;
 mod nodes;
+mod owners;
 mod scalars;
 mod trees;
 
 pub use expressions::push_places;
 pub use nodes::{Form, push_node};
+pub use owners::owners;
 pub use scalars::push_scalar;
 pub use trees::push_expr;

@@ -2,6 +2,7 @@
 
 use crate::codes::{push_code, push_message};
 use crate::json::Json;
+use crate::owners::{Owners, push_owner};
 use al_text::limits::LARGEST_FILE;
 use al_text::{Args, Fault, Location, location_of};
 use std::alloc::{AllocError, Global};
@@ -105,32 +106,41 @@ pub fn push_fault(json: &mut Json, fault: &Fault) -> Result<(), AllocError> {
     json.close('}')
 }
 
+/// A file, and those of its faults that are written.
+#[derive(Clone, Copy)]
+pub struct FileFaults<'a> {
+    /// The path of the file.
+    pub path: &'a str,
+    /// Its bytes.
+    pub bytes: &'a [u8],
+    /// The faults, in the order of reports.
+    pub faults: &'a [&'a Fault],
+    /// What the undefined properties among them are read from.
+    pub owners: &'a Owners,
+}
+
 /// Writes the keys of a fault whose start is at a spot.
 pub fn push_fault_keys(
     json: &mut Json,
-    bytes: &[u8],
+    file: FileFaults<'_>,
     fault: &Fault,
     spot: Spot,
 ) -> Result<(), AllocError> {
     push_what(json, fault)?;
+    push_owner(json, file.owners, fault)?;
     push_start(json, spot)?;
-    push_end(json, spot_after(bytes, spot, fault.span.end))
+    push_end(json, spot_after(file.bytes, spot, fault.span.end))
 }
 
-// Writes a fault whose start is at a spot.
-fn push_at(json: &mut Json, bytes: &[u8], fault: &Fault, spot: Spot) -> Result<(), AllocError> {
-    json.open('{')?;
-    push_fault_keys(json, bytes, fault, spot)?;
-    json.close('}')
-}
-
-// Writes a list of faults of a file, in the order of reports.
-fn push_faults(json: &mut Json, bytes: &[u8], faults: &[&Fault]) -> Result<(), AllocError> {
+/// Writes the key `faults` with a list of the faults of a file.
+pub fn push_faults(json: &mut Json, file: FileFaults<'_>) -> Result<(), AllocError> {
     let mut spot = first_spot();
-    json.open('[')?;
-    for fault in faults {
-        spot = spot_after(bytes, spot, fault.span.start);
-        push_at(json, bytes, *fault, spot)?;
+    json.list_at("faults")?;
+    for fault in file.faults {
+        spot = spot_after(file.bytes, spot, fault.span.start);
+        json.open('{')?;
+        push_fault_keys(json, file, *fault, spot)?;
+        json.close('}')?;
     }
     json.close(']')
 }
@@ -147,33 +157,4 @@ pub fn join_faults<'a>(
         joined.dedup();
     }
     Ok(joined)
-}
-
-/// Writes the key `faults` with a file's own faults and those of its calls on a call cycle.
-pub fn push_joined(
-    json: &mut Json,
-    bytes: &[u8],
-    own: &[Fault],
-    more: &[Fault],
-) -> Result<(), AllocError> {
-    let joined = join_faults(json.alloc(), own, more)?;
-    json.key("faults")?;
-    push_faults(json, bytes, joined.as_slice())
-}
-
-/// Writes the key `faults` with at most so many of them, the first ones, and the key `more` with
-/// the number of the others.
-pub fn push_first(
-    json: &mut Json,
-    bytes: &[u8],
-    own: &[Fault],
-    more: &[Fault],
-    most: usize,
-) -> Result<(), AllocError> {
-    let joined = join_faults(json.alloc(), own, more)?;
-    let (first, others) = joined.as_slice().split_at(most.min(joined.len()));
-    json.key("faults")?;
-    push_faults(json, bytes, first)?;
-    json.key("more")?;
-    json.number(others.len() as u64)
 }

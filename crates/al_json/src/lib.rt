@@ -7,11 +7,13 @@ mod faults;
 mod json;
 mod lines;
 mod names;
+mod owners;
 mod report;
 
 pub use codes::{Arity, identifier, push_code, push_message, push_template, rows_of_codes};
-pub use faults::{push_fault, push_first, push_joined};
+pub use faults::{FileFaults, join_faults, push_fault, push_faults};
 pub use json::Json;
 pub use lines::send;
 pub use names::{push_contexts, push_functions};
-pub use report::{Detail, ReportedFile, write_fault_lines, write_status};
+pub use owners::Owners;
+pub use report::{Detail, write_fault_lines, write_status};

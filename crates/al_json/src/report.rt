@@ -1,25 +1,12 @@
 //! A report in which each fault is a line of its own.
 
-use crate::faults::{Spot, first_spot, join_faults, line_at, push_fault_keys, spot_after};
+use crate::faults::{FileFaults, Spot, first_spot, line_at, push_fault_keys, spot_after};
 use crate::json::Json;
 use crate::lines::write_line;
 use al_text::Fault;
 use std::alloc::{AllocError, Global};
 use std::io;
 use std::io::Write;
-
-/// A file of a report.
-#[derive(Clone, Copy)]
-pub struct ReportedFile<'a> {
-    /// Its path.
-    pub path: &'a str,
-    /// Its bytes.
-    pub bytes: &'a [u8],
-    /// The faults of its own, in the order of reports.
-    pub own: &'a [Fault],
-    /// Those of its calls on a call cycle.
-    pub cycles: &'a [Fault],
-}
 
 /// What a line has of a fault.
 #[derive(Clone, Copy, PartialEq, Eq)]
@@ -32,7 +19,7 @@ pub enum Detail {
 
 fn fault_object(
     alloc: Global,
-    file: ReportedFile<'_>,
+    file: FileFaults<'_>,
     fault: &Fault,
     spot: Spot,
     detail: Detail,
@@ -40,7 +27,7 @@ fn fault_object(
     let mut json = Json::new(alloc);
     json.open('{')?;
     json.text_at("path", file.path)?;
-    push_fault_keys(&mut json, file.bytes, fault, spot)?;
+    push_fault_keys(&mut json, file, fault, spot)?;
     if detail == Detail::Source {
         json.key("source")?;
         json.bytes(line_at(file.bytes, spot))?;
@@ -49,7 +36,7 @@ fn fault_object(
     Ok(json)
 }
 
-/// Writes a line for each fault of a file, in the order of reports, each fault once.
+/// Writes a line for each of the faults of a file.
 ///
 /// # Errors
 ///
@@ -57,13 +44,13 @@ fn fault_object(
 pub fn write_fault_lines<W: Write>(
     alloc: Global,
     writer: &mut W,
-    file: ReportedFile<'_>,
+    file: FileFaults<'_>,
     detail: Detail,
 ) -> io::Result<()> {
     let mut spot = first_spot();
-    for fault in join_faults(alloc, file.own, file.cycles)? {
+    for fault in file.faults {
         spot = spot_after(file.bytes, spot, fault.span.start);
-        let json = fault_object(alloc, file, fault, spot, detail)?;
+        let json = fault_object(alloc, file, *fault, spot, detail)?;
         write_line(writer, json.as_str())?;
     }
     Ok(())
