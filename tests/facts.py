@@ -34,6 +34,26 @@ ODD_FILES = [b"on: push\r\nnam: x\r\njobs: {}\r\n", b"on: push\rnam: x\rjobs: {}
              b"on: push\njobs:\n  a: {runs-on: x, steps: {run: '\xc3\xa9',\r\n name: y}}\n"]
 # As many faults as several writes have.
 MANY_FAULTS = b"on: push\njobs:\n  a:\n    runs-on: x\n    steps:\n      - run: |\n" + b"          ${{a}} ${{b}}\n" * 10_000
+# Expressions, each with an undefined property, and the names before that; none if the expression begins with no context.
+WITH_PROPERTIES = """on: {push: , workflow_call: {inputs: {i: {type: string}}}}
+nam: x
+jobs:
+  a: {runs-on: x, steps: []}
+  b:
+    needs: a
+    runs-on: x
+    strategy: {matrix: {o: [{p: {q: 1}}], "it's": [{p: 1}], l: [[{p: 1}]]}}
+    steps:
+      - {id: s, run: y}
+      - run: |
+"""
+PROPERTIES = [("needs.b.result", ["needs"]), ("NEEDS.a.outputs.x", ["NEEDS", "a", "outputs"]), ("needs['b'].outputs.x", ["needs"]),
+              ("needs . a\n            .outputs\n            [ 'x' ]", ["needs", "a", "outputs"]), ("steps['s'].output", ["steps", "s"]),
+              ("steps.*.output", ["steps", "*"]), ("steps[ * ].output", ["steps", "*"]), ("matrix.o.p.r.s", ["matrix", "o", "p"]),
+              ("matrix['it''s'].r", ["matrix", "it's"]), ("matrix[(('o'))].r", ["matrix", "o"]), ("matrix.l[0].r", ["matrix", "l", "*"]),
+              ("matrix.l[matrix.r].p", ["matrix"]), ("github[matrix['r']].x", ["matrix"]), ("env[inputs.r][env.s]", ["inputs"]),
+              ("!inputs.r && 'x.' == format('{0}', 'a.b')", ["inputs"]), ("fromJSON(github.r).s", ["github"]),
+              ("(matrix.r).s", ["matrix"]), ("(matrix.o).r", None)]
 LOOP = b"on:\n  workflow_call:\njobs:\n  a:\n    uses: ./.github/workflows/r.yml\n"
 
 
@@ -213,9 +233,10 @@ class Lint:
         linted, with_source = self.place.run(["--oneline", *words]), self.place.run(list(words))
         ran = self.place.run(["lint", *words], program=self.program)
         short = self.place.run(["lint", "--oneline", *words], program=self.program)
+        named = (b"\nUsage: actionlint ", b"\nUsage: actionlint-facts lint ")
         wrong = [f"status {one.returncode} and {show(one.stderr)} in place of {it.returncode} and {show(it.stderr)}"
                  for one, it in ((ran, with_source), (short, linted))
-                 if (one.returncode, one.stderr) != (it.returncode, it.stderr.replace(b"\nUsage: actionlint ", b"\nUsage: lint "))]
+                 if (one.returncode, one.stderr) != (it.returncode, it.stderr.replace(*named))]
         if linted.returncode > 1:
             return wrong + [f"it printed {show(one.stdout)}" for one in (ran, short) if one.stdout]
         *rows, last = map(json.loads, ran.stdout.splitlines())
@@ -227,13 +248,14 @@ class Lint:
         top = pathlib.Path(self.place.folder, root or ".")
         files = {path: Bytes((top / path).read_bytes()) for path in {row["path"] for row in rows}}
         wrong += [f"{row} isn't a fault of its file" for row in rows if not self.is_of_file(row, files[row["path"]])][:1]
-        short_rows = [{key: row[key] for key in KEYS} for row in rows]
+        short_rows = [{key: value for key, value in row.items() if key != "source"} for row in rows]
         return wrong + ([] if rows_of_short == short_rows else ["with --oneline there are other faults or keys"])
 
     def is_of_file(self, row, file):
         """Whether the source line, the places and the message are those of a file, and of the code's entry."""
         message = lambda entry: re.sub(r"\{([01])\}", lambda found: (row["arguments"] + ["", ""])[int(found[1])], entry)
-        return (list(row) == [*KEYS, "source"] and row["source"] == file.lines[row["line"] - 1].decode("utf-8", "replace")
+        return ([key for key in row if key != "of"] == [*KEYS, "source"] and ("of" in row) == (row["code"] == "X13")
+                and row["source"] == file.lines[row["line"] - 1].decode("utf-8", "replace")
                 and file.place(row["start"]) == (row["line"], row["column"])
                 and file.place(row["end"]) == (row["end_line"], row["end_column"])
                 and row["message"] in {CONTROL.sub("?", message(entry)) for entry in self.codes[row["code"]]})
@@ -253,6 +275,22 @@ class Bytes:
         """The line and the column of a byte, in characters from 1."""
         line = bisect.bisect_right(self.starts, offset)
         return line, 1 + sum(byte & 0xC0 != 0x80 for byte in self.data[self.starts[line - 1]:offset])
+
+
+def of_properties(lint):
+    """Undefined properties say what they are read from, in each answer that has faults and in `lint`; other faults don't."""
+    path = f"{WORKFLOWS}/p.yml"
+    file = (WITH_PROPERTIES + "".join(f"          ${{{{ {expression} }}}}\n" for expression, _ in PROPERTIES)).encode()
+    given, wrong = answers(lint.program, put(path, file) + b"faults %s\nfirst %s 99\nreport\n" % (path.encode(), path.encode()))
+    lint.place.fresh({path: file})
+    lines = lint.place.run(["lint"], program=lint.program).stdout.splitlines()[:-1]
+    wanted = [names for _, names in PROPERTIES]
+    for name, faults in {"faults": given[1]["faults"], "first": given[2]["faults"], "report": given[3]["files"][0]["faults"],
+                         "lint": map(json.loads, lines)}.items():
+        found = [(fault["code"], fault.get("of")) for fault in faults]
+        others = [it for it in found if it[0] != "X13"]
+        is_right = others and not any(of for _, of in others) and [of for code, of in found if code == "X13"] == wanted
+        report(f"of-{name}", 0, wrong + ([] if is_right else [f"{found}"]))
 
 
 def of_folders(lint):
@@ -366,7 +404,7 @@ def main(linter, program):
     all_tables(program)
     lint = Lint(linter, program)
     try:
-        for part in (of_folders, of_odd_files, of_odd_folders, of_wrong_words, of_output_that_fails):
+        for part in (of_properties, of_folders, of_odd_files, of_odd_folders, of_wrong_words, of_output_that_fails):
             part(lint)
     finally:
         lint.place.remove()

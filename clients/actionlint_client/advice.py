@@ -25,9 +25,6 @@ MAX_TRIED_BYTES = 2_000_000
 SECONDS_OF_A_FILE = 60.0
 SECONDS_OF_A_REPORT = 120.0
 SECONDS_OF_AN_ANSWER = 20.0
-# The names before a property, the first of them a context. Only so much before the fault is looked at.
-CHAIN = re.compile(r"([A-Za-z_][\w-]*)((?:\s*\.\s*[\w*-]+|\s*\[[^\[\]]*\])*)\s*(?:\.|\[\s*'?)\s*$")
-MAX_LOOKED_AT = 300
 KEY_BEFORE_COLON = re.compile(r"\s*(?:- +)*[\w.-]+")
 DASH_AND_KEY = re.compile(r"\s*-[^\s-]")
 OF_A_MERGE = re.compile(r"<<<<<<<|=======|>>>>>>>")
@@ -138,9 +135,8 @@ def _character(problem: Problem) -> str:
 def _is_of(context: str, *below: str) -> Callable[..., bool]:
     """Whether the fault is a property of a context, or of what a property of it has under these names."""
     def fits(problem: Problem, *_: str) -> bool:
-        found = CHAIN.search(_before(problem)[-MAX_LOOKED_AT:])
-        names_between = re.findall(r"[\w-]+", found[2]) if found else []
-        return found is not None and found[1].lower() == context and (not below or tuple(names_between[1:]) == below)
+        names_before = [name.lower() for name in problem.fault.of]
+        return names_before[:1] == [context] and (not below or names_before[2:] == [*below])
     return fits
 
 

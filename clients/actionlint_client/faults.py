@@ -14,7 +14,8 @@ LINE_BREAKS = (b"\n", b"\r")
 
 class Fault(NamedTuple):
     """A fault. Lines and columns count from 1; columns and width are characters. The width is that on its first line, or None if it isn't
-    known. The code and the arguments are those of its entry, if it has one."""
+    known. The code and the arguments are those of its entry, if it has one. If it is an undefined property, `of` has the names before it,
+    from a context on, `*` for an index that isn't a string."""
 
     path: str
     line: int
@@ -24,6 +25,7 @@ class Fault(NamedTuple):
     width: int | None
     code: str = ""
     arguments: tuple[str, ...] = ()
+    of: tuple[str, ...] = ()
 
 
 @dataclass(frozen=True)
@@ -42,7 +44,7 @@ def fault_of(path: str, said: Json, left_on_line: Callable[[], int | None]) -> F
     its first line has from its place on, if that is known."""
     width = said["end_column"] - said["column"] if said["line"] == said["end_line"] else left_on_line()
     return Fault(path, said["line"], said["column"], said["message"], said["kind"], None if width is None else max(width, 1), said["code"],
-                 tuple(said["arguments"]))
+                 tuple(said["arguments"]), tuple(said.get("of", ())))
 
 
 def faults_of(path: str, found: Iterable[Json], data: bytes) -> tuple[Fault, ...]:

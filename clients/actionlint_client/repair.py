@@ -93,11 +93,11 @@ class Nodes:
 
 
 class Case:
-    """A fault of a file, with its arguments and its span, and the text and the tree of the file."""
+    """A fault of a file, with its arguments, the names before it and its span, and the text and the tree of the file."""
 
     def __init__(self, project: Project, fault: Fault, entry: Entry):
         self.project, self.file, self.code, self.entry = project, fault.path, entry.code, entry
-        self.arguments = fault.arguments
+        self.arguments, self.names_before = fault.arguments, fault.of
         self.text = project.text(fault.path)
         self.lines = project.lines(fault.path)
         self.span = span_of(fault, self.lines, (project.read(fault.path) or b"").startswith(BYTE_ORDER_MARK))

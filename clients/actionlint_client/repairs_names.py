@@ -13,7 +13,7 @@ from .paths import is_workflow
 from .repair import Case, Edit, Found, Repair, first_entry, in_quotes, moved_out, next_entry, quoted, without_key
 from .repairs_expressions import choice_by_call, expression_of, is_alternative, is_in_condition, is_operand, rewritten
 from .repairs_needs import declared_output, is_in_other_words, is_written_elsewhere, needed_job, needs_for_jobs, output_of_job
-from .repairs_steps import (DECLARED, OF_CONTEXTS, PROPERTIES_OF_ALL, named_step, names_before, only_job, only_output, only_step,
+from .repairs_steps import (DECLARED, OF_CONTEXTS, PROPERTIES_OF_ALL, named_step, only_job, only_output, only_step,
                             output_of_any_job, properties_before, same_name_elsewhere, scope_of, shorter_chain, unused_name)
 from .repairs_values import OF_FILES, joined_property
 from .syntax import shape_at, table
@@ -57,7 +57,7 @@ def near_name(case: Case) -> Iterable[Repair]:
     for name, is_slip in [(word, True)] if word else likely(wrong, known):
         yield case.replace(f'change to "{name}"', quote + name + quote, is_safe=is_slip)
     if case.code == "X13" and not likely(wrong, known):
-        declared = known if (names_before(case) or ("",))[0].lower() in DECLARED else []
+        declared = known if (case.names_before or ("",))[0].lower() in DECLARED else []
         yield from (case.replace(f'change to "{name}"', quote + name + quote) for name in short_forms(wrong, declared))
     meant = OTHER_FUNCTIONS.get(wrong.lower()) if case.code == "X9" else None
     if meant in known:
@@ -85,7 +85,7 @@ def of_github(case: Case) -> Iterable[Repair]:
 
 def other_property(case: Case) -> Iterable[Repair]:
     """The property that another word means: of `github`, or the state of a job or a step; or an output without `outputs`."""
-    before, wrong = names_before(case), case.arguments[0]
+    before, wrong = case.names_before, case.arguments[0]
     state = OTHER_STATES.get(before[0].lower(), {}).get(wrong.lower()) if before else None
     if state and len(before) == (1 if before[0].lower() == "job" else 2):
         yield case.replace(f'change to "{state}"', state)

@@ -7,11 +7,10 @@ from typing import Callable, Iterable
 
 from . import project as files
 from .action_versions import VERSIONS, versions
-from .expressions import Scope, chain_before
+from .expressions import Scope
 from .names import likely
 from .paths import is_workflow
 from .repair import Case, Edit, Found, Repair, first_entry, next_entry, tight, without_entry
-from .repairs_expressions import expression_of
 from .text import Point, Span
 from .tree import last_line
 
@@ -40,18 +39,10 @@ def scope_of(case: Case) -> Scope | None:
 def properties_before(case: Case) -> list[str]:
     """The properties of what is before the fault."""
     scope = scope_of(case)
-    chain = names_before(case)
+    chain = case.names_before
     known = [one.name for one in scope.properties(chain)] if scope and chain else []
     is_one = len(chain) == 2 and chain[0].lower() in PROPERTIES_OF_ALL
     return PROPERTIES_OF_ALL[chain[0].lower()] if is_one and (known or chain[1] == "*") else known
-
-
-def names_before(case: Case) -> tuple[str, ...]:
-    expression = expression_of(case)
-    if expression is None or expression.span.start.line != case.span.start.line:
-        return ()
-    before = chain_before(case.line[expression.span.start.column:case.span.start.column + (1 if case.written[:1] == "'" else 0)])
-    return before.chain if before else ()
 
 
 def shorter_chain(case: Case) -> Iterable[Repair]:
@@ -124,7 +115,7 @@ def only_job(case: Case) -> Iterable[Repair]:
 
 def same_name_elsewhere(case: Case) -> Iterable[Repair]:
     """The same name in another context that the file declares it for."""
-    before, name, scope = names_before(case), case.arguments[0], scope_of(case)
+    before, name, scope = case.names_before, case.arguments[0], scope_of(case)
     chain, span = case.chain
     if scope is None or len(before) != 1 or len(chain) < 2 or not case.line[span.start.column:].startswith(chain[0] + "."):
         return
@@ -137,7 +128,7 @@ def same_name_elsewhere(case: Case) -> Iterable[Repair]:
 
 def only_output(case: Case) -> Iterable[Repair]:
     """The only output of a step or a needed job, if no other has the one that is asked for."""
-    before, scope = names_before(case), scope_of(case)
+    before, scope = case.names_before, scope_of(case)
     is_output = len(before) == 3 and before[0].lower() in ("steps", "needs") and before[2].lower() == "outputs"
     outputs = properties_before(case) if is_output else []
     others = scope.properties(before[:1]) if scope and len(outputs) == 1 else []
@@ -149,7 +140,7 @@ def only_output(case: Case) -> Iterable[Repair]:
 
 def unused_name(case: Case) -> Iterable[Repair]:
     """The only one of several names that a file declares and nothing reads, if the wrong one stands in one place alone."""
-    before = names_before(case)
+    before = case.names_before
     known = properties_before(case) if before and before[0].lower() in ("inputs", "matrix") else []
     prefix = rf"(?<![\w.-])(?:github\.event\.)?{re.escape('.'.join(before))}"
     places = {name: len(re.findall(rf"{prefix}(?:\.{re.escape(name)}(?![\w-])|\['{re.escape(name)}'\])", case.text, re.I))

@@ -106,6 +106,11 @@ ADVICE = {
         "X1: Write a string in single quotes, a choice as `TEST && THIS || THAT`, and equality as `==`.",
     STEP + "run: echo ${{ needs.build.result }}\n": "X13: A job must list in its own `needs` each job whose results it reads.",
     STEP + "run: echo ${{ needs['build'].result }}\n": "X13: A job must list in its own `needs` each job whose results it reads.",
+    STEP + "run: |\n          echo ${{ needs\n            .build.result }}\n": "X13: A job must list in its own `needs` each job whose",
+    STEP + "run: echo ${{ steps . x . outputs }}\n": "X13: To read the outputs of a step, give the step an `id`, and read them after",
+    STEP + "run: echo ${{ steps[('x')].outputs.y }}\n": "X13: To read the outputs of a step, give the step an `id`, and read them after",
+    STEP + "run: echo ${{ github[format(inputs[ 'x' ])] }}\n": "X13: An input has to be declared by the event or the action.",
+    STEP + 'run: "echo ${{ matrix\\x2eos }}"\n': "X13: `matrix` has only the rows of the job's own matrix and what `include` adds",
     STEP + "run: echo ${{ github.build }}\n": "X13: Write a property that the context has here.",
     STEP + "uses: actions/checkout\n":
         "C7: An action or a workflow in another repository needs `@REF` at its end: a branch, a tag or a commit.",

@@ -5,7 +5,7 @@ use crate::commands::{Command, Question, Wrong};
 use al_check::Actions;
 use al_cli::number_of;
 use al_facts_tables::push_tables;
-use al_facts_trees::{Form, owners, push_node, push_places};
+use al_facts_trees::{Form, property_owners, push_node, push_places};
 use al_json::{FileFaults, Json, join_faults, push_faults};
 use al_session::{Edit, Refused, Session};
 use al_text::limits::{LARGEST_FILE, MOST_FILES};
@@ -138,7 +138,7 @@ struct Source<'a> {
 // Writes the key `faults` with these faults of a file, in the order of reports.
 fn push_listed(json: &mut Json, source: Source<'_>, faults: &[&Fault]) -> Result<(), AllocError> {
     let Source { path, bytes } = source;
-    let owners = &owners(json.alloc(), path, bytes, faults)?;
+    let owners = &property_owners(json.alloc(), path, bytes, faults)?;
     push_faults(
         json,
         FileFaults {

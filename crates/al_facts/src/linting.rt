@@ -2,42 +2,58 @@
 
 use al_check::Actions;
 use al_cli::{Disk, Ending, Gathered, Usage, Words, load, parse_words, say_skipped};
-use al_facts_trees::owners;
+use al_facts_trees::property_owners;
 use al_json::{Detail, FileFaults, join_faults, write_fault_lines, write_status};
 use al_session::Session;
 use al_text::{Fault, Stop};
-use std::alloc::Global;
-use std::convert::AsStr;
+use std::alloc::{AllocError, Global};
 use std::io::{ErrorKind, Write};
 use std::{io, mem};
+
+/// The name of the program in what is said about wrong arguments.
+const NAME: &str = "actionlint-facts lint";
 
 /// What is wrong with arguments that ask for a session.
 const NO_SESSION: &str = "actionlint-facts: lint takes no --session\n";
 
-const HELP: &str =
-    "Lints as actionlint does, and prints each fault as a line of JSON, and then the status.
+const HELP: &str = "Lints as actionlint does, and prints each fault as a line of JSON, and then the
+status.
 
 Usage: actionlint-facts lint [--oneline] [--root DIR] [FILE]...
 
-The arguments, the exit status and what standard error says are those of actionlint: see actionlint --help. With --oneline a line
-doesn't have the source line of its fault. docs/FACTS.md describes the lines.
+The arguments, the exit status and what standard error says are those of
+actionlint: see actionlint --help. With --oneline a line doesn't have the source
+line of its fault. docs/FACTS.md describes the lines.
 ";
 
-/// Lints as the linter does with these arguments, the first of which is `lint`, and writes a line
-/// for each fault and then one with the status. It ends as the linter does, and says the same to
-/// `errors`. The memory of the session is not given back, as the program ends.
-pub fn lint<S: AsStr, D: Disk, W: Write, E: Write>(
+/// Lints as the linter does with these arguments, and writes a line for each fault and then one
+/// with the status. It ends as the linter does, and says the same to `errors`. The memory of the
+/// session is not given back, as the program ends.
+pub fn lint<D: Disk, W: Write, E: Write>(
     alloc: Global,
-    arguments: &[S],
+    arguments: &[String],
     disk: &mut D,
     writer: &mut W,
     errors: &mut E,
 ) -> Ending {
-    match parse_words(alloc, arguments) {
+    let Ok(command_line) = with_name(alloc, arguments) else {
+        return Ending::Stopped(Stop::Memory);
+    };
+    match parse_words(alloc, command_line.as_slice()) {
         Ok(words) if words.session => Ending::NoRun(no_session(alloc)),
         Ok(words) => lint_folder(alloc, &words, disk, writer, errors),
         Err(usage) => end_usage(writer, usage),
     }
+}
+
+// The name of the program, and these arguments.
+fn with_name(alloc: Global, arguments: &[String]) -> Result<Vec<&str>, AllocError> {
+    let mut words = Vec::new(alloc);
+    words.push(NAME)?;
+    for argument in arguments {
+        words.push(argument.as_str())?;
+    }
+    Ok(words)
 }
 
 fn no_session(alloc: Global) -> Usage {
@@ -173,7 +189,7 @@ fn write_file<W: Write>(
     let File { path, bytes, own } = file;
     let joined = join_faults(alloc, own, cycles)?;
     let faults = joined.as_slice();
-    let owners = &owners(alloc, path, bytes, faults)?;
+    let owners = &property_owners(alloc, path, bytes, faults)?;
     let written = FileFaults {
         path,
         bytes,

@@ -102,14 +102,14 @@ fn read_input(rt: &HostRuntime, reader: Reader) -> io::Result<()> {
     println!(rt; "{line}")
 }
 
-// Lints the folder that the arguments after the program's name ask for.
+// Lints the folder that the arguments after `lint` ask for.
 fn lint_here(rt: &HostRuntime, arguments: &[String]) -> Ending {
     let Ok(mut writer) = BufWriter::new(rt.alloc(), WaitingOutput::new(rt.stdout(), rt)) else {
         return Ending::Stopped(Stop::Memory);
     };
     lint(
         rt.alloc(),
-        &arguments[arguments.len().min(1)..],
+        &arguments[arguments.len().min(2)..],
         &mut SystemDisk::new(rt),
         &mut writer,
         &mut rt.stderr(),
@@ -140,9 +140,11 @@ Usage: actionlint-facts
        actionlint-facts lint [ARGUMENTS]
        actionlint-facts expr|chunks|scalar|yaml
 
-Takes commands from standard input, and answers each by a line of JSON. The command help lists them, and docs/FACTS.md describes the
-answers. With lint it does what actionlint does with these arguments, and prints each fault as a line of JSON. With the name of a
-reader it prints what that makes of standard input, for tests.
+Takes commands from standard input, and answers each by a line of JSON. The
+command help lists them, and docs/FACTS.md describes the answers. With lint it
+does what actionlint does with these arguments, and prints each fault as a line
+of JSON. With the name of a reader it prints what that makes of standard input,
+for tests.
 
 Options:
       --help  Print help

@@ -11,6 +11,6 @@ mod trees;
 
 pub use expressions::push_places;
 pub use nodes::{Form, push_node};
-pub use owners::owners;
+pub use owners::property_owners;
 pub use scalars::push_scalar;
 pub use trees::push_expr;

@@ -149,7 +149,7 @@ fn set_in_place(alloc: Global, owners: &mut Owners, place: &Place<'_>) -> Result
 
 /// What the undefined properties among some faults of a file are read from. The file is read again
 /// if there are any.
-pub fn owners(
+pub fn property_owners(
     alloc: Global,
     path: &str,
     bytes: &[u8],
