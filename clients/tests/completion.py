@@ -1,199 +1,29 @@
 #!/usr/bin/env python3
-"""What completion offers: names by place, and the linter accepts each offer once it is inserted.
+"""What completion offers by place, and what an offer replaces and inserts.
 
     completion.py PROGRAM [NAME...]
 """
 from __future__ import annotations
 
-import itertools
 import os
 import random
-import re
 import sys
 from unittest import mock
 
 from cases import Cases
+from completion_folder import FOLDER, end_of, offered, offers_between, project_of, put
 from completion_places import JOB, NOT_YAML, NOWHERE, PLACES, TAKEN, TREE_PLACES, Places
 from promises import end, start
-from readers import Linter, reader
+from readers import reader
 from repositories import FILE, WORKFLOWS
 
 from actionlint_client import completion, place_in_tree
-from actionlint_client.completion import Offer, offers, used_in
-from actionlint_client.faults import Fault
+from actionlint_client.completion import used_in
 from actionlint_client.place import Outline, Role
-from actionlint_client.project import Project
 from actionlint_client.syntax import available, can_stand
-from actionlint_client.text import Point, Span
 from actionlint_client.tree import walk
 
 CASES = Cases("completion")
-CALLED, ACTION = WORKFLOWS + "called.yml", "greet/action.yml"
-SECONDS = 20.0
-PUTS = int(os.environ.get("PUTS", "800"))
-# A folder without faults that has most keys.
-FOLDER = {
-    FILE: """name: Build
-run-name: Build of ${{ github.actor }}
-on:
-  push:
-    branches: [main, 'release/**']
-    paths-ignore: ['docs/**']
-  issues:
-    types: [opened, closed]
-  schedule:
-    - cron: '0 5 * * *'
-  workflow_dispatch:
-    inputs:
-      level:
-        type: choice
-        required: true
-        options: [low, high]
-  workflow_run:
-    workflows: [Called]
-    types: completed
-permissions:
-  contents: read
-  issues: write
-env:
-  MODE: fast
-defaults:
-  run:
-    shell: bash
-concurrency:
-  group: build-${{ github.ref }}
-  cancel-in-progress: true
-jobs:
-  plan:
-    runs-on: ubuntu-latest
-    timeout-minutes: 5
-    outputs:
-      list: ${{ steps.list.outputs.names }}
-    steps:
-      - uses: actions/checkout@v4
-        with:
-          fetch-depth: 0
-      - id: list
-        name: List
-        run: |
-          echo "names=a" >> "$GITHUB_OUTPUT"
-          echo "${{ inputs.level }}"
-        shell: bash
-      - if: steps.list.outcome == 'success' && always()
-        uses: ./greet
-        id: greet
-        with:
-          who: ${{ github.actor }}
-          loud: true
-      - run: echo ${{ steps.greet.outputs.text }} ${{ steps.list.conclusion }}
-        continue-on-error: true
-  test:
-    needs: [plan]
-    if: ${{ github.event_name == 'push' && needs.plan.result == 'success' }}
-    strategy:
-      fail-fast: false
-      matrix:
-        os: [ubuntu-latest, windows-latest]
-        node: [18, 20]
-        exclude:
-          - os: windows-latest
-            node: 18
-    runs-on: ${{ matrix.os }}
-    env:
-      LIST: ${{ needs.plan.outputs.list }}
-      KEY: ${{ secrets.KEY }}
-    environment:
-      name: test
-      url: https://example.org
-    container:
-      image: node:${{ matrix.node }}
-      credentials:
-        username: me
-        password: ${{ secrets.PASSWORD }}
-    services:
-      base:
-        image: postgres
-        ports: ['5432:5432']
-    steps:
-      - {run: 'echo ${{ env.LIST }} ${{ matrix.node }}', shell: sh}
-      - run: echo ${{ contains(github.ref, 'x') }} ${{ runner.os }} ${{ hashFiles('a') }}
-  call:
-    needs: plan
-    permissions: read-all
-    uses: ./.github/workflows/called.yml
-    with:
-      name: x
-      fast: true
-    secrets:
-      token: ${{ secrets.GITHUB_TOKEN }}
-""",
-    CALLED: """name: Called
-on:
-  workflow_call:
-    inputs:
-      name: {type: string, required: true, description: Whom to greet.}
-      fast: {type: boolean}
-    secrets:
-      token: {required: true}
-    outputs:
-      done: {value: '${{ jobs.a.outputs.x }}'}
-jobs:
-  a:
-    runs-on: ubuntu-latest
-    outputs:
-      x: ${{ inputs.name }}
-    steps:
-      - run: make
-""",
-    ACTION: """name: Greet
-description: Says hello.
-inputs:
-  who:
-    description: Whom to greet.
-    required: true
-  loud:
-    default: 'false'
-outputs:
-  text:
-    value: ${{ steps.say.outputs.text }}
-runs:
-  using: composite
-  steps:
-    - id: say
-      run: echo "text=${{ inputs.who }}" >> "$GITHUB_OUTPUT"
-      shell: bash
-    - run: echo ${{ steps.say.outputs.text }}
-      shell: bash
-branding:
-  icon: bell
-""",
-}
-# Faults at the start of a mapping or at a call, about what is still to be written there.
-STILL_LACKING = (" is missing", " is required here")
-TOKEN = re.compile(r"[\w./-]+")
-
-
-def project_of(texts: dict[str, str]) -> Project:
-    files = {path: text.encode() for path, text in texts.items()}
-    return Project(reader(), files.get, lambda: list(files))
-
-
-def offered(text: str, file: str = FILE, folder: dict[str, str] = FOLDER, line_break: str = "\n") -> list[Offer]:
-    """The offers at the last `|` of a text, in which lines end with a line break."""
-    before, _, after = text.rpartition("|")
-    return offers_between(before, after, file, folder, line_break)[1]
-
-
-def offers_between(before: str, after: str, file: str = FILE, folder: dict[str, str] = FOLDER,
-                   line_break: str = "\n") -> tuple[Span, list[Offer]]:
-    """The offers between the two parts of a text, and the span that they replace."""
-    return offers(project_of({**folder, file: (before + after).replace("\n", line_break)}), file, end_of(before))
-
-
-def end_of(text: str) -> Point:
-    """The end of a text. A byte order mark belongs to no line."""
-    line = text.removeprefix("\ufeff").rpartition("\n")[2]
-    return Point(text.count("\n"), len(line))
 
 
 def check_places(places: Places, line_break: str = "\n") -> None:
@@ -294,35 +124,6 @@ def each_once(program: str) -> None:
 
 
 @CASES.case
-def entries_have_dashes(program: str) -> None:
-    """If the dash of an entry isn't there yet, it comes with the key, and the linter finds no fault there."""
-    whole = """on:
-  push:
-  schedule:
-    - cron: '0 0 * * *'
-jobs:
-  a:
-    runs-on: u
-    strategy:
-      matrix:
-        os: [a]
-        exclude:
-          - os: b
-    steps:
-      - run: x
-"""
-    linter = Linter(program, FOLDER)
-    for line, label in (("    - cron: '0 0 * * *'", "cron"), ("          - os: b", "os"), ("      - run: x", "run"),
-                        ("      - run: x", "uses")):
-        before, after = whole.replace(line, line[:line.index("-")] + "|").split("|")
-        span, found = offers_between(before, after)
-        offer = next(offer for offer in found if offer.label == label)
-        assert offer.text == f"- {label}: ", offer
-        value = {"cron": "'0 0 * * *'", "uses": "actions/checkout@v4"}.get(label, "a")
-        assert not faults_after(linter, FILE, put(before + after, span, offer.text + value)[0]), (line, label)
-
-
-@CASES.case
 def in_actions(program: str) -> None:
     """Keys by `using`, contexts without secrets, and the outputs of all steps for the action's own."""
     head = "name: x\ndescription: y\n"
@@ -417,87 +218,6 @@ def excluded_keys(program: str) -> None:
     assert not can_stand("event", "tags", {"tags-ignore"}) and not can_stand("step", "env", {"env"})
     assert can_stand("step", "env", {"run"}) and can_stand("step", "with", {"uses"}) and can_stand("job", "concurrency", {"uses"})
     assert can_stand("event", "tags", {"branches-ignore"}) and can_stand("no section", "run", {"uses"})
-
-
-def faults_after(linter: Linter, path: str, text: str) -> list[Fault]:
-    """The faults of a file once it has this text."""
-    linter.put(path, text)
-    return linter.faults_in(path)
-
-
-def put(text: str, span: Span, new: str) -> tuple[str, int, int]:
-    """A text with an offer inserted, and where that begins and ends."""
-    lines = text.split("\n")
-    start = sum(len(line) + 1 for line in lines[:span.start.line]) + span.start.column
-    end = sum(len(line) + 1 for line in lines[:span.end.line]) + span.end.column
-    return text[:start] + new + text[end:], start, start + len(new)
-
-
-def touches(text: str, fault: Fault, start: int, end: int) -> bool:
-    """Whether a fault is at the inserted text."""
-    lines = text.split("\n")
-    first = sum(len(line) + 1 for line in lines[:fault.line - 1]) + fault.column - 1
-    return first < end and start < first + max(fault.width or 1, 1)
-
-
-@CASES.case
-def each_is_taken(program: str) -> None:
-    """A part of a word in a clean file is typed. Each offer there is inserted, and the linter finds no fault at its place, except for what
-    has to follow."""
-    chance = random.Random(int(os.environ.get("SEED", "1")))
-    linter = Linter(program, FOLDER)
-    for path, text in FOLDER.items():
-        assert not faults_after(linter, path, text), faults_after(linter, path, text)
-    tokens = [(path, match.start(), match.end()) for path, text in FOLDER.items() for match in TOKEN.finditer(text)]
-    count = 0
-    while count < PUTS:
-        path, start, end = chance.choice(tokens)
-        whole = FOLDER[path]
-        typed = start + chance.randrange(end - start + 1)
-        count += check_some(linter, path, whole[:typed], whole[end:], chance, 6)
-        faults_after(linter, path, whole)
-
-
-@CASES.case
-def each_is_taken_on_a_new_line(program: str) -> None:
-    """A new line is begun at each indentation between all lines of clean files. What is offered there causes no fault either."""
-    chance = random.Random(int(os.environ.get("SEED", "1")))
-    linter = Linter(program, FOLDER)
-    count = 0
-    for path, whole in FOLDER.items():
-        lines = whole.split("\n")
-        for number, indent in itertools.product(range(len(lines)), range(0, 14, 2)):
-            before, after = "\n".join([*lines[:number], " " * indent]), "".join("\n" + line for line in lines[number:])
-            count += check_some(linter, path, before, after, chance, 3)
-            faults_after(linter, path, whole)
-    assert count > PUTS / 2, count
-
-
-def check_some(linter: Linter, path: str, before: str, after: str, chance: random.Random, most: int) -> int:
-    """Checks some of the offers between the two parts of a text; returns how many."""
-    span, found = offers_between(before, after, path)
-    chosen = chance.sample(found, min(len(found), most))
-    for offer in chosen:
-        check_put(linter, path, before + after, span, offer)
-    return len(chosen)
-
-
-def check_put(linter: Linter, path: str, text: str, span: Span, offer: Offer) -> None:
-    """Inserts an offer; after an object also one of its properties, until it has none."""
-    changed, start, end = put(text, span, offer.text)
-    while offer.kind in ("module", "property"):
-        before = changed[:end] + "."
-        further = offers_between(before, changed[end:], path)[1]
-        if not further:
-            break
-        offer = further[0]
-        changed = before + offer.text + changed[end:]
-        end += 1 + len(offer.text)
-    if offer.kind == "module":
-        changed, end = changed[:end] + ".x" + changed[end:], end + 2
-    wrong = [fault for fault in faults_after(linter, path, changed)
-             if touches(changed, fault, start, end) and not fault.message.endswith(STILL_LACKING)]
-    assert not wrong, f"{path}: {changed[start:end]!r} at {span.start} gives {wrong[0]}\n{changed}"
 
 
 if __name__ == "__main__":

@@ -15,7 +15,7 @@ from pathlib import Path
 from typing import Any
 
 from cases import Cases
-from completion import project_of
+from completion_folder import project_of
 from editor import Editor, linters
 from promises import end, start
 from readers import reader

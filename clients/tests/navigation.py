@@ -11,8 +11,9 @@ import sys
 from typing import Any
 
 from cases import Cases
-from completion import ACTION, CALLED, FOLDER, Linter, faults_after, project_of
+from completion_folder import ACTION, CALLED, FOLDER, faults_after, project_of
 from promises import end, start
+from readers import Linter
 from repositories import FILE
 
 from actionlint_client.completion import offers

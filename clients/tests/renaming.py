@@ -9,7 +9,7 @@ import os
 import sys
 
 from cases import Cases
-from completion import ACTION, CALLED, FOLDER, project_of
+from completion_folder import ACTION, CALLED, FOLDER, project_of
 from editor import Editor
 from navigation import SECONDS, point_in
 from promises import end, start

@@ -171,7 +171,7 @@ WRONG_VERSIONS = {name: WrongVersion(*row) for name, *row in (
     ("a_part_of_dots_is_a_name", "paths.py", "tables.py paths", "|(?:^|/)\\.{0,2}(?:/|\\Z)", "|(?:^|/)(?:/|\\Z)"),
     ("a_workflow_has_no_name", "paths.py", "tables.py paths", " and name not in WORKFLOW_ENDINGS", ""),
     ("paths_are_as_long_as_their_characters", "paths.py", "tables.py paths", 'len(path.encode("utf-8", "surrogatepass"))', "len(path)"),
-    ("an_entry_has_no_dash", "completion.py", "completion.py entries_have_dashes", 'text = "- " + _key_text', 'text = _key_text'),
+    ("an_entry_has_no_dash", "completion.py", "accepted_offers.py entries_have_dashes", 'text = "- " + _key_text', 'text = _key_text'),
     ("needs_may_make_a_cycle", "completion.py", "completion.py by_place", "files.dependents(tree, job) |", "{job} |"),
     ("all_contexts_are_everywhere", "syntax.py", "completion.py by_place",
      'return (found["contexts"], everywhere + found["functions"])', 'return (names()["contexts"], everywhere + found["functions"])'),
