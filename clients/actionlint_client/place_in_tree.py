@@ -26,7 +26,7 @@ QUOTES = {"single": "'", "double": '"'}
 BLOCK_STYLES = ("literal", "folded")
 
 
-class Marked(NamedTuple):
+class MarkedText(NamedTuple):
     """A text with a word at the cursor, which begins at a byte; perhaps with a blank before it, a colon behind the word that the cursor is
     in, at another byte, or a dash before that one."""
 
@@ -80,15 +80,15 @@ class Spot(NamedTuple):
 
 def place_at(project: Project, file: str, point: Point) -> Place | None:
     """The place of a point of a file, or None where nothing can begin, such as in a comment."""
-    cursor = _Cursor(project, file, point)
+    here = _PointInText(project, file, point)
     is_yaml = False
-    for marked in cursor.marked():
+    for marked in here.marked_texts():
         root = project.answered_tree(file, marked.data)
         if root is None:
             continue
         spot, is_yaml = _spot(root, marked.at), True
-        if spot and cursor.fits(spot, marked):
-            return cursor.place(spot, marked)
+        if spot and here.fits(spot, marked):
+            return here.place(spot, marked)
         if spot is None or marked.has_blank and spot.scalar["start"] == marked.at:
             return None
     return None if is_yaml or project.tree(file) else place_in_lines(project, file, point)
@@ -101,7 +101,7 @@ def place_in_lines(project: Project, file: str, point: Point) -> Place | None:
     return None if point < place.span.start or outline.is_in_comment(point) else place
 
 
-class _Cursor:
+class _PointInText:
     """A point of a text."""
 
     def __init__(self, project: Project, file: str, point: Point):
@@ -115,7 +115,7 @@ class _Cursor:
         before, after = self._line[:point.column], self._line[point.column:]
         self._is_after_sign = after[:1] in AFTER_SIGN and (before.endswith(":") or BARE_DASH.fullmatch(before) is not None)
 
-    def marked(self) -> Iterator[Marked]:
+    def marked_texts(self) -> Iterator[MarkedText]:
         """The text with a word as a key, as it stands, and as an item of a list, as far as these are possible on the line."""
         head, tail, before = self._data[:self._at], self._data[self._at:], self._line[:self._point.column]
         spaced = head + b" " if self._is_after_sign else head
@@ -123,15 +123,15 @@ class _Cursor:
         if is_first:
             end = self._offset(self._end_of_word) - self._at
             key = spaced + WORD + tail[:end]
-            yield Marked(key + b":" + tail[end:], len(spaced), self._is_after_sign, colon=len(key))
+            yield MarkedText(key + b":" + tail[end:], len(spaced), self._is_after_sign, colon=len(key))
         elif self._is_after_sign:
-            yield Marked(spaced + WORD + tail, len(spaced), has_blank=True)
-        yield Marked(head + WORD + tail, len(head))
+            yield MarkedText(spaced + WORD + tail, len(spaced), has_blank=True)
+        yield MarkedText(head + WORD + tail, len(head))
         if is_first and not before.lstrip(" ").startswith("-"):
             start = self._offset(len(before) - len(before.lstrip(" ")))
-            yield Marked(head[:start] + DASH + head[start:] + WORD + tail, len(DASH + head), has_dash=True)
+            yield MarkedText(head[:start] + DASH + head[start:] + WORD + tail, len(DASH + head), has_dash=True)
 
-    def fits(self, spot: Spot, marked: Marked) -> bool:
+    def fits(self, spot: Spot, marked: MarkedText) -> bool:
         """Whether the scalar with the word has nothing besides what is typed at the cursor and the scalar that may be there."""
         start, end = spot.scalar["start"], spot.scalar["end"]
         begins = start == marked.at
@@ -146,7 +146,7 @@ class _Cursor:
             return False
         return marked.colon is None or not spot.is_key or end == marked.colon and not spot.is_above_items(BytePlaces(marked.data))
 
-    def place(self, spot: Spot, marked: Marked) -> Place:
+    def place(self, spot: Spot, marked: MarkedText) -> Place:
         """The place of the word of a marked text."""
         scalar, siblings = spot.scalar, spot.siblings
         start = self._places.point(min(scalar["start"] - len(DASH) * marked.has_dash, self._at))
@@ -164,7 +164,7 @@ class _Cursor:
             taken=is_value and any(line.strip() for line in above), entries=spot.other_items, quote=QUOTES.get(scalar["style"], ""),
             needs_dash=marked.has_dash, has_value=spot.is_key and not has_colon and spot.value["start"] < spot.value["end"])
 
-    def _span(self, spot: Spot, start: Point, marked: Marked, has_colon: bool) -> Span:
+    def _span(self, spot: Spot, start: Point, marked: MarkedText, has_colon: bool) -> Span:
         """What is replaced on the cursor's line: what is between quotes, a key with a colon, or a word. `start` is that of the scalar. A
         key in quotes without a colon is replaced with them, since the colon comes behind them."""
         quote = len(QUOTES.get(spot.scalar["style"], ""))
@@ -178,11 +178,13 @@ class _Cursor:
         return Span.on_line(self._point.line, min(first, self._point.column), max(end, self._point.column))
 
     def _is_in_first_word(self, before: str) -> bool:
-        """Whether the cursor is in the first word of a line, or where that would be, without the colon of a key behind it."""
+        """Whether the cursor is in the first word of a line, or where that would be, without the colon of a key behind it. A dash that no
+        word follows is a sign, not a word."""
         found = TO_FIRST_WORD.fullmatch(before)
         if found is None or KEY_COLON.match(self._line, self._end_of_word):
             return False
-        return bool(found["word"]) or self._end_of_word > len(before) or NOTHING_MORE.fullmatch(self._line, len(before)) is not None
+        is_in_word = bool(found["word"]) and not self._is_after_sign
+        return is_in_word or self._end_of_word > len(before) or NOTHING_MORE.fullmatch(self._line, len(before)) is not None
 
     def _offset(self, column: int) -> int:
         """The byte at a column of the line."""

@@ -523,6 +523,8 @@ WRONG_VERSIONS = {name: WrongVersion(*row) for name, *row in (
     ("items_belong_to_the_key_above", "place_in_tree.py", "completion.py by_place",
      " and not spot.is_above_items(BytePlaces(marked.data))", ""),
     ("a_colon_is_in_the_key", "place_in_tree.py", "completion.py what_is_replaced", "end == marked.colon and not", "not"),
+    ("a_bare_dash_is_a_word", "place_in_tree.py", "completion.py nowhere",
+     'bool(found["word"]) and not self._is_after_sign', 'bool(found["word"])'),
     ("an_entry_needs_its_dash", "place_in_tree.py", "completion.py by_place",
      'if is_first and not before.lstrip(" ").startswith("-"):', "if False:"),
     ("a_value_has_no_dash", "completion.py", "completion.py what_is_replaced",
