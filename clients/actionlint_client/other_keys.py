@@ -16,7 +16,7 @@ WORDS = {
     "timeout-minutes": "timeout max-minutes time-limit max-time max-duration",
     "runs-on": "os runner pool executor agent platform machine vm-image host",
     "needs": "depends-on requires dependencies after wait-for", "strategy": "matrix", "container": "image docker docker-image",
-    "outputs": "exports", "secrets": "secret", "environment": "environments deployment", "jobs": "job stages", "on": "triggers trigger",
+    "outputs": "exports", "secrets": "secret", "environment": "environments deployment", "jobs": "job stages", "on": "triggers trigger true",
     "steps": "tasks", "permissions": "scopes", "concurrency": "mutex lock resource-group concurrency-group",
     "inputs": "parameters params arguments args variables",
     "branches": "branch", "branches-ignore": "ignore-branches exclude-branches", "tags": "tag", "paths": "path files file directories",

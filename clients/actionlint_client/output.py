@@ -55,8 +55,8 @@ def report_output(file: str | None) -> Iterator[BinaryIO]:
 def replaced_file(folder: int, name: str, like: os.stat_result | None = None) -> Iterator[BinaryIO]:
     """A new file that gets the name if the block ends without an exception. It has the mode of another file, and its owner if possible."""
     beside = f".actionlint-report.{secrets.token_hex(8)}"
-    handle = os.open(beside, NEW_FILE, 0o666, dir_fd=folder)
     try:
+        handle = os.open(beside, NEW_FILE, 0o666, dir_fd=folder)
         with open(handle, "w+b") as opened:
             if like is not None:
                 with suppress(PermissionError):
@@ -65,7 +65,9 @@ def replaced_file(folder: int, name: str, like: os.stat_result | None = None) ->
             yield opened
         os.rename(beside, name, src_dir_fd=folder, dst_dir_fd=folder)
     except BaseException:
-        os.unlink(beside, dir_fd=folder)
+        # (it isn't there if it could not be made, or has the name when a signal ends the program)
+        with suppress(FileNotFoundError):
+            os.unlink(beside, dir_fd=folder)
         raise
 
 

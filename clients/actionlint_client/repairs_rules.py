@@ -43,6 +43,8 @@ WORDS_OF_SCALARS = {"read": "read-all", "write": "write-all", "readonly": "read-
 # A secret that is written as a variable of a shell, or in other braces.
 VARIABLE_OR_SECRET = re.compile(r"\$?(?:\(|\{{1,2})?\s*(?:(?:env:|secrets\.)?([A-Z]\w+)|secrets\.(\w+))\s*(?:\)|\}{1,2})?")
 NO_ACCESS = ("none", "no", "null", "false", "{}", "[]", "deny", "empty")
+# What signs of regular expressions are in patterns.
+EXPRESSION_SIGNS = ((".*", "**"), (".+", "**"), (r"\.", "."), (r"\d", "[0-9]"), (r"\w", "[A-Za-z0-9_]"), (r"\/", "/"))
 RANGE_WITHOUT_END = re.compile(r"\[((?:\w-\w)+)(?=[^]\w-]|$)")
 
 
@@ -138,8 +140,20 @@ def command_line(case: Case) -> Iterable[Repair]:
         yield in_its_quotes(case, name)
 
 
+def without_expression(text: str) -> str:
+    """A pattern for what is written as a regular expression: without its signs at the ends, and with those of patterns inside. Empty if
+    patterns can't say it."""
+    plain = re.sub(r"^\^|\$$", "", text)
+    if plain == text:
+        return text
+    for sign, of_patterns in EXPRESSION_SIGNS:
+        plain = plain.replace(sign, of_patterns)
+    is_beginning = plain.endswith("/") and not text.endswith("$")
+    return "" if re.search(r"[(|)]|\\\w", plain) else plain + "**" if is_beginning else plain
+
+
 def pattern(case: Case) -> Iterable[Repair]:
-    """A pattern without `./` or signs of regular expressions at its ends, with brackets that are closed, and without spaces."""
+    """A pattern without `./` or signs of regular expressions, with brackets that are closed, and without spaces."""
     here = case.value
     if here is None:
         return
@@ -153,7 +167,9 @@ def pattern(case: Case) -> Iterable[Repair]:
         yield case.replace("make it a list", "[" + ", ".join(quoted(word) for word in words) + "]", here.value.span)
         return
     without_dot = re.sub(r"^(!?)(?:\./)+", r"\1", text)
-    plain = re.sub(r"^\^|\$$", "", text)
+    plain = without_expression(text)
+    if not plain:
+        return
     closed = RANGE_WITHOUT_END.sub(r"[\1]", plain)
     closer = "]" if closed.count("[") > closed.count("]") and closed[-1] not in "[-" else ""
     tries = [without_dot, re.sub(r"^(!?)/", r"\1", text), plain, closed, closed + closer,

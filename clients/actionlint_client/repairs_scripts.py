@@ -130,6 +130,8 @@ def _in_bash(place: Place, name: str, after: str) -> str | None:
     if found.in_document:
         return bare if found.is_read and not found.is_quoted else None
     if found.quote == "'":
+        if place.before.endswith("'") and after.startswith("'"):
+            return f"'\"${name}\"'"
         command = re.split(r"[;&|]|\$\(", place.before[place.before.rfind("\n") + 1:])[-1].split()
         return f"'\"${name}\"'" if command[:1] in (["echo"], ["printf"]) else None
     return bare if found.quote == '"' else f'"${name}"'

@@ -10,6 +10,7 @@ import ctypes
 import os
 import random
 import shutil
+import signal
 import stat
 import subprocess
 import sys
@@ -55,6 +56,27 @@ TEXTS = {
     WORKFLOWS + "far.yml": (WRONG + "#\n" * 30 + "env: {A: '${{ github.shaa }}'}\n",
                             RIGHT + "#\n" * 30 + "env: {A: '${{ github.sha }}'}\n"),
 }
+
+# What Python runs first: the program is ended before these calls for a new file, or after those with a plus.
+ENDING = """import os, signal
+
+def ending(name, is_after):
+    real = getattr(os, name)
+
+    def call(path, *words, **how):
+        if ".actionlint-report." not in os.fsdecode(path):
+            return real(path, *words, **how)
+        if not is_after:
+            os.kill(os.getpid(), signal.SIGTERM)
+        done = real(path, *words, **how)
+        if is_after:
+            os.kill(os.getpid(), signal.SIGTERM)
+        return done
+    setattr(os, name, call)
+
+for word in os.environ["ENDING"].split():
+    ending(word.removesuffix("+"), word.endswith("+"))
+"""
 
 
 def report(program: str, folder: str, *words: str, **how: Any) -> tuple[int, bytes, list[str]]:
@@ -232,6 +254,18 @@ def a_folder_that_is_read_only(program: str) -> None:
         os.chmod(workflows, 0o755)
         assert status == 3 and said == [f"{FILE}: not fixed, since Permission denied"], (status, said)
         assert contents(folder) == {FILE: WRONG.encode()}
+
+
+@CASES.case
+def signals_while_a_file_is_replaced(program: str) -> None:
+    """Once the new file is there, once it has its name, and once more while it is cleared away: the signal ends the program, the file has
+    its old or its new text, and there is no other one."""
+    for calls, text in (("open+", WRONG), ("rename+", RIGHT), ("rename unlink", WRONG)):
+        with folder_with({"sitecustomize.py": ENDING}) as first, folder_with({FILE: WRONG}) as folder:
+            environment = {**os.environ, "PYTHONPATH": first, "ENDING": calls}
+            status, _, said = report(program, folder, "--fix", "--form", "jsonl", env=environment,
+                                     preexec_fn=lambda: signal.signal(signal.SIGTERM, signal.SIG_DFL))
+            assert (status, said, contents(folder)) == (-signal.SIGTERM, [], {FILE: text.encode()}), (calls, status, said, contents(folder))
 
 
 @CASES.case

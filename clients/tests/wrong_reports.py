@@ -159,4 +159,11 @@ WRONG_REPORTS = (
      "dict.fromkeys(path.removeprefix", "list(path.removeprefix"),
     ("scripts_without_end_have_no_end", "shellcheck.py", "shellcheck_notes.py many_scripts_without_end",
      "if unchecked == MAX_UNCHECKED:", "if False:"),
+    ("a_file_is_made_before_it_is_cleared_away", "output.py", "applied_fixes.py signals_while_a_file_is_replaced",
+     "    try:\n        handle = os.open(beside, NEW_FILE, 0o666, dir_fd=folder)\n",
+     "    handle = os.open(beside, NEW_FILE, 0o666, dir_fd=folder)\n    try:\n"),
+    ("a_file_with_its_name_cannot_be_cleared_away", "output.py", "applied_fixes.py signals_while_a_file_is_replaced",
+     "with suppress(FileNotFoundError):", "if True:"),
+    ("a_second_signal_ends_the_clearing", "../actionlint-report", "applied_fixes.py signals_while_a_file_is_replaced",
+     "if error is None:", "if True:"),
 )
