@@ -36,7 +36,8 @@ OTHER_PROPERTIES = {"branch": "ref_name", "branch_name": "ref_name", "tag": "ref
 OF_EVENTS = {"pull_request", "issue", "release", "inputs", "comment", "review", "discussion", "head_commit", "commits", "sender", "label",
              "workflow_run", "deployment", "client_payload", "before", "after", "forced", "number", "check_run", "check_suite"}
 OTHER_FUNCTIONS = {"failed": "failure", "succeeded": "success", "canceled": "cancelled", "toboolean": "fromJSON", "tonumber": "fromJSON",
-                   "parsejson": "fromJSON", "tostring": "toJSON", "includes": "contains", "glob": "hashFiles", "hash": "hashFiles"}
+                   "parsejson": "fromJSON", "tostring": "toJSON", "includes": "contains", "glob": "hashFiles", "hash": "hashFiles",
+                   "beginswith": "startsWith", "hasprefix": "startsWith", "hassuffix": "endsWith"}
 VARIABLE_OF_RUNNER = re.compile(r"(?:GITHUB|RUNNER)_[A-Z]")
 WORDS = ("true", "false", "null")
 OTHER_NULLS = ("none", "nil", "undefined")
@@ -54,14 +55,15 @@ def near_name(case: Case) -> Iterable[Repair]:
     quote = case.written[:1] if case.written[:1] == "'" else ""
     known = properties_before(case) if case.code == "X13" else _scope_names(case)
     word = misspelled(wrong, WORDS) if case.code == "X7" else None
-    for name, is_slip in [(word, True)] if word else likely(wrong, known):
+    found = [(word, True)] if word else likely(wrong, known)
+    meant = OTHER_FUNCTIONS.get(wrong.lower()) if case.code == "X9" else None
+    if meant in known and not any(is_slip for _, is_slip in found):
+        found = [(str(meant), False)]
+    for name, is_slip in found:
         yield case.replace(f'change to "{name}"', quote + name + quote, is_safe=is_slip)
     if case.code == "X13" and not likely(wrong, known):
         declared = known if (case.names_before or ("",))[0].lower() in DECLARED else []
         yield from (case.replace(f'change to "{name}"', quote + name + quote) for name in short_forms(wrong, declared))
-    meant = OTHER_FUNCTIONS.get(wrong.lower()) if case.code == "X9" else None
-    if meant in known:
-        yield case.replace(f'change to "{meant}"', str(meant))
 
 
 def _scope_names(case: Case) -> list[str]:

@@ -379,11 +379,11 @@ def near_row(case: Case) -> Iterable[Repair]:
 
 
 def right_variable(case: Case) -> Iterable[Repair]:
-    """A name of letters, digits and `_`, in the expressions of the file too."""
+    """A name of letters, digits and `_`, in the expressions of the file too, without the command that sets it in a shell."""
     here = case.key
     if here is None or here.key is None or case.tree is None:
         return
-    name = re.sub(r"\W+", "_", here.key.value.strip(), flags=re.A).strip("_") or "NAME"
+    name = re.sub(r"\W+", "_", re.sub(r"^(?:export|set|setx) ", "", here.key.value.strip()), flags=re.A).strip("_") or "NAME"
     if here.parent.get(name) is None:
         uses = (chain for chain in case.chains_between(case.tree.start, case.tree.end) if chain.names == ("env", here.key.value))
         yield case.of(f'change to "{name}"', Edit(here.key.span, name), *(Edit(chain.span, f"env.{name}") for chain in uses))

@@ -15,6 +15,7 @@ TO_SUNDAY = re.compile(r"^(\w+)-(7|SUN)$")
 HOUR_OF_HALF = re.compile(r"\b(\d{1,2})([ap]m)\b", re.I)
 OF_ONE_VALUE = re.compile(r"(?<!\w)(\w+)-\1(?!\w)")
 GREATEST = (59, 23, 31, 12, 6)
+OVER_THE_END = re.compile(r"^(\d{1,2})-(\d{1,2})$")
 MAX_SCHEDULE_CHARACTERS = 200
 
 
@@ -39,7 +40,7 @@ def schedule(case: Case) -> Iterable[Repair]:
     fields = [WORD_OF_CRON.sub(lambda match: match[0][:3].upper(), field) for field in fields]
     fields[4] = WORD_OF_CRON.sub(lambda match: DAYS.get(match[0][:2], match[0]), fields[4])
     fields[4] = TO_SUNDAY.sub(_to_sunday, fields[4])
-    changed = " ".join(_bounded(field, most) for field, most in zip(fields, GREATEST))
+    changed = " ".join(_over_the_end(_bounded(field, most), place) for place, (field, most) in enumerate(zip(fields, GREATEST)))
     if any(OF_ONE_VALUE.search(field) for field in changed.split()):
         return
     is_same = text in PRESETS or WORD_OF_CRON.sub(lambda match: match[0][:3].upper(), written) == changed
@@ -52,6 +53,16 @@ def _to_sunday(match: re.Match[str]) -> str:
     if first in ("0", "1", "SUN", "MON"):
         return "*"
     return f"{first},{sunday}" if first == saturday else f"{first}-{saturday},{sunday}"
+
+
+def _over_the_end(field: str, place: int) -> str:
+    """A range that goes on at the least value after the greatest one, as two."""
+    match = OVER_THE_END.match(field)
+    if match is None or int(match[1]) <= int(match[2]) or int(match[1]) > GREATEST[place]:
+        return field
+    least = 1 if place in (2, 3) else 0
+    ranges = ((int(match[1]), GREATEST[place]), (least, int(match[2])))
+    return ",".join(f"{first}-{last}" if first != last else str(first) for first, last in ranges)
 
 
 def _of_day(match: re.Match[str]) -> str:
