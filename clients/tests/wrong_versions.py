@@ -20,6 +20,7 @@ from cases import exit_status, report
 from wrong_fixes import WRONG_FIXES
 from wrong_notes import WRONG_NOTES
 from wrong_offers import WRONG_OFFERS
+from wrong_repairs import WRONG_REPAIRS
 from wrong_reports import WRONG_REPORTS
 from wrong_server import WRONG_SERVER
 
@@ -40,6 +41,7 @@ class WrongVersion(NamedTuple):
 
 WRONG_VERSIONS = {name: WrongVersion(*row) for name, *row in (
     *WRONG_FIXES,
+    *WRONG_REPAIRS,
     *WRONG_NOTES,
     *WRONG_REPORTS,
     *WRONG_OFFERS,
