@@ -50,7 +50,8 @@ class Offer:
 
 @dataclass(frozen=True)
 class Cursor:
-    """A place in a file, the tree around it, and the keys on the way to it. A strict one accepts what GitHub does."""
+    """A place in a file, the tree around it, and the keys on the way to it. A strict one, for completion, leaves out what the linter
+    accepts but GitHub refuses, such as `vars` in an action; another one, for hovering, knows all that the linter accepts."""
 
     project: Project
     file: str

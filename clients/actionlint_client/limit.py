@@ -21,7 +21,8 @@ class TooSlow(BaseException):
 
 
 class TimeLimit:
-    """Counts the processor time of the main thread, where signals are handled: it alone can be limited, by one call at a time."""
+    """Ends a call that takes too long. What counts are seconds of processor time of the main thread: neither waiting nor other threads.
+    Only the main thread can make such a call, one at a time, since Python handles signals there."""
 
     def __init__(self) -> None:
         self._is_running = False
@@ -30,7 +31,8 @@ class TimeLimit:
         self._shields = 0
 
     def call(self, seconds: float, function: Callable[[], Answer]) -> Answer:
-        """What the function returns. Raises `TooSlow` if it takes more processor time."""
+        """What the function returns. Once it has taken these seconds, `TooSlow` is raised in it at the next look, and again after each
+        further second if something caught that; within `uninterrupted` it waits until that ends."""
         try:
             return self._call(seconds, function)
         finally:
