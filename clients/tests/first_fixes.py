@@ -189,7 +189,7 @@ def how_long(program: str) -> None:
     """Without time that is left, faults are reported without fixes."""
     with tempfile.TemporaryDirectory(prefix="actionlint-test-") as folder:
         write(folder, {FILE: FILES[FILE], f"{WORKFLOWS}other.yml": FILES[FILE]})
-        problems = [problem_of(Fault(path, 6, 30, 'property "reff" is not defined', "expression", 4, "X13", ("reff",)))
+        problems = [problem_of(Fault(path, 6, 30, 'property "reff" is not defined', "expression", 4, "X13", ("reff",), ("github",)))
                     for path in (FILE, f"{WORKFLOWS}other.yml")]
         for seconds, expected in ((60.0, 2), (1e-9, 1), (0.0, 0)):
             with mock.patch.object(advice, "SECONDS_OF_A_REPORT", seconds):
