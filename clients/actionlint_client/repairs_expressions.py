@@ -2,6 +2,7 @@
 from __future__ import annotations
 
 import re
+from collections import Counter
 from typing import Callable, Iterable, NamedTuple
 
 from . import expression_texts as texts, other_syntax as others
@@ -27,6 +28,8 @@ NO_SIGNS = (";", "$", "\\")
 TWO_ARGUMENTS = re.compile(r"\b(?:contains|startsWith|endsWith)\([^()',]{1,200},\s*'[^']*'\s*$", re.I)
 WORD = re.compile(r"[^\s'\"()=!,]*")
 TEST = re.compile(r"[=!<>]=|[<>]|\w\(")
+STRINGS = re.compile(r"'(?:[^']|'')*'")
+SIGNS = re.compile(r"!?=+|&+|\|+|!")
 
 
 class Expression(NamedTuple):
@@ -69,6 +72,18 @@ def rewritten(title: str, change: Callable[[str], str | None], is_safe: bool = F
         text = change(decoded(expression)) if expression else None
         if expression and text is not None and text != decoded(expression):
             yield with_expression(case, title, expression, text, is_safe, deletes)
+    return repairs
+
+
+def repair_of_operators(change: Callable[[str], str]) -> Callable[[Case], Iterable[Repair]]:
+    """A repair that writes the operators of an expression, and names those that it writes."""
+    def repairs(case: Case) -> Iterable[Repair]:
+        expression = expression_of(case)
+        text = decoded(expression) if expression else ""
+        before, after = (Counter(SIGNS.findall(STRINGS.sub("", it))) for it in (text, change(text)))
+        *others_written, last = [f'"{sign}"' for sign in after - before] or ["the operators"]
+        title = f"write {', '.join(others_written)} and {last}" if others_written else f"write {last}"
+        yield from rewritten(title, change, True)(case)
     return repairs
 
 
@@ -376,11 +391,11 @@ def one_pair(case: Case) -> Iterable[Repair]:
 
 
 SINGLE_QUOTES = rewritten("write single quotes", texts.with_single_quotes, True)
-DOUBLED = rewritten('write "==", "&&", "||"', texts.doubled, True)
+DOUBLED = repair_of_operators(texts.doubled)
 DOUBLED_WITH_QUOTES = rewritten('write "==" and quotes', texts.doubled_with_quotes)
 SPREAD = rewritten("compare it with each", texts.spread)
-EQUALS = rewritten('write "==" and "!="', texts.with_equals, True)
-OPERATORS = rewritten('write "&&", "||", "!"', texts.with_operators, True)
+EQUALS = repair_of_operators(texts.with_equals)
+OPERATORS = repair_of_operators(texts.with_operators)
 
 DOTS = rewritten('write "." after the context', texts.outside(others.with_dots))
 EQUAL_QUOTES = rewritten("write single quotes", others.with_equal_quotes)

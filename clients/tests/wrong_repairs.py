@@ -403,4 +403,5 @@ WRONG_REPAIRS = (
      " only_entry_without_dash, entry_without_dash, first_entry_without_dash, keys_with_dashes),",
      " entry_without_dash, first_entry_without_dash, keys_with_dashes),"),
     ("actions_have_known_outputs", "repairs_names.py", ODD, "        if name or is_open:", "        if name:"),
+    ("titles_name_operators_that_were_there", "repairs_expressions.py", EXPRESSIONS, "for sign in after - before]", "for sign in after]"),
 )

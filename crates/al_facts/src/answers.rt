@@ -150,6 +150,26 @@ fn push_listed(json: &mut Json, source: Source<'_>, faults: &[&Fault]) -> Result
     )
 }
 
+// Writes the key `faults` with the faults of a file and those of its calls on a call cycle: all, or
+// the first ones, and then the number of the others.
+fn push_found(
+    json: &mut Json,
+    source: Source<'_>,
+    own: &[Fault],
+    cycles: &[Fault],
+    most: Option<usize>,
+) -> Result<(), AllocError> {
+    let mut joined = join_faults(json.alloc(), own, cycles)?;
+    let Some(most) = most else {
+        return push_listed(json, source, joined.as_slice());
+    };
+    let others = joined.len().saturating_sub(most);
+    joined.truncate(most);
+    push_listed(json, source, joined.as_slice())?;
+    json.key("more")?;
+    json.number(others as u64)
+}
+
 /// The faults of a file, those of call cycles included: all of them, or the first ones and the
 /// number of the others.
 fn file_faults(
@@ -158,21 +178,14 @@ fn file_faults(
     path: &str,
     most: Option<usize>,
 ) -> Result<Json, AllocError> {
-    let cycles = session.call_cycle_faults()?;
-    let more = cycles_at(cycles.as_slice(), number_at(session, path));
+    let all_cycles = session.call_cycle_faults()?;
+    let cycles = cycles_at(all_cycles.as_slice(), number_at(session, path));
     let (Some(bytes), Some(own)) = (session.bytes(path), session.faults(path)) else {
         return error(alloc, "no file has this path");
     };
-    let joined = join_faults(alloc, own, more)?;
-    let count = most.unwrap_or(joined.len()).min(joined.len());
-    let (first, others) = joined.as_slice().split_at(count);
     let mut json = Json::new(alloc);
     json.open('{')?;
-    push_listed(&mut json, Source { path, bytes }, first)?;
-    if most.is_some() {
-        json.key("more")?;
-        json.number(others.len() as u64)?;
-    }
+    push_found(&mut json, Source { path, bytes }, own, cycles, most)?;
     json.close('}')?;
     Ok(json)
 }
@@ -189,10 +202,9 @@ fn push_file(
         return Ok(());
     }
     let bytes = session.bytes(path).unwrap_or(&[]);
-    let joined = join_faults(json.alloc(), own, cycles)?;
     json.open('{')?;
     json.text_at("path", path)?;
-    push_listed(json, Source { path, bytes }, joined.as_slice())?;
+    push_found(json, Source { path, bytes }, own, cycles, None)?;
     json.close('}')
 }
 
