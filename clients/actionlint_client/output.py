@@ -65,7 +65,7 @@ def replaced_file(folder: int, name: str, like: os.stat_result | None = None) ->
             yield opened
         os.rename(beside, name, src_dir_fd=folder, dst_dir_fd=folder)
     except BaseException:
-        # (it isn't there if it could not be made, or has the name when a signal ends the program)
+        # (it isn't there if it could not be made, or if it was renamed before a signal ended the program)
         with suppress(FileNotFoundError):
             os.unlink(beside, dir_fd=folder)
         raise

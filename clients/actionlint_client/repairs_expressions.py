@@ -28,7 +28,6 @@ NO_SIGNS = (";", "$", "\\")
 TWO_ARGUMENTS = re.compile(r"\b(?:contains|startsWith|endsWith)\([^()',]{1,200},\s*'[^']*'\s*$", re.I)
 WORD = re.compile(r"[^\s'\"()=!,]*")
 TEST = re.compile(r"[=!<>]=|[<>]|\w\(")
-STRINGS = re.compile(r"'(?:[^']|'')*'")
 SIGNS = re.compile(r"!?=+|&+|\|+|!")
 
 
@@ -80,7 +79,7 @@ def repair_of_operators(change: Callable[[str], str]) -> Callable[[Case], Iterab
     def repairs(case: Case) -> Iterable[Repair]:
         expression = expression_of(case)
         text = decoded(expression) if expression else ""
-        before, after = (Counter(SIGNS.findall(STRINGS.sub("", it))) for it in (text, change(text)))
+        before, after = (Counter(SIGNS.findall(STRING.sub("", it))) for it in (text, change(text)))
         *others_written, last = [f'"{sign}"' for sign in after - before] or ["the operators"]
         title = f"write {', '.join(others_written)} and {last}" if others_written else f"write {last}"
         yield from rewritten(title, change, True)(case)
